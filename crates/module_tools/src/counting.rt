@@ -1,10 +1,19 @@
 //! Functions that count their calls.
 
+ghost use Rattle.std.specs.Prelude.{IfOk};
+ghost use Rattle.wasm_module.specs.declared.parsed.ParsedModule.{ParsedModule as Parsed};
+ghost use Rattle.wasm_module.specs.KeptCode.{AreKeptAs};
+ghost use Rattle.wasm_module.specs.RewrittenCode.{Extends, IsChanged, keeps_locals};
+ghost use Rattle.module_tools.specs.declared.counting.CountCalls.{CountCalls as Counter};
+ghost use Rattle.module_tools.specs.FunctionChanges.{Counts};
+
 use crate::edits::count_call;
 use std::alloc::Global;
 use walrus_body::LocalFunction;
-use walrus_ir::GlobalId;
-use wasm_module::{ChangeFunction, Changes, Changing, ModuleError, ParsedModule, RewrittenModule};
+use walrus_ir::{GlobalId, ModuleLocals};
+use wasm_module::{
+    ChangeFunction, Changes, KeptBodies, ModuleError, ParsedModule, RewrittenModule,
+};
 
 /// The name under which the number of calls is exported.
 pub const CALLS: &str = "calls";
@@ -12,16 +21,27 @@ pub const CALLS: &str = "calls";
 /// A mutable i64 that is 0 at first: its type, and `i64.const 0` with its `end`.
 const COUNTER: [u8; 5] = [0x7e, 0x01, 0x42, 0x00, 0x0b];
 
-/// Lets each function count its calls in a global.
+/// Lets each function count its calls in a global, each in the same way.
 #[derive(Clone, Copy, Drop)]
 pub struct CountCalls(GlobalId);
 
 impl ChangeFunction for CountCalls {
+    ghost use Rattle.module_tools.specs.declared.counting.CountCalls.{CountCalls};
     ghost use Rattle.module_tools.specs.FunctionChanges.{Counts};
+    ghost use Rattle.wasm_module.specs.RewrittenCode.{alike};
 
-    ghost changes = { λ self. Counts self.0 };
+    ghost State = { CountCalls };
 
-    fn change(&self, _index: usize, function: &mut LocalFunction) -> Result<(), ModuleError> {
+    ghost state = { λ self. self };
+
+    ghost changes = { alike (λ count. Counts count.0) };
+
+    fn change(
+        &mut self,
+        _index: usize,
+        function: &mut LocalFunction,
+        _locals: &mut ModuleLocals,
+    ) -> Result<(), ModuleError> {
         if function.has_entry() {
             count_call(function, self.0)?;
         }
@@ -62,7 +82,7 @@ fn add_counter(
 }
 
 /// Adds a global, exported as `calls`, and to each function that has a body its increment by 1,
-/// before all else that the function does.
+/// before all else that the function does. The changed bodies are kept until the module is written.
 ///
 /// # Errors
 ///
@@ -71,9 +91,13 @@ fn add_counter(
 pub fn count_calls<'a>(
     alloc: Global,
     parsed: &mut ParsedModule<'a>,
-) -> Result<RewrittenModule<'a, Changing<CountCalls>>, ModuleError> {
+) -> Result<RewrittenModule<'a, KeptBodies<'a>>, ModuleError>
+    ensures { IfOk result (λ made. (source : Parsed) × (counter : Counter)
+        × Extends source parsed.new
+        × AreKeptAs (IsChanged (keeps_locals (Counts counter.0))) source made.bodies) }
+{
     match call_counter(alloc, parsed) {
-        Ok((counter, changes)) => parsed.change_all(counter, changes),
+        Ok((mut counter, changes)) => parsed.change_all(&mut counter, changes),
         Err(error) => Err(error),
     }
 }

@@ -6,7 +6,8 @@ use std::cell::Cell;
 use std::rt::Clock;
 use std::time::{Duration, Instant};
 use walrus_body::LocalFunction;
-use wasm_module::{Body, BodyWriter, ModuleError, Needed, ParsedModule, Scratch};
+use walrus_ir::ModuleLocals;
+use wasm_module::{Body, BodyWriter, ChangeFunction, ModuleError, Needed, ParsedModule, Scratch};
 
 /// For how many milliseconds a run shows nothing.
 const FIRST: u64 = 2000;
@@ -22,7 +23,8 @@ pub struct Progress<'r, R> {
     program: &'r str,
     /// How many functions there are.
     functions: Cell<usize>,
-    /// How many were done. Each is done twice where a module is written: first nothing goes out.
+    /// How many were done. Each is done twice where a module is written: first it is read, and
+    /// rewritten or changed, and nothing goes out.
     done: Cell<usize>,
     /// When the line is written next; never where standard error isn't a terminal.
     next: Cell<Option<Instant>>,
@@ -129,5 +131,39 @@ impl<R: Eprint + Clock, B: BodyWriter> BodyWriter for Watched<'_, R, B> {
     ) -> Result<Option<LocalFunction>, ModuleError> {
         self.progress.step();
         self.bodies.write_body(parsed, body, needed, scratch)
+    }
+}
+
+/// A change of functions, each of which is a step of a run.
+#[derive(Drop)]
+pub struct WatchedChange<'p, R, C> {
+    progress: &'p Progress<'p, R>,
+    change: C,
+}
+
+impl<'p, R, C> WatchedChange<'p, R, C> {
+    /// The same change, of which each function is a step of `progress` when it is changed.
+    pub fn new(progress: &'p Progress<'p, R>, change: C) -> Self
+        ensures { result.change ≡ change }
+    {
+        WatchedChange { progress, change }
+    }
+}
+
+impl<R: Eprint + Clock, C: ChangeFunction> ChangeFunction for WatchedChange<'_, R, C> {
+    ghost State = { C.State };
+
+    ghost state = { λ self. C.state self.change };
+
+    ghost changes = { C.changes };
+
+    fn change(
+        &mut self,
+        index: usize,
+        function: &mut LocalFunction,
+        locals: &mut ModuleLocals,
+    ) -> Result<(), ModuleError> {
+        self.progress.step();
+        self.change.change(index, function, locals)
     }
 }

@@ -8,7 +8,7 @@ use crate::files::read_file;
 use crate::names::{Bytes, Found, FunctionNames, function_at};
 use crate::places::check_files;
 use crate::program::{MapPaths, Program, Request, Task, read_arguments};
-use crate::progress::{Progress, Watched};
+use crate::progress::{Progress, Watched, WatchedChange};
 use crate::source_map_places::check_source_maps;
 use crate::source_maps::read_source_map;
 use crate::usage_error::UsageError;
@@ -20,9 +20,11 @@ use std::io;
 use std::process::ExitCode;
 use std::rt::{Clock, Env, Files};
 use std::time::Instant;
-use walrus_ir::{FunctionId, IdHashSet};
+use walrus_body::LocalFunction;
+use walrus_ir::{FunctionId, IdHashSet, ModuleLocals};
 use wasm_module::{
-    Body, BodyWriter, Changes, ModuleError, ModuleFault, ParsedModule, RewrittenModule, Scratch,
+    Body, BodyWriter, ChangeFunction, Changes, KeptBodies, ModuleError, ModuleFault, ParsedModule,
+    Rewriting, RewrittenModule, Scratch,
 };
 
 /// The version of the programs.
@@ -39,11 +41,11 @@ pub struct Terminals {
 
 /// What a program makes of a module.
 pub trait Tool {
-    /// What is written of bodies.
-    type Bodies: BodyWriter + Drop;
+    /// A change of functions.
+    type Change: ChangeFunction + Drop;
 
-    /// What is written of the bodies of a module that was read, and what is changed of its other
-    /// sections, where these functions are asked for.
+    /// How the functions of a module that was read are changed, and what is changed of its other
+    /// sections, where these functions are asked for. Without a change they are rewritten.
     ///
     /// # Errors
     ///
@@ -53,7 +55,31 @@ pub trait Tool {
         alloc: Global,
         parsed: &mut ParsedModule<'_>,
         functions: IdHashSet<FunctionId>,
-    ) -> Result<(Self::Bodies, Changes), ModuleError>;
+    ) -> Result<(Option<Self::Change>, Changes), ModuleError>;
+}
+
+/// The change of a program that rewrites functions as they are.
+#[derive(Clone, Copy, Drop)]
+pub struct NoChange;
+
+impl ChangeFunction for NoChange {
+    ghost use Rattle.std.specs.Prelude.{◌≡◌};
+    ghost use Rattle.wasm_module.specs.RewrittenCode.{alike};
+
+    ghost State = { Unit {0} };
+
+    ghost state = { λ _. tt };
+
+    ghost changes = { alike (λ _ _ old new. new ≡ old) };
+
+    fn change(
+        &mut self,
+        _index: usize,
+        _function: &mut LocalFunction,
+        _locals: &mut ModuleLocals,
+    ) -> Result<(), ModuleError> {
+        Ok(())
+    }
 }
 
 /// What was done.
@@ -286,36 +312,46 @@ fn functions_of<'w>(
     }
 }
 
-/// Makes what the program makes of a module, for these functions.
-fn made<'a, R: Eprint + Clock, T: Tool>(
-    alloc: Global,
-    tool: &T,
-    parsed: &mut ParsedModule<'a>,
-    functions: IdHashSet<FunctionId>,
-    progress: &'a Progress<'a, R>,
-) -> Result<RewrittenModule<'a, Watched<'a, R, T::Bodies>>, ModuleError> {
-    let (bodies, changes) = match tool.changes(alloc, parsed, functions) {
-        Ok(changes) => changes,
-        Err(error) => return Err(error),
-    };
-    parsed.rewrite_with(Watched::new(progress, bodies), changes)
-}
-
-/// The module that the program makes of one.
-fn rewritten<'w, 'a, R: Eprint + Clock + AllocGlobal, T: Tool>(
+/// What the program changes of a module.
+fn changes_of<'w, R: AllocGlobal, T: Tool>(
     rt: &R,
     tool: &T,
     task: &Task<'w>,
-    parsed: &mut ParsedModule<'a>,
-    progress: &'a Progress<'a, R>,
-) -> Result<RewrittenModule<'a, Watched<'a, R, T::Bodies>>, Failure<'w>> {
+    parsed: &mut ParsedModule<'_>,
+) -> Result<(Option<T::Change>, Changes), Failure<'w>> {
     let functions = match functions_of(rt.alloc(), parsed, &task.functions) {
         Ok(functions) => functions,
         Err(failure) => return Err(failure),
     };
-    match made(rt.alloc(), tool, parsed, functions, progress) {
-        Ok(module) => Ok(module),
+    match tool.changes(rt.alloc(), parsed, functions) {
+        Ok(changes) => Ok(changes),
         Err(error) => Err(refused(rt.alloc(), parsed, task.input, &error)),
+    }
+}
+
+/// The module with its functions rewritten.
+fn rewritten<'a, R: Eprint + Clock>(
+    parsed: &mut ParsedModule<'a>,
+    changes: Changes,
+    progress: &'a Progress<'a, R>,
+) -> Result<RewrittenModule<'a, Watched<'a, R, Rewriting>>, ModuleError> {
+    parsed.rewrite_with(Watched::new(progress, Rewriting), changes)
+}
+
+/// The module with its functions changed.
+fn changed<'a, R: Eprint + Clock, C: ChangeFunction + Drop>(
+    parsed: &mut ParsedModule<'a>,
+    change: C,
+    changes: Changes,
+    progress: &'a Progress<'a, R>,
+) -> Result<RewrittenModule<'a, Watched<'a, R, KeptBodies<'a>>>, ModuleError> {
+    let mut change = WatchedChange::new(progress, change);
+    match parsed.change_all(&mut change, changes) {
+        Ok(module) => {
+            let (bodies, rest) = module.take_bodies();
+            Ok(rest.with_bodies(Watched::new(progress, bodies)))
+        }
+        Err(error) => Err(error),
     }
 }
 
@@ -359,6 +395,31 @@ fn write_made<'w, R: Files + Print + Eprint + AllocGlobal + Drop, B: BodyWriter 
     write_module(rt, parsed, &module, task, source, output)
 }
 
+/// Writes what was made of a module, and the source map that follows it, if there is one; or says
+/// why nothing was made.
+fn write_or_refuse<
+    'w,
+    R: Files + Clock + Print + Eprint + AllocGlobal + Drop,
+    B: BodyWriter + Drop,
+>(
+    rt: &'w R,
+    name: &str,
+    task: &Task<'w>,
+    source: &Option<SourceMap>,
+    parsed: &mut ParsedModule<'_>,
+    made: Result<RewrittenModule<'_, B>, ModuleError>,
+    output: &'w str,
+    progress: &Progress<'_, R>,
+) -> Result<(), Failure<'w>> {
+    match made {
+        Ok(module) => {
+            progress.clear();
+            write_made(rt, name, task, source, parsed, module, output)
+        }
+        Err(error) => Err(refused(rt.alloc(), parsed, task.input, &error)),
+    }
+}
+
 /// Writes what the program makes of a module, and the source map that follows it, if there is one.
 fn rewrite<'w, 'a, R: Files + Clock + Print + Eprint + AllocGlobal + Drop, T: Tool>(
     rt: &'w R,
@@ -370,12 +431,37 @@ fn rewrite<'w, 'a, R: Files + Clock + Print + Eprint + AllocGlobal + Drop, T: To
     output: &'w str,
     progress: &'a Progress<'a, R>,
 ) -> Result<(), Failure<'w>> {
-    match rewritten(rt, tool, task, parsed, progress) {
-        Ok(module) => {
-            progress.clear();
-            write_made(rt, program.name, task, source, parsed, module, output)
+    let (change, changes) = match changes_of(rt, tool, task, parsed) {
+        Ok(found) => found,
+        Err(failure) => return Err(failure),
+    };
+    match change {
+        None => {
+            let made = rewritten(parsed, changes, progress);
+            write_or_refuse(
+                rt,
+                program.name,
+                task,
+                source,
+                parsed,
+                made,
+                output,
+                progress,
+            )
         }
-        Err(failure) => Err(failure),
+        Some(change) => {
+            let made = changed(parsed, change, changes, progress);
+            write_or_refuse(
+                rt,
+                program.name,
+                task,
+                source,
+                parsed,
+                made,
+                output,
+                progress,
+            )
+        }
     }
 }
 

@@ -1,14 +1,19 @@
 //! Functions whose bodies are taken away.
 
-ghost use Rattle.std.specs.Prelude.{◌≡◌, ◌==◌, [], IfOk};
+ghost use Rattle.std.specs.Prelude.{◌≡◌, ◌==◌, [], IfOk, OnOk};
 ghost use Rattle.std.specs.HashSet.{contains};
+ghost use Rattle.wasm_module.specs.KeptCode.{AreKeptAs};
+ghost use Rattle.wasm_module.specs.RewrittenCode.{Extends, IsChanged, keeps_locals};
 ghost use Rattle.wasm_module.specs.WrittenModules.{new_contents_in};
+ghost use Rattle.module_tools.specs.FunctionChanges.{Snips};
 
 use crate::edits::trap_if;
 use std::alloc::Global;
 use walrus_body::LocalFunction;
-use walrus_ir::{FunctionId, IdHashSet};
-use wasm_module::{ChangeFunction, Changes, Changing, ModuleError, ParsedModule, RewrittenModule};
+use walrus_ir::{FunctionId, IdHashSet, ModuleLocals};
+use wasm_module::{
+    ChangeFunction, Changes, KeptBodies, ModuleError, ParsedModule, RewrittenModule,
+};
 
 /// Takes away the bodies of these functions.
 #[derive(Drop)]
@@ -31,18 +36,29 @@ impl Snipping {
 }
 
 impl ChangeFunction for Snipping {
+    ghost use Rattle.module_tools.specs.declared.snipping.Snipping.{Snipping};
     ghost use Rattle.module_tools.specs.FunctionChanges.{Snips};
+    ghost use Rattle.wasm_module.specs.RewrittenCode.{alike};
 
-    ghost changes = { λ self. Snips self.0 };
+    ghost State = { Snipping };
 
-    fn change(&self, index: usize, function: &mut LocalFunction) -> Result<(), ModuleError> {
+    ghost state = { λ self. self };
+
+    ghost changes = { alike (λ snipping. Snips snipping.0) };
+
+    fn change(
+        &mut self,
+        index: usize,
+        function: &mut LocalFunction,
+        _locals: &mut ModuleLocals,
+    ) -> Result<(), ModuleError> {
         trap_if(self.takes(FunctionId::new(index)), function)?;
         Ok(())
     }
 }
 
 /// Puts `unreachable` in the place of the bodies of these functions. Those that have no body are
-/// passed over; all other bodies are rewritten.
+/// passed over; all other bodies are rewritten. The bodies are kept until the module is written.
 ///
 /// # Errors
 ///
@@ -51,9 +67,12 @@ pub fn snip<'a>(
     alloc: Global,
     parsed: &mut ParsedModule<'a>,
     functions: IdHashSet<FunctionId>,
-) -> Result<RewrittenModule<'a, Changing<Snipping>>, ModuleError>
-    ensures snips { IfOk result (λ made. made.bodies.0.0 ≡ functions) }
+) -> Result<RewrittenModule<'a, KeptBodies<'a>>, ModuleError>
+    ensures snips { IfOk result
+        (λ made. AreKeptAs (IsChanged (keeps_locals (Snips functions))) parsed.old made.bodies) }
     ensures none_given { IfOk result (λ made. new_contents_in made ≡ []) }
+    ensures extends { OnOk result (Extends parsed.old parsed.new) }
 {
-    parsed.change_all(Snipping::new(functions), Changes::new(alloc))
+    let mut snipping = Snipping::new(functions);
+    parsed.change_all(&mut snipping, Changes::new(alloc))
 }

@@ -1,5 +1,5 @@
 -- Sections that are given contents: what is given for each after one is put into the list.
-use Rattle.std.proofs.Common.{◌≡◌, ◌≢◌, ◌<◌, ◌+◌, ℕ, suc, Bool, true, false, ◌==◌, List, [], ◌∷◌, ◌++◌, length, take, drop, get_or, if◌then◌else◌, Option, Some, None, refl, sym, ap, ◌∙◌, eq-eqb, ne_eqb, arith, add-one}
+use Rattle.std.proofs.Common.{◌≡◌, ◌≢◌, ◌<◌, ◌+◌, ℕ, suc, Bool, true, false, ◌==◌, List, [], ◌∷◌, ◌++◌, length, take, drop, get_or, if◌then◌else◌, Option, Some, None, refl, sym, ap, ◌∙◌, eq-eqb, ne_eqb}
 use Rattle.std.proofs.Math.Seq.{drop-cons}
 use Rattle.std.proofs.Math.ListN.{set}
 use Rattle.std.proofs.lemmas.List.{take-append-drop, set_split, take_more}
@@ -72,27 +72,29 @@ module _ (gs : List NewContents) (i : ℕ) (g : NewContents) (none : contents_in
 
 pub replaces :
     (old new : Changes) (i : ℕ) (g : NewContents) → IsGivenAt old.given.items (id_of g.kind) i → i < length old.given.items → new.given.items ≡ set old.given.items i g → new.omits_debug ≡ old.omits_debug →
-    new.omits_source_map ≡ old.omits_source_map → SetsContents old new (id_of g.kind) g.contents.items
-replaces old new i g at within e debug map =
+    new.omits_source_map ≡ old.omits_source_map → new.imports ≡ old.imports → SetsContents old new (id_of g.kind) g.contents.items
+replaces old new i g at within e debug map imports =
     let gs = old.given.items in
     record {
       given = ap (λ (l : List NewContents). contents_in l (id_of g.kind)) e ∙ set_here gs i g at.is_first within;
       others = λ id h. ap (λ (l : List NewContents). contents_in l id) e ∙ set_others gs i g at.is_first within at.one at.is_there at.has_id id h;
       debug = debug;
       source_map = map;
+      imports = imports;
     }
 
 pub puts_between :
     (old new : Changes) (i : ℕ) (g : NewContents) → contents_in (take i old.given.items) (id_of g.kind) ≡ None →
     new.given.items ≡ take i old.given.items ++ g ∷ drop i old.given.items → new.omits_debug ≡ old.omits_debug → new.omits_source_map ≡ old.omits_source_map →
-    SetsContents old new (id_of g.kind) g.contents.items
-puts_between old new i g none e debug map =
+    new.imports ≡ old.imports → SetsContents old new (id_of g.kind) g.contents.items
+puts_between old new i g none e debug map imports =
     let gs = old.given.items in
     record {
       given = ap (λ (l : List NewContents). contents_in l (id_of g.kind)) e ∙ inserted_here gs i g none;
       others = λ id h. ap (λ (l : List NewContents). contents_in l id) e ∙ inserted_others gs i g none id h;
       debug = debug;
       source_map = map;
+      imports = imports;
     }
 
 -- ---- bytes that are appended to an empty list

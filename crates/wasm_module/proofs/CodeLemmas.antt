@@ -36,7 +36,7 @@ come_alone end text [] left h e = h ∙ e
 come_alone end text (b ∷ bs) left h e = (h.0, h.1, h.2, come_alone end h.0 bs left h.3 e)
 
 -- the number of functions with a body is that of the source
-same_bodies : (source now : ParsedModule) → Extends source now → count_bodies now ≡ count_bodies source
+pub same_bodies : (source now : ParsedModule) → Extends source now → count_bodies now ≡ count_bodies source
 same_bodies source now x = ap (λ ts. length ts.items - now.imported) x.func_types ∙ ap (λ (n : ℕ). length source.func_types.items - n) x.imported
 
 module _ (writes : Writes) (source : ParsedModule) where
@@ -50,7 +50,7 @@ module _ (writes : Writes) (source : ParsedModule) where
       let next : n ≡ f + 1 + length bs = omega arith in
       (h.0, written_more (f + 1) bs raws b raw h.1 n next r)
 
-  same_count : (f : ℕ) (bs : List BodyAt) (raws : List (List ℕ)) → AreWritten writes source f bs raws → length bs ≡ length raws
+  pub same_count : (f : ℕ) (bs : List BodyAt) (raws : List (List ℕ)) → AreWritten writes source f bs raws → length bs ≡ length raws
   same_count f [] [] h = refl
   same_count f [] (w ∷ raws) h = absurd h
   same_count f (a ∷ bs) [] h = absurd h

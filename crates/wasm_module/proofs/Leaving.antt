@@ -65,7 +65,7 @@ heap_type_leaves =
     switch_leaves (λ b. is_listed (heap_at b)) (made byte abstract_heap) (made (integer signed 33) concrete_heap)
     (made_leaves byte abstract_heap byte_leaves) (made_leaves (integer signed 33) concrete_heap (integer_leaves signed 33))
 
-value_type_leaves : Leaves value_type
+pub value_type_leaves : Leaves value_type
 value_type_leaves =
     let nullable = made byte (λ b. listed (nullable_at b)) in
     let plain = made byte (λ b. listed (value_at b)) in

@@ -15,8 +15,16 @@ pub mod ViewLemmas
 -- after the other
 pub mod WritingLemmas
 pub mod CodeLemmas
+pub mod KeptLemmas
 pub mod NewSectionLemmas
 pub mod SectionLemmas
+-- sections in which the indices of functions are others, item by item; and the indices of functions
+pub mod MovedLemmas
+pub mod RenumberingLemmas
 -- sections that are given contents, and one more
 pub mod AdditionLemmas
 pub mod DataLemmas
+-- function types that are written, and the first one with given lists
+pub mod TypeLemmas
+-- a module that is written from bodies that are kept
+pub mod WriterLemmas

@@ -40,7 +40,7 @@ many_more {A} one (suc n) bytes xs following x rest h e =
     (bind_is (many one (suc n) a.0.1) (λ others. Ok (a.0.0 ∷ others.0, others.1)) (b.0.0 ++ x ∷ [], rest) (Ok (xs ++ x ∷ [], rest)) more
     (ap (λ (p : List A × List ℕ). Ok (p.0 ++ x ∷ [], rest)) both))
 
-each_more : {A B E : Type 0} (f : A → Result B E) (xs : List A) (ys : List B) (x : A) (y : B) → each f xs ≡ Ok ys → f x ≡ Ok y → each f (xs ++ x ∷ []) ≡ Ok (ys ++ y ∷ [])
+pub each_more : {A B E : Type 0} (f : A → Result B E) (xs : List A) (ys : List B) (x : A) (y : B) → each f xs ≡ Ok ys → f x ≡ Ok y → each f (xs ++ x ∷ []) ≡ Ok (ys ++ y ∷ [])
 each_more {A} {B} f [] ys x y h e = bind_is (f x) (λ w. Ok (w ∷ [])) y (Ok (ys ++ y ∷ [])) e (ap (λ (l : List B). Ok (l ++ y ∷ [])) (ok_same [] ys h))
 each_more {A} {B} f (z ∷ zs) ys x y h e =
     let a = bind_ok (f z) (λ w. each f zs >>= λ ws. Ok (w ∷ ws)) ys h in

@@ -2,6 +2,7 @@
 use Rattle.std.proofs.Common.{◌≡◌, ℕ, List, [], ◌++◌, slice_get, Option, None, Some, Result, Ok, Err, OnOk, IfOk, sym, ap, subst, ◌∙◌}
 use Rattle.std.specs.Borrow.{Bor}
 use Rattle.std.specs.Fn.{Shared}
+use Rattle.walrus_ir.specs.declared.val_type.ValType.{ValType}
 use Rattle.walrus_ir.specs.Function.{Function}
 use Rattle.wasm_body.specs.Pairs.{Pair}
 use Rattle.walrus_parser.specs.declared.body.FunctionBody.{FunctionBody}
@@ -15,7 +16,7 @@ use Rattle.walrus_flat.specs.RewrittenFlat.{RewritesFlat}
 use Rattle.wasm_module.specs.declared.parsed.ParsedModule.{ParsedModule}
 use Rattle.wasm_module.specs.CodeSections.{BodyAt}
 use Rattle.wasm_module.specs.LocalsBelow.{locals_below}
-use Rattle.wasm_module.specs.RewrittenCode.{Extends, Enters, IsRewrittenAs, IsRewritten, IsParsed, IsChanged}
+use Rattle.wasm_module.specs.RewrittenCode.{Extends, Enters, IsRewrittenAs, IsRewritten, IsParsed, OneChange, IsChanged}
 use Rattle.wasm_module.proofs.ModuleLemmas.{extends_then}
 
 -- no location function
@@ -159,14 +160,15 @@ written_alone by f old new old_pairs new_pairs e p a =
     subst (λ (l : List ℕ). IsRawBodyOf by f l new_pairs) bytes (subst (λ (l : List Pair). IsRawBodyOf by f a.raw l) pairs a.is_raw_body)
 
 pub changed :
-    (changes : ℕ → (old new : FunctionParts) → Type 0) (source a now : ParsedModule) (function : ℕ) (b : BodyAt) (made new : FunctionParts) (raw : List ℕ) (pairs : List Pair) →
-    Extends source a → IsParsed a function b now made → changes function made new → IsRawBodyOf (emit_input now.spaces.numbers now.module new) new.builder raw pairs →
-    IsChanged changes source function b raw
-changed changes source a now function b made new raw pairs e p c r = record {
+    (changes : OneChange) (source a now : ParsedModule) (function : ℕ) (b : BodyAt) (made new : FunctionParts) (locals : List (ValType ℕ)) (raw : List ℕ) (pairs : List Pair) →
+    Extends source a → IsParsed a function b now made → changes function made new now.module.locals locals →
+    IsRawBodyOf (emit_input now.spaces.numbers (record now.module { locals = locals }) new) new.builder raw pairs → IsChanged changes source function b raw
+changed changes source a now function b made new locals raw pairs e p c r = record {
   now = now;
   parsed = made;
   is_parsed = parsed_then source a now function b made e p;
   changed = new;
+  locals = locals;
   is_changed = c;
   pairs = pairs;
   is_raw_body = r;

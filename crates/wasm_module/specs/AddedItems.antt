@@ -1,13 +1,22 @@
 -- Items that are added to sections (WebAssembly core specification 3.0, binary format, modules): their bytes, each number in its
 -- shortest encoding.
-use Rattle.std.specs.Prelude.{◌≡◌, ◌≢◌, ◌+◌, ◌||◌, ℕ, ℤ, Bool, true, false, is_some, List, [], ◌∷◌, ◌++◌, Option, Some}
+use Rattle.std.specs.Prelude.{◌≡◌, ◌≢◌, ◌+◌, ◌||◌, ℕ, ℤ, Bool, true, false, is_some, List, [], ◌∷◌, ◌++◌, length, Option, Some, Ok, IsOk, IsErr}
+use Rattle.std.specs.List.{flat_map}
+use Rattle.walrus_ir.specs.declared.val_type.ValType.{ValType}
 use Rattle.walrus_ir.specs.declared.value.Value.{Value}
 use Rattle.walrus_ir.specs.declared.value.Value.TheVariants.{I32, I64, F32, F64, V128}
+use Rattle.walrus_ir.specs.Results.{each}
+use Rattle.walrus_ir.specs.Types.{ModuleType, find}
 use Rattle.wasm_operators.specs.declared.types.Opcode.TheVariants.{Byte, Prefixed}
 use Rattle.wasm_operators.specs.declared.types.Space.{Space}
+use Rattle.wasm_operators.specs.declared.types.Space.TheVariants.{Types}
 use Rattle.wasm_operators.specs.Operations.{RawOperation, operation, i32, i64, f32, f64, v128}
-use Rattle.wasm_operators.specs.Shortest.{short, short_number}
+use Rattle.wasm_operators.specs.Shortest.{short, short_number, short_value}
+use Rattle.wasm_body.specs.Translation.{translate_value}
+use Rattle.walrus_maps.specs.declared.ids_to_indices.IdsToIndices.{IdsToIndices}
+use Rattle.walrus_maps.specs.IndexMaps.{number_of, with_next_number}
 use Rattle.wasm_module.specs.declared.changes.Changes.{Changes}
+use Rattle.wasm_module.specs.declared.parsed.ParsedModule.{ParsedModule}
 use Rattle.wasm_module.specs.Additions.{HasOneMore, AddsItem, contents_with}
 use Rattle.wasm_module.specs.CodeSections.{entry}
 use Rattle.wasm_module.specs.Sections.{SectionAt, first_with}
@@ -53,6 +62,36 @@ mutability true = 1
 -- a global with this initial value
 abbrev pub global_of : Value → (is_mutable : Bool) → List ℕ
 global_of value is_mutable = type_byte value ∷ mutability is_mutable ∷ constant_of value
+
+-- ---- function types (binary format, types)
+
+-- The text is a vector of value types: of these, where each type that they name has its number.
+pub record IsWrittenTypes (numbers : IdsToIndices) (types : List (ValType ℕ)) (text : List ℕ) : Type 0 where
+  pub raw : List (ValType ℕ)
+  pub raw_is : each (translate_value (number_of numbers)) types ≡ Ok raw
+  pub text_is : text ≡ short_number (length raw) ++ flat_map short_value raw
+
+-- The text is a function type: 0x60, the vector of its parameters, and that of its results.
+abbrev pub IsWrittenFunctionType : IdsToIndices → (parameters results : List (ValType ℕ)) → (text : List ℕ) → Type 0
+IsWrittenFunctionType numbers parameters results text =
+    (first second : List ℕ) × IsWrittenTypes numbers parameters first × IsWrittenTypes numbers results second
+    × (text ≡ 0x60 ∷ (first ++ second))
+
+-- A function type is added after the others.
+abbrev pub AddsFunctionType : (all : List SectionAt) → ParsedModule → (old new : Changes) → (parameters results : List (ValType ℕ)) → Type 0
+AddsFunctionType all source old new parameters results =
+    (item : List ℕ) × IsWrittenFunctionType source.spaces.numbers parameters results item × AddsItem all old new 1 item
+
+-- The first function type with these parameters and results has this id. If it had an index before, nothing else has changed;
+-- otherwise it is added, and has the next index.
+pub record HasFunctionType (all : List SectionAt) (source now : ParsedModule) (old new : Changes) (parameters results : List (ValType ℕ)) (id : ℕ) : Type 0 where
+  pub is_first : find now.module.types parameters results ≡ Some id
+  pub more : List ModuleType
+  pub types : now.module.types ≡ source.module.types ++ more
+  pub had : IsOk (number_of source.spaces.numbers Types id) → (new ≡ old) × (now.spaces.numbers ≡ source.spaces.numbers)
+  pub adds :
+      IsErr (number_of source.spaces.numbers Types id) → AddsFunctionType all source old new parameters results
+      × (now.spaces.numbers ≡ with_next_number Types id source.spaces.numbers)
 
 -- ---- data segments (binary format, data section, data count section)
 

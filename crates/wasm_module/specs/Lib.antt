@@ -15,6 +15,11 @@ pub mod Refusals
 pub mod Sections
 pub mod Views
 pub mod WrittenModules
+-- the contents of sections in which indices of functions are others, and the written indices of functions; one more import
+pub mod MovedFunctions
+pub mod ImportedFunctions
 -- new contents of sections, and items that are added after those of a section
 pub mod Additions
 pub mod AddedItems
+-- bodies that are kept from the first pass to the second, as they were changed
+pub mod KeptCode

@@ -3,6 +3,7 @@
 use Rattle.std.specs.Prelude.{◌≡◌, ◌+◌, ◌-◌, ◌<◌, ℕ, List, [], ◌∷◌, ◌++◌, length, slice_get, Some, None, Ok}
 use Rattle.std.specs.Ordering.{nat_cmp}
 use Rattle.std.specs.FinMap.{FinMap}
+use Rattle.walrus_ir.specs.declared.val_type.ValType.{ValType}
 use Rattle.walrus_ir.specs.Types.{ModuleType}
 use Rattle.wasm_body.specs.SourceTree.{Body}
 use Rattle.wasm_body.specs.Naming.{Occurrence}
@@ -96,13 +97,42 @@ pub record IsParsed (source : ParsedModule) (function : ℕ) (b : BodyAt) (now :
   pub enters : Enters source function b now type args count body
   pub is_parsed : IsParsedAs now type args count body made
 
--- The body of this function of the source is parsed, its function is changed, and these bytes are the raw body of the changed
--- function.
-pub record IsChanged (changes : ℕ → (old new : FunctionParts) → Type 0) (source : ParsedModule) (function : ℕ) (b : BodyAt) (raw : List ℕ) : Type 0 where
+-- A change: the function with this index and its locals' types, as they were parsed; and as they are written.
+abbrev pub OneChange : Type 1
+OneChange = (function : ℕ) → (old new : FunctionParts) → (old_locals new_locals : List (ValType ℕ)) → Type 0
+
+-- The body of this function of the source is parsed, its function and its locals are changed, and these bytes are the raw body of
+-- the changed function with the changed locals.
+pub record IsChanged (changes : OneChange) (source : ParsedModule) (function : ℕ) (b : BodyAt) (raw : List ℕ) : Type 0 where
   pub now : ParsedModule
   pub parsed : FunctionParts
   pub is_parsed : IsParsed source function b now parsed
   pub changed : FunctionParts
-  pub is_changed : changes function parsed changed
+  pub locals : List (ValType ℕ)
+  pub is_changed : changes function parsed changed now.module.locals locals
   pub pairs : List Pair
-  pub is_raw_body : IsRawBodyOf (emit_input now.spaces.numbers now.module changed) changed.builder raw pairs
+  pub is_raw_body : IsRawBodyOf (emit_input now.spaces.numbers (record now.module { locals = locals }) changed) changed.builder raw pairs
+
+-- The function is changed in this way, and its locals stay as they are.
+abbrev pub keeps_locals : ((function : ℕ) → (old new : FunctionParts) → Type 0) → OneChange
+keeps_locals changes function old new old_locals new_locals = changes function old new × (new_locals ≡ old_locals)
+
+-- ---- functions that are changed one after the other
+
+-- The change that is made in a state, and the state afterwards.
+abbrev pub FunctionChange : Type 0 → Type 1
+FunctionChange State = (before after : State) → OneChange
+
+-- Each function is changed alike: its locals and the state stay as they are.
+abbrev pub alike : {State : Type 0} → (State → (function : ℕ) → (old new : FunctionParts) → Type 0) → FunctionChange State
+alike {State} changes before after function old new old_locals new_locals =
+    keeps_locals (changes before) function old new old_locals new_locals × (after ≡ before)
+
+-- The bodies of the functions from this one on are changed in order, each once, and written as these bytes: the first in the
+-- state `before`, and each other one in the state after the one before it. The last state is `after`.
+abbrev pub AreChanged : {State : Type 0} → FunctionChange State → ParsedModule → (before : State) → (function : ℕ) → List BodyAt → (raws : List (List ℕ)) → (after : State) → Type 0
+AreChanged {State} changes source before function [] [] after = before ≡ after
+AreChanged {State} changes source before function (b ∷ bs) (raw ∷ raws) after =
+    (middle : State) × IsChanged (changes before middle) source function b raw
+    × AreChanged changes source middle (function + 1) bs raws after
+AreChanged {State} changes source before function _ _ after = ⊥

@@ -1,10 +1,14 @@
 //! Items that are added to sections (WebAssembly core specification 3.0, binary format, modules).
-ghost use Rattle.std.specs.Prelude.{◌≡◌, ◌++◌, List, OnOk, IfOk};
+ghost use Rattle.std.specs.Prelude.{◌≡◌, ◌++◌, ℕ, List, OnOk, OnErr, IfOk};
 ghost use Rattle.wasm_operators.specs.Shortest.{short_number};
 ghost use Rattle.wasm_operators.specs.declared.types.Space.TheVariants.{Funcs, Tables, Memories, Globals, Tags};
-ghost use Rattle.wasm_module.specs.Additions.{HasOneMore, AddsItem, contents_with};
+ghost use Rattle.wasm_module.specs.Additions.{AreUnchanged, HasOneMore, AddsItem, contents_with};
 ghost use Rattle.wasm_module.specs.AddedItems.{export_of, AddsExport, global_of};
+ghost use Rattle.wasm_module.specs.ImportedFunctions.{IsWrittenFunction};
 ghost use Rattle.wasm_module.specs.Sections.{SectionAt, IsModule, id_of};
+
+mod data;
+mod types;
 
 use crate::changes::Changes;
 use crate::constants::write_global;
@@ -90,8 +94,9 @@ impl<'a> ParsedModule<'a> {
         kind: SectionKind,
         item: &[u8],
     ) -> Result<(), ModuleError>
-        ensures { (all : List SectionAt) → IsModule self.now.bytes.now all
+        ensures ok { (all : List SectionAt) → IsModule self.now.bytes.now all
             → OnOk result (AddsItem all changes.old changes.new (id_of kind) item.now) }
+        ensures err { OnErr result (AreUnchanged changes.old changes.new) }
     {
         let contents = self.contents_with(changes, kind)?;
         let made = with_item(self.alloc, contents, item)?;
@@ -112,8 +117,9 @@ impl<'a> ParsedModule<'a> {
         changes: &mut Changes,
         global: &[u8],
     ) -> Result<GlobalId, ModuleError>
-        ensures { (all : List SectionAt) → IsModule self.old.bytes.now all
+        ensures ok { (all : List SectionAt) → IsModule self.old.bytes.now all
             → OnOk result (AddsItem all changes.old changes.new 6 global.now) }
+        ensures err { OnErr result (AreUnchanged changes.old changes.new) }
     {
         let mut input = Input::new(global);
         match input.global() {
@@ -137,8 +143,9 @@ impl<'a> ParsedModule<'a> {
         value: Value,
         is_mutable: bool,
     ) -> Result<GlobalId, ModuleError>
-        ensures { (all : List SectionAt) → IsModule self.old.bytes.now all
+        ensures ok { (all : List SectionAt) → IsModule self.old.bytes.now all
             → OnOk result (AddsItem all changes.old changes.new 6 (global_of value is_mutable)) }
+        ensures err { OnErr result (AreUnchanged changes.old changes.new) }
     {
         let mut global = Vec::new(self.alloc);
         match write_global(&mut global, value, is_mutable) {
@@ -153,8 +160,9 @@ impl<'a> ParsedModule<'a> {
 
     /// Adds a global with these bytes.
     fn push_global(&mut self, changes: &mut Changes, global: &[u8]) -> Result<GlobalId, ModuleError>
-        ensures { (all : List SectionAt) → IsModule self.old.bytes.now all
+        ensures ok { (all : List SectionAt) → IsModule self.old.bytes.now all
             → OnOk result (AddsItem all changes.old changes.new 6 global.now) }
+        ensures err { OnErr result (AreUnchanged changes.old changes.new) }
     {
         let id = GlobalId::new(self.spaces.globals());
         match self.spaces.add_global() {
@@ -167,8 +175,8 @@ impl<'a> ParsedModule<'a> {
         }
     }
 
-    /// Exports an item under a name: the one with this index in this index space. It isn't checked
-    /// whether there is one.
+    /// Exports an item under a name: the one with this index in this index space, in the module that
+    /// is written. It isn't checked whether there is one.
     ///
     /// # Errors
     ///
@@ -182,8 +190,9 @@ impl<'a> ParsedModule<'a> {
         space: Space,
         index: usize,
     ) -> Result<(), ModuleError>
-        ensures { (all : List SectionAt) → IsModule self.now.bytes.now all
+        ensures ok { (all : List SectionAt) → IsModule self.now.bytes.now all
             → OnOk result (AddsExport all changes.old changes.new name.now space index) }
+        ensures err { OnErr result (AreUnchanged changes.old changes.new) }
     {
         let Some(kind) = export_kind(space) else {
             return Err(ModuleError {
@@ -202,22 +211,33 @@ impl<'a> ParsedModule<'a> {
         }
     }
 
-    /// Exports a function under a name.
+    /// Exports a function under a name. Functions that are imported besides those of the source may be
+    /// imported before this call or after it.
     ///
     /// # Errors
     ///
     /// `ExportTaken`, with its place, if an export of the source has this name; `TooGreat` if the
-    /// function's index or the number of exports doesn't fit 32 bits; or `Memory`.
+    /// function's index or the number of exports doesn't fit 32 bits, or if functions were imported and
+    /// the module has no such function; or `Memory`.
     pub fn export_function(
         &self,
         changes: &mut Changes,
         name: &str,
         function: FunctionId,
     ) -> Result<(), ModuleError>
-        ensures { (all : List SectionAt) → IsModule self.now.bytes.now all
-            → OnOk result (AddsExport all changes.old changes.new name.now Funcs function) }
+        ensures ok { (all : List SectionAt) → IsModule self.now.bytes.now all
+            → OnOk result ((index : ℕ) × IsWrittenFunction self.now function index
+            × AddsExport all changes.old changes.new name.now Funcs index) }
+        ensures err { OnErr result (AreUnchanged changes.old changes.new) }
     {
-        self.export(changes, name, Space::Funcs, function.index())
+        let index = match self.written_function(function) {
+            Ok(index) => index,
+            Err(error) => return Err(error),
+        };
+        match self.export(changes, name, Space::Funcs, index) {
+            Ok(()) => Ok(()),
+            Err(error) => Err(error),
+        }
     }
 
     /// Exports a table under a name.
@@ -232,8 +252,9 @@ impl<'a> ParsedModule<'a> {
         name: &str,
         table: TableId,
     ) -> Result<(), ModuleError>
-        ensures { (all : List SectionAt) → IsModule self.now.bytes.now all
+        ensures ok { (all : List SectionAt) → IsModule self.now.bytes.now all
             → OnOk result (AddsExport all changes.old changes.new name.now Tables table) }
+        ensures err { OnErr result (AreUnchanged changes.old changes.new) }
     {
         self.export(changes, name, Space::Tables, table.index())
     }
@@ -250,8 +271,9 @@ impl<'a> ParsedModule<'a> {
         name: &str,
         memory: MemoryId,
     ) -> Result<(), ModuleError>
-        ensures { (all : List SectionAt) → IsModule self.now.bytes.now all
+        ensures ok { (all : List SectionAt) → IsModule self.now.bytes.now all
             → OnOk result (AddsExport all changes.old changes.new name.now Memories memory) }
+        ensures err { OnErr result (AreUnchanged changes.old changes.new) }
     {
         self.export(changes, name, Space::Memories, memory.index())
     }
@@ -268,8 +290,9 @@ impl<'a> ParsedModule<'a> {
         name: &str,
         global: GlobalId,
     ) -> Result<(), ModuleError>
-        ensures { (all : List SectionAt) → IsModule self.now.bytes.now all
+        ensures ok { (all : List SectionAt) → IsModule self.now.bytes.now all
             → OnOk result (AddsExport all changes.old changes.new name.now Globals global) }
+        ensures err { OnErr result (AreUnchanged changes.old changes.new) }
     {
         self.export(changes, name, Space::Globals, global.index())
     }
@@ -286,8 +309,9 @@ impl<'a> ParsedModule<'a> {
         name: &str,
         tag: TagId,
     ) -> Result<(), ModuleError>
-        ensures { (all : List SectionAt) → IsModule self.now.bytes.now all
+        ensures ok { (all : List SectionAt) → IsModule self.now.bytes.now all
             → OnOk result (AddsExport all changes.old changes.new name.now Tags tag) }
+        ensures err { OnErr result (AreUnchanged changes.old changes.new) }
     {
         self.export(changes, name, Space::Tags, tag.index())
     }

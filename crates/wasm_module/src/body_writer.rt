@@ -1,16 +1,18 @@
-//! How bodies are written: rewritten, or with a caller's change of their functions.
+//! How bodies are written, and how a caller changes their functions.
 
 ghost use Rattle.std.specs.Prelude.{ℕ, List, OnOk};
+ghost use Rattle.walrus_ir.specs.declared.val_type.ValType.{ValType as ValueType};
 ghost use Rattle.walrus_body.specs.FunctionParts.{FunctionParts};
 ghost use Rattle.wasm_module.specs.declared.parsed.ParsedModule.{ParsedModule as Parsed};
 ghost use Rattle.wasm_module.specs.CodeSections.{BodyAt, body_at};
-ghost use Rattle.wasm_module.specs.RewrittenCode.{Extends, IsRewritten, IsChanged};
+ghost use Rattle.wasm_module.specs.RewrittenCode.{Extends, IsRewritten};
 
 use crate::bodies::Scratch;
 use crate::code::Body;
 use crate::fault::ModuleError;
 use crate::parsed::ParsedModule;
 use walrus_body::LocalFunction;
+use walrus_ir::ModuleLocals;
 
 /// What is needed of a body besides its bytes.
 #[derive(Clone, Copy, Debug, PartialEq, Eq)]
@@ -81,40 +83,38 @@ impl BodyWriter for Rewriting {
     }
 }
 
-/// A change of the functions of a module.
+/// A change of the functions of a module, which is asked once for each function with a body, in
+/// order.
+///
+/// A change says what it means: `state` is the state that it is in, and `changes` says what it makes
+/// of a function and its locals in a state, and which state that leaves. A change whose state stays
+/// the same treats each function alike.
 pub trait ChangeFunction {
-    // The function with this index, as it was parsed, and as it is written.
-    ghost changes: { Self → ℕ → FunctionParts → FunctionParts → Type 0 };
+    ghost State: { Type 0 };
+
+    ghost state: { Self → State };
+
+    // In this state, and with the state afterwards: the function with this index, as it was parsed,
+    // and as it is written; and the types of its locals, as it was parsed, and as it is written.
+    ghost changes: { State → State → ℕ → FunctionParts → FunctionParts → List (ValueType ℕ)
+        → List (ValueType ℕ) → Type 0 };
 
     /// Changes the function with this index; imported functions have the first indices. A location
     /// in the changed function is the place in the source of the operator that the instruction
-    /// comes from. This is called twice for each function, and has to do the same both times.
+    /// comes from. Of each function with a body this is asked once, in ascending order.
+    ///
+    /// The locals are those of the function, its parameters first; the id of each is its index in
+    /// the source. Locals may be added, which are declared if the function uses them.
     ///
     /// # Errors
     ///
     /// Why the module isn't written.
-    fn change(&self, index: usize, function: &mut LocalFunction) -> Result<(), ModuleError>
-        ensures { OnOk result (changes self.now index function.old function.new) };
-}
-
-/// Each body is that of its function as the field changes it.
-#[derive(Clone, Copy, Debug, Drop)]
-pub struct Changing<C>(pub C);
-
-impl<C: ChangeFunction> BodyWriter for Changing<C> {
-    ghost writes = { λ self. IsChanged (C.changes self.0) };
-
-    fn write_body<'a>(
-        &self,
-        parsed: &mut ParsedModule<'a>,
-        body: Body<'a>,
-        needed: Needed,
-        scratch: &mut Scratch,
-    ) -> Result<Option<LocalFunction>, ModuleError> {
-        let _ = needed;
-        let mut function = parsed.parse(body, scratch)?;
-        self.0.change(body.func, &mut function)?;
-        parsed.write(&function, body.start(), scratch)?;
-        Ok(Some(function))
-    }
+    fn change(
+        &mut self,
+        index: usize,
+        function: &mut LocalFunction,
+        locals: &mut ModuleLocals,
+    ) -> Result<(), ModuleError>
+        ensures { OnOk result (changes (state self.old) (state self.new) index function.old
+            function.new locals.old locals.new) };
 }

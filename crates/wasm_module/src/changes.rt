@@ -1,7 +1,7 @@
 //! New contents of the sections of a module.
 
 ghost use Rattle.std.specs.Prelude.{◌≡◌, ◌<◌, ◌≤◌, [], length, take, Some, None, IfSome, IfNone, IfOk, IfErr, OnOk, OnErr};
-ghost use Rattle.wasm_module.specs.Additions.{IsGivenAt, SetsContents};
+ghost use Rattle.wasm_module.specs.Additions.{AreUnchanged, IsGivenAt, SetsContents};
 ghost use Rattle.wasm_module.specs.Sections.{id_of};
 ghost use Rattle.wasm_module.specs.WrittenModules.{contents_in};
 
@@ -27,6 +27,8 @@ pub struct Changes {
     pub(crate) omits_debug: bool,
     /// Whether the custom section `sourceMappingURL` is left out.
     pub(crate) omits_source_map: bool,
+    /// The number of functions that they import.
+    pub(crate) imports: usize,
 }
 
 impl Changes {
@@ -38,6 +40,7 @@ impl Changes {
             given: Vec::new(alloc),
             omits_debug: false,
             omits_source_map: false,
+            imports: 0,
         }
     }
 
@@ -66,7 +69,7 @@ impl Changes {
     fn put(&mut self, given: NewContents) -> Result<(), ModuleError>
         ensures sets { OnOk result (SetsContents self.old self.new (id_of given.kind)
             given.contents.items) }
-        ensures refused { OnErr result (self.new.given.items ≡ self.old.given.items) }
+        ensures refused { OnErr result (AreUnchanged self.old self.new) }
     {
         match self.place_of(given.kind) {
             Ok(at) => {
@@ -87,10 +90,10 @@ impl Changes {
     /// # Errors
     ///
     /// `SectionOutOfOrder` if the kind is `Custom` or `Code`; `TooGreat` if the number of bytes
-    /// doesn't fit 32 bits; or `Memory`.
+    /// doesn't fit 32 bits; or `Memory`. The changes are as before then.
     pub fn set_contents(&mut self, kind: SectionKind, contents: Vec<u8>) -> Result<(), ModuleError>
         ensures sets { OnOk result (SetsContents self.old self.new (id_of kind) contents.items) }
-        ensures refused { OnErr result (self.new.given.items ≡ self.old.given.items) }
+        ensures refused { OnErr result (AreUnchanged self.old self.new) }
     {
         let fault = match kind {
             SectionKind::Custom | SectionKind::Code => Some(ModuleFault::SectionOutOfOrder),

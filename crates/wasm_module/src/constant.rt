@@ -7,7 +7,7 @@ use crate::input::Input;
 use wasm_ops::{Operator, Reader};
 
 /// Whether an operator opens, divides or leaves a construct.
-fn is_control(operator: &Operator<'_>) -> bool {
+pub(crate) fn is_control(operator: &Operator<'_>) -> bool {
     matches!(
         operator,
         Operator::Block { .. }

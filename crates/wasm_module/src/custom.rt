@@ -5,12 +5,17 @@
 ghost use Rattle.std.specs.Prelude.{IsTrue};
 ghost use Rattle.wasm_module.specs.WrittenModules.{HasFollowedName, HasDebugName, HasSourceMapName};
 
+pub(crate) mod function_items;
+pub(crate) mod labels;
+
 use crate::bodies::Scratch;
 use crate::body_writer::Needed;
 use crate::code::Body;
+use crate::custom::function_items::{FunctionItems, Item};
+use crate::custom::labels::follow_labels;
 use crate::fault::{ModuleError, ModuleFault};
-use crate::function_items::{FunctionItems, Item};
-use crate::labels::follow_labels;
+use crate::importing::moved_functions::FunctionNumbers;
+use crate::input::Input;
 use crate::parsed::ParsedModule;
 use crate::sections::{Section, SectionKind};
 use std::alloc::Global;
@@ -25,6 +30,8 @@ const MAX_FOLLOWED: usize = 16;
 /// The kind of the items in a part of a section.
 #[derive(Clone, Copy, PartialEq, Eq)]
 enum Follows {
+    /// Names of functions, which have been given their new indices.
+    Functions,
     /// Metadata of an operator, by its offset in the body.
     Offsets,
     /// Names of locals.
@@ -53,8 +60,43 @@ struct Follower<'a> {
     following: &'a [u8],
 }
 
+/// What the items of a subsection of a name section follow, by its id; nothing if it is copied.
+fn followed_names(id: u8, numbers: FunctionNumbers) -> Option<Follows> {
+    match id {
+        1 if !numbers.are_same() => Some(Follows::Functions),
+        2 => Some(Follows::Locals),
+        3 => Some(Follows::Labels),
+        _ => None,
+    }
+}
+
+/// The greatest number of parts of a name section that are changed.
+fn most_parts(numbers: FunctionNumbers) -> usize {
+    match numbers.are_same() {
+        true => 2,
+        false => 3,
+    }
+}
+
+/// The items of a part of a name section.
+fn read_items<'a>(
+    alloc: Global,
+    follows: Follows,
+    part: Input<'a>,
+    numbers: FunctionNumbers,
+) -> Result<FunctionItems<'a>, ModuleError> {
+    match follows {
+        Follows::Functions => FunctionItems::read_names(alloc, part, numbers),
+        _ => FunctionItems::read(alloc, part, numbers),
+    }
+}
+
 /// The parts of a name section that are changed along with the code.
-fn read_names<'a>(alloc: Global, section: &Section<'a>) -> Result<Follower<'a>, ModuleError> {
+fn read_names<'a>(
+    alloc: Global,
+    section: &Section<'a>,
+    numbers: FunctionNumbers,
+) -> Result<Follower<'a>, ModuleError> {
     let (_, mut input) = section.named_input()?;
     let mut parts = Vec::new(alloc);
     let mut from = section.contents;
@@ -67,17 +109,15 @@ fn read_names<'a>(alloc: Global, section: &Section<'a>) -> Result<Follower<'a>, 
         let before = from.until(&input);
         let len = input.number()?;
         let part = input.part(len as usize)?;
-        let follows = match id {
-            2 => Follows::Locals,
-            3 => Follows::Labels,
-            _ => continue,
+        let Some(follows) = followed_names(id, numbers) else {
+            continue;
         };
-        if parts.len() >= 2 {
+        if parts.len() >= most_parts(numbers) {
             return Err(part.fault(ModuleFault::SectionOutOfOrder));
         }
         parts.push(Part {
             follows,
-            items: FunctionItems::read(alloc, part)?,
+            items: read_items(alloc, follows, part, numbers)?,
             before,
             is_sized: true,
         })?;
@@ -91,12 +131,16 @@ fn read_names<'a>(alloc: Global, section: &Section<'a>) -> Result<Follower<'a>, 
 }
 
 /// A section with metadata of code, which is one part.
-fn read_metadata<'a>(alloc: Global, section: &Section<'a>) -> Result<Follower<'a>, ModuleError> {
+fn read_metadata<'a>(
+    alloc: Global,
+    section: &Section<'a>,
+    numbers: FunctionNumbers,
+) -> Result<Follower<'a>, ModuleError> {
     let (_, input) = section.named_input()?;
     let mut parts = Vec::new(alloc);
     parts.push(Part {
         follows: Follows::Offsets,
-        items: FunctionItems::read(alloc, input)?,
+        items: FunctionItems::read(alloc, input, numbers)?,
         before: section.contents.until(&input),
         is_sized: false,
     })?;
@@ -197,6 +241,8 @@ impl<'a> Part<'a> {
     ) -> Result<Vec<Item<'a>>, ModuleError> {
         let start = body.source.start();
         match self.follows {
+            // No function has any of them.
+            Follows::Functions => Ok(Vec::new(parsed.alloc)),
             Follows::Offsets => follow_offsets(parsed.alloc, items, body.pairs, start),
             Follows::Locals => {
                 let numbers = local_numbers(parsed, body.function, start)?;
@@ -236,7 +282,8 @@ pub enum NoteKind {
     /// It contains debug information, with addresses in the code of the source, or the place of
     /// such information.
     DebugInfo,
-    /// It contains relocations of the code of the source.
+    /// It contains relocations of the code of the source, or symbols of functions whose indices have
+    /// changed.
     Relocations,
     /// It contains names or metadata of code, but it can't be read, or there are too many such
     /// sections.
@@ -308,6 +355,15 @@ fn note_on(name: &str) -> Option<NoteKind> {
     }
 }
 
+/// Why a custom section of an object file, which contains indices of functions, may no longer be
+/// true if they change (WebAssembly tool conventions, linking).
+fn note_on_objects(name: &str, numbers: FunctionNumbers) -> Option<NoteKind> {
+    if numbers.are_same() || (name != "linking" && !name.starts_with("reloc.")) {
+        return None;
+    }
+    Some(NoteKind::Relocations)
+}
+
 /// The custom sections that are changed along with the code, and notes on others.
 #[derive(Drop)]
 pub(crate) struct Followers<'a> {
@@ -328,10 +384,11 @@ impl<'a> Followers<'a> {
             sections: Vec::new(parsed.alloc),
             notes: Vec::new(parsed.alloc),
         };
+        let numbers = parsed.function_numbers()?;
         for section in parsed.sections()? {
             match section {
                 Ok(section) if section.kind == SectionKind::Custom => {
-                    followers.add(parsed.alloc, &section)?;
+                    followers.add(parsed.alloc, &section, numbers)?;
                 }
                 Ok(_) => {}
                 Err(error) => return Err(error),
@@ -340,14 +397,19 @@ impl<'a> Followers<'a> {
         Ok(followers)
     }
 
-    fn add(&mut self, alloc: Global, section: &Section<'a>) -> Result<(), ModuleError> {
+    fn add(
+        &mut self,
+        alloc: Global,
+        section: &Section<'a>,
+        numbers: FunctionNumbers,
+    ) -> Result<(), ModuleError> {
         let (name, _) = section.named_input()?;
         let read = if name == "name" {
-            read_names(alloc, section)
+            read_names(alloc, section, numbers)
         } else if name.starts_with("metadata.code.") {
-            read_metadata(alloc, section)
+            read_metadata(alloc, section, numbers)
         } else {
-            if let Some(kind) = note_on(name) {
+            if let Some(kind) = note_on(name).or(note_on_objects(name, numbers)) {
                 self.note(name, kind)?;
             }
             return Ok(());

@@ -72,7 +72,8 @@ pub enum ModuleFault {
     /// Nothing in the module has this index.
     #[error("{}", IndexError::OutOfRange {space: *space, index: *index})]
     IndexOutOfRange { space: Space, index: u32 },
-    /// The code section doesn't have as many bodies as the function section has functions.
+    /// The code section doesn't have as many bodies as the function section has functions; or the
+    /// functions of another module were changed, so that nothing is kept for a body.
     #[error("there are not as many bodies as functions")]
     BodyCount,
     /// The data count section doesn't have the number of data segments.
@@ -102,8 +103,8 @@ pub enum ModuleFault {
     /// An export that is to be added has the name of an existing one.
     #[error("an export has this name already")]
     ExportTaken,
-    /// The code has another size when it is written than before, so a function was changed
-    /// differently the second time.
+    /// The code has another size when it is written than before, so a caller's own `BodyWriter`
+    /// wrote other bodies the second time; or functions were imported with other changes.
     #[error("a function is changed otherwise than before")]
     InconsistentChange,
     /// A count or a size doesn't fit 32 bits, or there are 2^32 items.

@@ -3,24 +3,23 @@
 #![tactic(auto)]
 
 mod adding;
-mod adding_data;
-mod adding_types;
 mod bodies;
 mod body_context;
 mod body_writer;
 mod changes;
+mod changing;
 mod code;
 mod constant;
 mod constants;
 mod custom;
 mod exports;
 mod fault;
-mod function_items;
 mod functions;
 mod globals;
+mod importing;
 mod imports;
 mod input;
-mod labels;
+mod laws;
 mod limits;
 mod locals;
 mod map_sink;
@@ -41,8 +40,9 @@ mod views;
 mod writing;
 
 pub use bodies::Scratch;
-pub use body_writer::{BodyWriter, ChangeFunction, Changing, Needed, Rewriting};
+pub use body_writer::{BodyWriter, ChangeFunction, Needed, Rewriting};
 pub use changes::Changes;
+pub use changing::kept_bodies::KeptBodies;
 pub use code::{Bodies, Body};
 pub use custom::{Note, NoteKind};
 pub use exports::{Export, Exports};
@@ -50,6 +50,7 @@ pub use fault::{FaultName, ModuleError, ModuleFault};
 pub use functions::{Function, Functions};
 pub use globals::{DefinedGlobal, GlobalType, Globals};
 pub use imports::{Import, Imported, Imports};
+pub use laws::law_changed_code;
 pub use limits::Limits;
 pub use map_sink::{MapLines, MapSink, WrittenBody};
 pub use memories::{DefinedMemory, Memories};

@@ -7,8 +7,8 @@ ghost use Rattle.wasm_module.specs.Declarations.{parameters_of, results_of};
 ghost use Rattle.wasm_module.specs.RewrittenCode.{Extends};
 
 use crate::code::Body;
+use crate::custom::labels::opened;
 use crate::fault::ModuleError;
-use crate::labels::opened;
 use crate::parsed::ParsedModule;
 use walrus_body::value_type;
 use walrus_ir::{InstrSeqType, TypeId, ValType};

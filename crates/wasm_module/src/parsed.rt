@@ -138,13 +138,20 @@ impl<'a> ParsedModule<'a> {
     }
 
     /// The bodies of its functions that are not imported, in order.
-    pub fn bodies(&self) -> Bodies<'a> {
-        let Some(contents) = self.code else {
-            return Bodies::none();
+    pub fn bodies(&self) -> Bodies<'a>
+        ensures { result.next ≡ self.now.imported }
+    {
+        let next = self.imported;
+        let none = Bodies {
+            left: Input::new(&[]),
+            next,
         };
-        match Bodies::of_section(contents, self.imported) {
+        let Some(contents) = self.code else {
+            return none;
+        };
+        match Bodies::of_section(contents, next) {
             Ok((_, bodies)) => bodies,
-            Err(_) => Bodies::none(),
+            Err(_) => none,
         }
     }
 

@@ -1,5 +1,6 @@
 //! Rewriting a module, the first pass: each body is rewritten once, to find its faults, its size
-//! and the new contents of custom sections, before anything is written.
+//! and the new contents of custom sections, before anything is written. (`changing` is that of a
+//! module whose functions are changed.)
 
 ghost use Rattle.std.specs.Prelude.{◌≡◌, [], true, IsTrue, OnOk, IfOk, IfSome, IfNone};
 ghost use Rattle.wasm_module.specs.RewrittenCode.{Extends};
@@ -7,7 +8,7 @@ ghost use Rattle.wasm_module.specs.Sections.{section_at};
 ghost use Rattle.wasm_module.specs.WrittenModules.{new_contents_in, IsReplacedBy, IsCarriedOver, IsOmitted};
 
 use crate::bodies::Scratch;
-use crate::body_writer::{BodyWriter, ChangeFunction, Changing, Rewriting};
+use crate::body_writer::{BodyWriter, Rewriting};
 use crate::changes::Changes;
 use crate::code::Body;
 use crate::custom::{
@@ -42,6 +43,56 @@ impl<B> RewrittenModule<'_, B> {
             SectionKind::Custom if follows_code(section) => contents_at(&self.followed, section.at),
             SectionKind::Custom => None,
             kind => self.changes.contents_of(kind),
+        }
+    }
+}
+
+impl<'a, B> RewrittenModule<'a, B> {
+    /// How its bodies are written, and the rest of it, so that the caller can put something around
+    /// the bodies.
+    pub fn take_bodies(self) -> (B, RewrittenModule<'a, ()>)
+        ensures bodies { result.0 ≡ self.entry.bodies }
+        ensures changes { result.1.changes ≡ self.entry.changes }
+    {
+        let RewrittenModule {
+            bodies,
+            changes,
+            followed,
+            code_len,
+            notes,
+        } = self;
+        let rest = RewrittenModule {
+            bodies: (),
+            changes,
+            followed,
+            code_len,
+            notes,
+        };
+        (bodies, rest)
+    }
+}
+
+impl<'a> RewrittenModule<'a, ()> {
+    /// The module with these bodies. They have to be those that were taken from it, perhaps with
+    /// something around them: where the code then has another size, `write_module` returns
+    /// `InconsistentChange`.
+    pub fn with_bodies<B>(self, bodies: B) -> RewrittenModule<'a, B>
+        ensures bodies { result.bodies ≡ bodies }
+        ensures changes { result.changes ≡ self.entry.changes }
+    {
+        let RewrittenModule {
+            bodies: (),
+            changes,
+            followed,
+            code_len,
+            notes,
+        } = self;
+        RewrittenModule {
+            bodies,
+            changes,
+            followed,
+            code_len,
+            notes,
         }
     }
 }
@@ -122,7 +173,8 @@ impl<'a> ParsedModule<'a> {
     ///
     /// # Errors
     ///
-    /// The first fault of a body, with its place, or why it isn't written; or `Memory`.
+    /// The first fault of a body, with its place, or why it isn't written; `InconsistentChange` if
+    /// functions were imported with other changes; or `Memory`.
     pub fn rewrite_with<B: BodyWriter + Drop>(
         &mut self,
         bodies: B,
@@ -132,6 +184,7 @@ impl<'a> ParsedModule<'a> {
         ensures bodies { IfOk result (λ made. made.bodies ≡ bodies) }
         ensures given { IfOk result (λ made. new_contents_in made ≡ changes.given.items) }
     {
+        self.check_imports(&changes)?;
         let mut followers = Followers::read(self)?;
         let code_len = self.measure_code(&bodies, &mut followers)?;
         let (followed, notes) = followers.finish(self.alloc)?;
@@ -157,23 +210,5 @@ impl<'a> ParsedModule<'a> {
     {
         let changes = Changes::new(self.alloc);
         self.rewrite_with(Rewriting, changes)
-    }
-
-    /// Changes the functions that have a body, and these sections. Names of locals and of labels
-    /// and metadata of code are changed along with the functions.
-    ///
-    /// # Errors
-    ///
-    /// The first fault of a body, with its place, or that of its change; or `Memory`.
-    pub fn change_all<C: ChangeFunction + Drop>(
-        &mut self,
-        change: C,
-        changes: Changes,
-    ) -> Result<RewrittenModule<'a, Changing<C>>, ModuleError>
-        ensures extends { OnOk result (Extends self.old self.new) }
-        ensures change { IfOk result (λ made. made.bodies.0 ≡ change) }
-        ensures given { IfOk result (λ made. new_contents_in made ≡ changes.given.items) }
-    {
-        self.rewrite_with(Changing(change), changes)
     }
 }

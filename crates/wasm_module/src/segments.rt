@@ -44,26 +44,46 @@ impl Input<'_> {
         }
     }
 
-    /// Reads past everything before the elements of a segment with these flags.
-    fn before_elements(&mut self, flags: u32) -> Result<(), ModuleError> {
-        let is_active = flags % 2 == 0;
-        let has_more = flags % 4 != 0;
-        // An active segment names its table if bit 1 says so.
-        if is_active && has_more {
+    /// Reads past the flags of an element segment, and the index of its table, if it names one.
+    /// Returns the flags.
+    pub fn element_flags(&mut self) -> Result<u32, ModuleError> {
+        let flags = match self.segment_flags(7) {
+            Ok(flags) => flags,
+            Err(error) => return Err(error),
+        };
+        // An active segment, whose bit 0 is clear, names its table if bit 1 says so.
+        if flags % 4 == 2 {
             match self.pass_index() {
                 Ok(()) => {}
                 Err(error) => return Err(error),
             }
         }
-        if is_active {
+        Ok(flags)
+    }
+
+    /// Reads past the kind or the type of the elements of a segment with these flags, if it has one.
+    pub fn element_type(&mut self, flags: u32) -> Result<(), ModuleError> {
+        match flags % 4 {
+            0 => Ok(()),
+            _ => self.element_kind(flags >= 4),
+        }
+    }
+
+    /// Reads past everything before the elements of a segment, and returns its flags.
+    fn before_elements(&mut self) -> Result<u32, ModuleError> {
+        let flags = match self.element_flags() {
+            Ok(flags) => flags,
+            Err(error) => return Err(error),
+        };
+        if flags % 2 == 0 {
             match self.pass_constant() {
                 Ok(()) => {}
                 Err(error) => return Err(error),
             }
         }
-        match has_more {
-            true => self.element_kind(flags >= 4),
-            false => Ok(()),
+        match self.element_type(flags) {
+            Ok(()) => Ok(flags),
+            Err(error) => Err(error),
         }
     }
 
@@ -88,12 +108,8 @@ impl Input<'_> {
 
     /// Reads past an element segment.
     pub fn element_segment(&mut self) -> Result<(), ModuleError> {
-        let flags = match self.segment_flags(7) {
-            Ok(flags) => flags,
-            Err(error) => return Err(error),
-        };
-        match self.before_elements(flags) {
-            Ok(()) => self.elements(flags >= 4),
+        match self.before_elements() {
+            Ok(flags) => self.elements(flags >= 4),
             Err(error) => Err(error),
         }
     }

@@ -1,8 +1,9 @@
-//! The index spaces of a module: everything in them keeps its index.
+//! The index spaces of a module: everything in them keeps its index, unless functions are imported.
 
-ghost use Rattle.std.specs.Prelude.{◌≡◌, ◌<◌, ◌≤◌, ◌^◌, ℕ, Ok, OnOk, IfErr};
+ghost use Rattle.std.specs.Prelude.{◌≡◌, ◌<◌, ◌≤◌, ◌^◌, ℕ, Ok, IsErr, OnOk, IfErr};
 ghost use Rattle.wasm_body.specs.declared.error.IndexError.TheVariants as index;
-ghost use Rattle.walrus_maps.specs.IndexMaps.{locals_in, local_of};
+ghost use Rattle.wasm_operators.specs.declared.types.Space.TheVariants.{Types};
+ghost use Rattle.walrus_maps.specs.IndexMaps.{locals_in, local_of, number_of, with_next_number};
 ghost use Rattle.wasm_module.specs.Declarations.{first_numbers};
 
 use std::alloc::Global;
@@ -11,26 +12,29 @@ use walrus_ir::{
     DataId, ElementId, FunctionId, GlobalId, LocalId, MemoryId, TableId, TagId, TypeId,
 };
 
-/// The number of items of each index space, except those of types, functions and locals.
+/// The number of items of each index space, except those of functions and locals.
 #[derive(Clone, Copy, Default)]
-struct Counts {
-    tables: usize,
-    memories: usize,
-    globals: usize,
-    tags: usize,
-    elements: usize,
-    data: usize,
+pub(crate) struct Counts {
+    pub types: usize,
+    pub tables: usize,
+    pub memories: usize,
+    pub globals: usize,
+    pub tags: usize,
+    pub elements: usize,
+    pub data: usize,
 }
 
-/// The ids of a module's indices, and the indices of its ids, which are the same in the source and
-/// in the module that is written.
+/// The ids of a module's indices in the source, and the indices of its ids in the module that is
+/// written. They are the same, unless functions are imported besides those of the source.
 #[derive(Drop)]
 pub(crate) struct Spaces {
     /// The ids of the indices.
     pub indices: IndicesToIds,
     /// The indices of the ids.
     pub numbers: IdsToIndices,
-    counts: Counts,
+    pub counts: Counts,
+    /// The number of functions that are imported besides those of the source.
+    pub more_imports: usize,
     /// The number of indices of locals with ids, which equal the indices.
     locals: usize,
     ghost local_ids: { locals_in indices 0 ≡ first_numbers locals },
@@ -66,12 +70,17 @@ impl Spaces {
             indices: IndicesToIds::new(alloc),
             numbers: IdsToIndices::new(alloc),
             counts: Counts::default(),
+            more_imports: 0,
             locals: 0,
         }
     }
 
-    /// Gives a type the next index.
-    pub fn add_type(&mut self, id: TypeId) -> Result<(), IndexError> {
+    /// Gives a type the next index. Its id may be greater: not all types have an index.
+    pub fn add_type(&mut self, id: TypeId) -> Result<(), IndexError>
+        ensures { IsErr (number_of self.old.numbers Types id) → OnOk result
+            (self.new.numbers ≡ with_next_number Types id self.old.numbers) }
+    {
+        self.counts.types = self.counts.types.saturating_add(1);
         add!(self, id, push_type, get_type_index)
     }
 

@@ -64,6 +64,20 @@ impl<'a> Input<'a> {
         }
     }
 
+    /// Reads past the front of a table: everything but the constant expression of its elements.
+    /// Returns whether it has one.
+    pub fn table_front(&mut self) -> Result<bool, ModuleError> {
+        let after = self.after_mark();
+        let has_elements = after.is_some();
+        if let Some(after) = after {
+            *self = after;
+        }
+        match self.table_type() {
+            Ok(_) => Ok(has_elements),
+            Err(error) => Err(error),
+        }
+    }
+
     /// The type of a table, and the constant expression of its elements.
     fn initialized(&mut self) -> Result<(TableType, &'a [u8]), ModuleError>
         ensures begins { IfOk result (λ x. BeginsTableType self.old.rest.now x.0

@@ -303,6 +303,7 @@ impl<'a> ParsedModule<'a> {
             × IsWrittenModule (B.writes rewritten.now.bodies) self.old rewritten.now.changes new
             × Appends (W.contents out.old) (W.contents out.new) new) }
     {
+        self.check_imports(&rewritten.changes)?;
         let begin = put(&PREAMBLE, 0, out)?;
         let mut end = self.put_new_after(rewritten, 0, begin, out)?;
         'sections: for section in Sections::new(self.bytes())? {
@@ -313,14 +314,15 @@ impl<'a> ParsedModule<'a> {
     }
 
     /// Writes the module: its sections in order, unchanged ones byte for byte, new ones in their
-    /// places; and each body after its size, as it is rewritten or changed. Debug information is
-    /// left out if `omit_debug` was called.
+    /// places; and each body after its size, as it is rewritten, or as it is kept after a change.
+    /// Debug information is left out if `omit_debug` was called.
     ///
     /// # Errors
     ///
-    /// Those of the writer; `InconsistentChange` if a change of functions gives another result than the
-    /// first time, so that the code has another size; or `Memory`. A part of the module may have
-    /// been written.
+    /// Those of the writer; `BodyCount` if the functions of another module were changed;
+    /// `InconsistentChange` if a caller's own `BodyWriter` writes other bodies than the first time,
+    /// so that the code has another size, or if functions were imported with other changes; or
+    /// `Memory`. A part of the module may have been written.
     pub fn write_module<B: BodyWriter, W: Write>(
         &mut self,
         rewritten: &RewrittenModule<'_, B>,

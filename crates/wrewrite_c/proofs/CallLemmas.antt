@@ -1,15 +1,19 @@
 -- What calls make, step by step.
-use Rattle.std.proofs.Common.{◌≡◌, ◌==◌, ℕ, ◌+◌, ◌<◌, List, [], ◌++◌, length, get_or, take, Bool, true, false, cond, ◌||◌, ◌&&◌, refl, sym, ap, subst, ◌∙◌}
+use Rattle.std.proofs.Common.{◌≡◌, ◌==◌, ℕ, ◌+◌, ◌<◌, List, [], ◌++◌, length, get_or, take, Bool, true, false, cond, ◌||◌, ◌&&◌, Result, Ok, Err, OnOk, refl, sym, ap, subst, ◌∙◌}
 use Rattle.std.proofs.Math.Bool.{and-true}
 use Rattle.std.proofs.lemmas.List.Folds.{list_any_more}
 use Rattle.std.specs.List.{list_any}
 use Rattle.std.specs.HashSet.{HashSet, IsEmpty, contains}
 use Rattle.wasm_module.specs.declared.changes.Changes.{Changes}
 use Rattle.wasm_module.specs.declared.parsed.ParsedModule.{ParsedModule}
+use Rattle.wasm_module.specs.declared.changing.kept_bodies.KeptBodies.{KeptBodies}
+use Rattle.wasm_module.specs.KeptCode.{IsKept, AreKeptAs}
+use Rattle.wasm_module.specs.RewrittenCode.{Extends}
 use Rattle.wasm_module.specs.WrittenModules.{Writes, IsWrittenModule}
+use Rattle.wasm_module.proofs.WriterLemmas.{kept_module}
 use Rattle.wrewrite_c.specs.declared.outcome.Stop.{Stop}
 use Rattle.wrewrite_c.specs.declared.outcome.Stop.TheVariants.{Refused, NoFunction}
-use Rattle.wrewrite_c.specs.Made.{IsMadeOf, is_listed, HasFunctions, Adds}
+use Rattle.wrewrite_c.specs.Made.{IsMadeFrom, IsMadeOf, is_listed, HasFunctions, Adds}
 use Rattle.wrewrite_c.specs.Outcomes.{IsMissingIn, LacksFunction}
 
 -- ---- the module
@@ -18,18 +22,45 @@ use Rattle.wrewrite_c.specs.Outcomes.{IsMissingIn, LacksFunction}
 pub made_new :
     {B : Type 0} (writes : B → Writes) (a b : B) (parsed : ParsedModule) (changes : Changes) (strips_debug : Bool) (old made : List ℕ) → b ≡ a → changes.given.items ≡ [] →
     (strips_debug ≡ true → changes.omits_debug ≡ true) → old ≡ [] → (new : List ℕ) × IsWrittenModule (writes b) parsed changes new × (made ≡ old ++ new) →
-    IsMadeOf (writes a) parsed.bytes.now strips_debug made
+    IsMadeFrom (writes a) parsed strips_debug made
 made_new writes a b parsed changes strips_debug old made same none leaves empty w =
     let here = subst (λ (x : _). IsWrittenModule (writes x) parsed changes w.0) same w.1 in
     let is_new : w.0 ≡ made = ap (λ (l : List ℕ). l ++ w.0) (sym empty) ∙ sym w.2 in
     record {
-      parsed = parsed;
-      bytes_are = refl;
       changes = changes;
       none_given = none;
       omits = leaves;
       is_written = subst (λ (l : List ℕ). IsWrittenModule (writes a) parsed changes l) is_new here;
     }
+
+on_ok : {A E P Q : Type 0} (r : Result A E) → (P → Q) → OnOk r P → OnOk r Q
+on_ok (Ok x) f p = f p
+on_ok (Err e) f p = tt
+
+-- of the bytes of a module that was read, which has changed since, and whose bodies are written in this way or kept so
+pub made_of :
+    {A E : Type 0} (r : Result A E) (writes : Writes) (parsed now : ParsedModule) (strips_debug : Bool) (new : List ℕ) → Extends parsed now →
+    OnOk r (IsMadeFrom writes now strips_debug new) → OnOk r (IsMadeOf writes parsed.bytes.now strips_debug new)
+made_of r writes parsed now strips_debug new x h = on_ok r (λ m. record { parsed = now; bytes_are = x.bytes; is_made = m }) h
+
+kept_from :
+    (writes : Writes) (parsed now : ParsedModule) (kept : KeptBodies) (strips_debug : Bool) (new : List ℕ) → Extends parsed now → AreKeptAs writes parsed kept →
+    IsMadeFrom (IsKept kept) now strips_debug new → IsMadeOf writes parsed.bytes.now strips_debug new
+kept_from writes parsed now kept strips_debug new x k h = record {
+  parsed = parsed;
+  bytes_are = refl;
+  is_made = record {
+    changes = h.changes;
+    none_given = h.none_given;
+    omits = h.omits;
+    is_written = kept_module writes parsed now kept h.changes new x k h.is_written;
+  };
+}
+
+pub made_of_kept :
+    {A E : Type 0} (r : Result A E) (writes : Writes) (parsed now : ParsedModule) (kept : KeptBodies) (strips_debug : Bool) (new : List ℕ) → Extends parsed now →
+    AreKeptAs writes parsed kept → OnOk r (IsMadeFrom (IsKept kept) now strips_debug new) → OnOk r (IsMadeOf writes parsed.bytes.now strips_debug new)
+made_of_kept r writes parsed now kept strips_debug new x k h = on_ok r (λ m. kept_from writes parsed now kept strips_debug new x k m) h
 
 -- ---- functions that are added, one after the other
 

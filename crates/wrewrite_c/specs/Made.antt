@@ -4,20 +4,24 @@ use Rattle.std.specs.List.{list_any}
 use Rattle.std.specs.HashSet.{HashSet, contains}
 use Rattle.wasm_module.specs.declared.changes.Changes.{Changes}
 use Rattle.wasm_module.specs.declared.parsed.ParsedModule.{ParsedModule}
-use Rattle.wasm_module.specs.RewrittenCode.{IsChanged}
+use Rattle.wasm_module.specs.RewrittenCode.{IsChanged, keeps_locals}
 use Rattle.wasm_module.specs.WrittenModules.{Writes, IsWrittenModule}
 use Rattle.module_tools.specs.declared.snipping.Snipping.{Snipping}
 use Rattle.module_tools.specs.FunctionChanges.{Snips}
 
--- These bytes are the module that is written for one of these source bytes, as it was read: with bodies that are written in this
--- way, with no section that is given, and without debug information where it is to be left out.
-pub record IsMadeOf (writes : Writes) (source : List ℕ) (strips_debug : Bool) (new : List ℕ) : Type 0 where
-  pub parsed : ParsedModule
-  pub bytes_are : parsed.bytes.now ≡ source
+-- These bytes are the module that is written for this one: with bodies that are written in this way, with no section that is
+-- given, and without debug information where it is to be left out.
+pub record IsMadeFrom (writes : Writes) (parsed : ParsedModule) (strips_debug : Bool) (new : List ℕ) : Type 0 where
   pub changes : Changes
   pub none_given : changes.given.items ≡ []
   pub omits : strips_debug ≡ true → changes.omits_debug ≡ true
   pub is_written : IsWrittenModule writes parsed changes new
+
+-- The same for a module of these source bytes, as it was read.
+pub record IsMadeOf (writes : Writes) (source : List ℕ) (strips_debug : Bool) (new : List ℕ) : Type 0 where
+  pub parsed : ParsedModule
+  pub bytes_are : parsed.bytes.now ≡ source
+  pub is_made : IsMadeFrom writes parsed strips_debug new
 
 -- ---- functions that are named by their indices
 
@@ -37,4 +41,4 @@ Adds index old new = (other : ℕ) → contains (λ x y. x == y) new other ≡ c
 pub record IsSnippedOf (indices source : List ℕ) (strips_debug : Bool) (new : List ℕ) : Type 0 where
   pub snipping : Snipping
   pub has_functions : HasFunctions indices snipping.0
-  pub is_made : IsMadeOf (IsChanged (Snips snipping.0)) source strips_debug new
+  pub is_made : IsMadeOf (IsChanged (keeps_locals (Snips snipping.0))) source strips_debug new

@@ -3,18 +3,18 @@
 ghost use Rattle.std.specs.Prelude.{◌≡◌, ◌++◌, ℕ, List, [], true, false, OnOk, IfOk, IfErr};
 ghost use Rattle.std.specs.HashSet.{IsEmpty};
 ghost use Rattle.module_tools.specs.FunctionChanges.{Snips};
-ghost use Rattle.wasm_module.specs.RewrittenCode.{IsRewritten, IsChanged};
+ghost use Rattle.wasm_module.specs.RewrittenCode.{IsRewritten, IsChanged, keeps_locals};
 ghost use Rattle.wasm_module.specs.WrittenModules.{new_contents_in, IsWrittenModule};
-ghost use Rattle.wrewrite_c.specs.Made.{IsMadeOf, IsSnippedOf, HasFunctions, Adds};
+ghost use Rattle.wrewrite_c.specs.Made.{IsMadeFrom, IsMadeOf, IsSnippedOf, HasFunctions, Adds};
 ghost use Rattle.wrewrite_c.specs.Outcomes.{IsOfModule, IsMissing, IsMissingIn, LacksFunction};
 
 use crate::made::{Made, Sought};
 use crate::outcome::{Refusal, Stop};
-use module_tools::{Snipping, function_at};
+use module_tools::function_at;
 use std::alloc::Global;
 use walrus_ir::{FunctionId, IdHashSet};
 use wasm_module::{
-    BodyWriter, Changes, ModuleError, ModuleFault, ParsedModule, RewrittenModule, WriteError,
+    BodyWriter, ModuleError, ModuleFault, ParsedModule, RewrittenModule, WriteError,
 };
 
 /// The error of a module that isn't written into memory.
@@ -77,7 +77,7 @@ fn finish<B: BodyWriter>(
 ) -> Result<(), ModuleError>
     requires none_given { new_contents_in rewritten.old ≡ [] }
     requires empty { made.old.bytes.items ≡ [] }
-    ensures written { OnOk result (IsMadeOf (B.writes rewritten.old.bodies) parsed.old.bytes.now
+    ensures written { OnOk result (IsMadeFrom (B.writes rewritten.old.bodies) parsed.old
         wanted.strips_debug made.new.bytes.items) }
     ensures no_map { wanted.has_map ≡ false → made.new.lines.items ≡ made.old.lines.items }
 {
@@ -195,11 +195,11 @@ fn snip_functions(
     made: &mut Made,
 ) -> Result<(), ModuleError>
     requires { made.old.bytes.items ≡ [] }
-    ensures written { OnOk result (IsMadeOf (IsChanged (Snips functions)) parsed.old.bytes.now
-        wanted.strips_debug made.new.bytes.items) }
+    ensures written { OnOk result (IsMadeOf (IsChanged (keeps_locals (Snips functions)))
+        parsed.old.bytes.now wanted.strips_debug made.new.bytes.items) }
     ensures no_map { wanted.has_map ≡ false → made.new.lines.items ≡ made.old.lines.items }
 {
-    match parsed.change_all(Snipping::new(functions), Changes::new(alloc)) {
+    match module_tools::snip(alloc, parsed, functions) {
         Ok(mut rewritten) => finish(parsed, &mut rewritten, wanted, made),
         Err(error) => Err(error),
     }

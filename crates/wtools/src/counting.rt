@@ -3,7 +3,7 @@
 use module_tools::{CountCalls, Program, Tool, call_counter};
 use std::alloc::Global;
 use walrus_ir::{FunctionId, IdHashSet};
-use wasm_module::{Changes, Changing, ModuleError, ParsedModule};
+use wasm_module::{Changes, ModuleError, ParsedModule};
 
 /// How it is called, and what it takes.
 pub const PROGRAM: Program = Program {
@@ -40,16 +40,16 @@ example: wcount in.wasm counted.wasm",
 pub struct Count;
 
 impl Tool for Count {
-    type Bodies = Changing<CountCalls>;
+    type Change = CountCalls;
 
     fn changes(
         &self,
         alloc: Global,
         parsed: &mut ParsedModule<'_>,
         _functions: IdHashSet<FunctionId>,
-    ) -> Result<(Changing<CountCalls>, Changes), ModuleError> {
+    ) -> Result<(Option<CountCalls>, Changes), ModuleError> {
         match call_counter(alloc, parsed) {
-            Ok((counter, changes)) => Ok((Changing(counter), changes)),
+            Ok((counter, changes)) => Ok((Some(counter), changes)),
             Err(error) => Err(error),
         }
     }

@@ -1,9 +1,9 @@
 //! `wrewrite`: rewrites the bodies of a module's functions.
 
-use module_tools::{Program, Tool};
+use module_tools::{NoChange, Program, Tool};
 use std::alloc::Global;
 use walrus_ir::{FunctionId, IdHashSet};
-use wasm_module::{Changes, ModuleError, ParsedModule, Rewriting};
+use wasm_module::{Changes, ModuleError, ParsedModule};
 
 /// How it is called, and what it takes.
 pub const PROGRAM: Program = Program {
@@ -45,14 +45,14 @@ example: wrewrite --map out.map in.wasm out.wasm",
 pub struct RewriteAll;
 
 impl Tool for RewriteAll {
-    type Bodies = Rewriting;
+    type Change = NoChange;
 
     fn changes(
         &self,
         alloc: Global,
         _parsed: &mut ParsedModule<'_>,
         _functions: IdHashSet<FunctionId>,
-    ) -> Result<(Rewriting, Changes), ModuleError> {
-        Ok((Rewriting, Changes::new(alloc)))
+    ) -> Result<(Option<NoChange>, Changes), ModuleError> {
+        Ok((None, Changes::new(alloc)))
     }
 }

@@ -3,7 +3,7 @@
 use module_tools::{Program, Snipping, Tool};
 use std::alloc::Global;
 use walrus_ir::{FunctionId, IdHashSet};
-use wasm_module::{Changes, Changing, ModuleError, ParsedModule};
+use wasm_module::{Changes, ModuleError, ParsedModule};
 
 /// How it is called, and what it takes.
 pub const PROGRAM: Program = Program {
@@ -41,14 +41,14 @@ example: wsnip in.wasm out.wasm 12 unused_function",
 pub struct Snip;
 
 impl Tool for Snip {
-    type Bodies = Changing<Snipping>;
+    type Change = Snipping;
 
     fn changes(
         &self,
         alloc: Global,
         _parsed: &mut ParsedModule<'_>,
         functions: IdHashSet<FunctionId>,
-    ) -> Result<(Changing<Snipping>, Changes), ModuleError> {
-        Ok((Changing(Snipping::new(functions)), Changes::new(alloc)))
+    ) -> Result<(Option<Snipping>, Changes), ModuleError> {
+        Ok((Some(Snipping::new(functions)), Changes::new(alloc)))
     }
 }

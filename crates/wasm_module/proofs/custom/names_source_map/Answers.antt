@@ -1,4 +1,4 @@
-use Rattle.std.proofs.Common.{◌≡◌, sym, codes}
+use Rattle.std.proofs.Common.{sym, codes}
 use Rattle.std.proofs.lemmas.Slice.Eq.{bytes_eq-Decides}
 use Rattle.wasm_module.proofs.custom.names_source_map.Goals as goal
 

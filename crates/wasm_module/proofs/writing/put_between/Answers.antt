@@ -2,7 +2,7 @@ use Rattle.std.proofs.Common.{◌≡◌, ◌≤◌, ◌<◌, ℕ, false, List, l
 use Rattle.wasm_module.specs.declared.changes.NewContents.{NewContents}
 use Rattle.wasm_module.specs.Sections.{rank, id_of, section}
 use Rattle.wasm_module.specs.WrittenModules.{Puts, is_between}
-use Rattle.wasm_module.proofs.NewSectionLemmas.{NewSoFar, is_within_ranks, is_before_ranks, is_after_ranks, one_new, one_elsewhere}
+use Rattle.wasm_module.proofs.NewSectionLemmas.{is_within_ranks, is_before_ranks, is_after_ranks, one_new, one_elsewhere}
 use Rattle.wasm_module.proofs.writing.put_between.Goals as goal
 use Rattle.wasm_module.proofs.writing.put_between.Goals.{then-ranks-rank+then-rank-ranks+in_ok-end, else-ranks-rank, else-ranks-rank-via-then-ranks-rank+else-rank-ranks, else-ranks-rank-via-else-ranks-rank}
 

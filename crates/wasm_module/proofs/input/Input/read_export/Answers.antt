@@ -1,4 +1,4 @@
-use Rattle.std.proofs.Common.{List, ◌∷◌, ◌++◌, length, Ok, ap, ◌∙◌}
+use Rattle.std.proofs.Common.{List, ◌++◌, length, Ok, ap, ◌∙◌}
 use Rattle.wasm_module.proofs.input.Input.read_export.Goals as goal
 
 pub returns-clause-begins : goal.returns-clause-begins

@@ -1,6 +1,6 @@
 use Rattle.std.proofs.Common.{length, sym, ap, ◌∙◌, inl, inr, arith}
 use Rattle.std.proofs.lemmas.Result.{err_from_is_err_and}
-use Rattle.wasm_module.proofs.LocalLemmas.{none_declared, one_more_declared, all_declared, none_after}
+use Rattle.wasm_module.proofs.LocalLemmas.{none_declared, one_more_declared, none_after}
 use Rattle.wasm_module.proofs.locals.Locals.declared.Goals as goal
 
 pub groups-init : goal.groups-init

@@ -10,5 +10,5 @@ returns-else-branch c = λ all m.
     let new = c.add_item.new.changes in
     let segment = c.args.segment.now in
     let has : has_data_count all old ≡ false = sym (c.in_ok-has_data_count.ensures all m) ∙ c.if-branch.false in
-    on_ok c.add_item.result (AddsItem all old new 11 segment) (AddsData all old new (has_data_count all old) segment) (c.add_item.ensures all m)
+    on_ok c.add_item.result (AddsItem all old new 11 segment) (AddsData all old new (has_data_count all old) segment) (c.add_item.ensures.ok all m)
     (λ a. subst (λ (b : Bool). AddsData all old new b segment) (sym has) (uncounted all old new segment a))

@@ -1,5 +1,4 @@
-use Rattle.std.proofs.Common.{refl}
-use Rattle.wasm_module.proofs.ModuleLemmas.{extends_same, extends_locals}
+use Rattle.wasm_module.proofs.ModuleLemmas.{extends_same}
 use Rattle.wasm_module.proofs.parsed.ParsedModule.enter.Goals as goal
 
 pub returns-in_err-types-clause-extends : goal.returns-in_err-types-clause-extends

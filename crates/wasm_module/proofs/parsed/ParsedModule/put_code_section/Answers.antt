@@ -1,4 +1,4 @@
-use Rattle.std.proofs.Common.{◌≡◌, ℕ, ◌+◌, List, ◌∷◌, ◌++◌, length, ap, ◌∙◌, sym, arith}
+use Rattle.std.proofs.Common.{◌≡◌, ℕ, ◌∷◌, length, ap, arith}
 use Rattle.wasm_operators.specs.Shortest.{short_number}
 use Rattle.wasm_module.proofs.WritingLemmas.{puts_then, puts_same}
 use Rattle.wasm_module.proofs.parsed.ParsedModule.put_code_section.Goals as goal

@@ -1,6 +1,6 @@
-use Rattle.std.proofs.Common.{◌≡◌, ◌≢◌, ℕ, List, refl, rules}
-use Rattle.wasm_module.specs.Sections.{id_of, section, section_at}
-use Rattle.wasm_module.specs.WrittenModules.IsWrittenFor.{code, replaced, carried_over}
+use Rattle.std.proofs.Common.{◌≡◌, ◌≢◌, refl, rules}
+use Rattle.wasm_module.specs.Sections.{id_of, section}
+use Rattle.wasm_module.specs.WrittenModules.IsWrittenFor.{code, replaced}
 use Rattle.wasm_module.proofs.ModuleLemmas.{extends_same, then_ok}
 use Rattle.wasm_module.proofs.WritingLemmas.{if_so}
 use Rattle.wasm_module.proofs.parsed.ParsedModule.put_in_place.Goals as goal

@@ -2,8 +2,8 @@
 //! before it in the body.
 
 use crate::custom::RewrittenBody;
+use crate::custom::function_items::Item;
 use crate::fault::ModuleError;
-use crate::function_items::Item;
 use crate::input::Input;
 use std::alloc::Global;
 use walrus_ir::InstrLocId;

@@ -4,6 +4,7 @@
 //! metadata of code, such as branch hints.
 
 use crate::fault::{ModuleError, ModuleFault};
+use crate::importing::moved_functions::FunctionNumbers;
 use crate::input::Input;
 use crate::output::{number_len, write_bytes, write_number};
 use std::alloc::Global;
@@ -18,6 +19,8 @@ pub(crate) struct FunctionItems<'a> {
     left: Input<'a>,
     written: Vec<u8>,
     functions: u32,
+    /// The new indices of functions.
+    numbers: FunctionNumbers,
 }
 
 /// Reads past the items of one function.
@@ -29,10 +32,16 @@ fn pass_items(input: &mut Input<'_>) -> Result<(), ModuleError> {
     Ok(())
 }
 
-/// Reads past the index of a function, and its items.
-fn pass_function(input: &mut Input<'_>) -> Result<(), ModuleError> {
-    match input.number() {
-        Ok(_) => pass_items(input),
+/// Reads the index of a function and its name, and appends the new index and the name.
+fn move_name(
+    input: &mut Input<'_>,
+    numbers: FunctionNumbers,
+    out: &mut Vec<u8>,
+) -> Result<(), ModuleError> {
+    let func = input.number()?;
+    let name = input.bytes()?;
+    match write_number(out, numbers.moved(func)) {
+        Ok(()) => write_bytes(out, name),
         Err(error) => Err(error),
     }
 }
@@ -55,7 +64,11 @@ impl<'a> FunctionItems<'a> {
     ///
     /// `Truncated`, `BadNumber` or `Trailing`; `SectionOutOfOrder` if functions aren't in ascending
     /// order.
-    pub fn read(alloc: Global, part: Input<'a>) -> Result<FunctionItems<'a>, ModuleError> {
+    pub fn read(
+        alloc: Global,
+        part: Input<'a>,
+        numbers: FunctionNumbers,
+    ) -> Result<FunctionItems<'a>, ModuleError> {
         let mut input = part;
         let count = input.number()?;
         let left = input;
@@ -76,6 +89,33 @@ impl<'a> FunctionItems<'a> {
             left,
             written,
             functions: 0,
+            numbers,
+        })
+    }
+
+    /// The names of functions of this part of a name section, with their new indices. None of them
+    /// is an item of a function, so none is left.
+    ///
+    /// # Errors
+    ///
+    /// `Truncated`, `BadNumber` or `Trailing`; `TooGreat` if a new index doesn't fit 32 bits.
+    pub fn read_names(
+        alloc: Global,
+        part: Input<'a>,
+        numbers: FunctionNumbers,
+    ) -> Result<FunctionItems<'a>, ModuleError> {
+        let mut left = part;
+        let functions = left.number()?;
+        let mut written = Vec::new(alloc);
+        for _ in 0..functions {
+            move_name(&mut left, numbers, &mut written)?;
+        }
+        left.finish()?;
+        Ok(FunctionItems {
+            left,
+            written,
+            functions,
+            numbers,
         })
     }
 
@@ -88,14 +128,25 @@ impl<'a> FunctionItems<'a> {
         }
     }
 
-    /// Copies the items of the next function unchanged.
+    /// Copies the items of the next function unchanged, after its new index.
     fn carry(&mut self) -> Result<(), ModuleError> {
         let mut input = self.left;
-        match pass_function(&mut input) {
+        let func = match input.number() {
+            Ok(func) => func,
+            Err(error) => return Err(error),
+        };
+        let begin = match self.numbers.are_same() {
+            true => self.left,
+            false => input,
+        };
+        match pass_items(&mut input) {
             Ok(()) => {}
             Err(error) => return Err(error),
         }
-        self.written.extend_from_slice(self.left.until(&input))?;
+        if !self.numbers.are_same() {
+            write_number(&mut self.written, self.numbers.moved(func))?;
+        }
+        self.written.extend_from_slice(begin.until(&input))?;
         self.functions = self.functions.saturating_add(1);
         self.left = input;
         Ok(())
@@ -131,9 +182,12 @@ impl<'a> FunctionItems<'a> {
         Ok(items)
     }
 
-    /// Writes the index of a function, and the number of items that follow.
+    /// Writes the new index of a function, and the number of items that follow.
     fn put_front(&mut self, func: usize, count: usize) -> Result<(), ModuleError> {
-        match write_number(&mut self.written, func) {
+        let Ok(index) = u32::try_from(func) else {
+            return Err(self.left.fault(ModuleFault::TooGreat));
+        };
+        match write_number(&mut self.written, self.numbers.moved(index)) {
             Ok(()) => write_number(&mut self.written, count),
             Err(error) => Err(error),
         }

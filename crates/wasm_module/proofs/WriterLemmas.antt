@@ -1,0 +1,195 @@
+-- A module that is written, in terms of another meaning of what is written for its bodies.
+use Rattle.std.proofs.Common.{◌≡◌, ℕ, zero, ◌+◌, ◌-◌, List, [], ◌∷◌, ◌++◌, length, slice_get, Option, Some, None, Result, Ok, Err, OnOk, IfOk, refl, sym, ap, subst, ◌∙◌, suc, arith}
+use Rattle.std.proofs.lemmas.Option.{same_Some}
+use Rattle.walrus_ir.specs.declared.val_type.ValType.{ValType}
+use Rattle.walrus_body.specs.FunctionParts.{FunctionParts}
+use Rattle.wasm_module.specs.declared.changes.Changes.{Changes as NewSections}
+use Rattle.wasm_module.specs.declared.changing.kept_bodies.KeptBodies.{KeptBodies}
+use Rattle.wasm_module.specs.declared.parsed.ParsedModule.{ParsedModule}
+use Rattle.wasm_module.specs.CodeSections.{BodyAt}
+use Rattle.wasm_module.specs.KeptCode.{bodies_in, raws_in, IsKept, AreKept, AreKeptAs, IsChangedCode}
+use Rattle.wasm_module.specs.RewrittenCode.{Extends, OneChange, FunctionChange, IsChanged, keeps_locals, alike, AreChanged}
+use Rattle.wasm_module.specs.Sections.{SectionAt, IsModule}
+use Rattle.wasm_module.specs.WrittenModules.{Writes, AreWritten, IsWrittenCode, IsWrittenFor, IsWrittenAt, AreWrittenAt, IsWrittenModule}
+use Rattle.wasm_module.specs.WrittenModules.IsWrittenFor.{code, replaced, carried_over, omitted}
+use Rattle.wasm_module.proofs.CodeLemmas.{same_bodies, same_count}
+use Rattle.wasm_module.proofs.KeptLemmas.{bodies_len, raws_len}
+
+-- ---- one meaning for another
+
+-- What is written for a later state of the module is written for the source too, if that holds of each body.
+module _ (v w : Writes) (source now : ParsedModule) (x : Extends source now) (each : (f : ℕ) (b : BodyAt) (raw : List ℕ) → v now f b raw → w source f b raw) where
+  bodies_as : (f : ℕ) (bs : List BodyAt) (raws : List (List ℕ)) → AreWritten v now f bs raws → AreWritten w source f bs raws
+  bodies_as f [] [] h = tt
+  bodies_as f [] (r ∷ raws) h = absurd h
+  bodies_as f (b ∷ bs) [] h = absurd h
+  bodies_as f (b ∷ bs) (r ∷ raws) h = (each f b r h.0, bodies_as (f + 1) bs raws h.1)
+
+  code_as : (s : SectionAt) (text : List ℕ) → IsWrittenCode v now s text → IsWrittenCode w source s text
+  code_as s text h = record {
+    bodies = h.bodies;
+    are_bodies = h.are_bodies;
+    are_all = h.are_all ∙ same_bodies source now x;
+    raws = h.raws;
+    are_written = subst (λ (n : ℕ). AreWritten w source n h.bodies h.raws) x.imported (bodies_as now.imported h.bodies h.raws h.are_written);
+    code_is = h.code_is;
+  }
+
+  module _ (changes : NewSections) where
+    section_as : (s : SectionAt) (text : List ℕ) → IsWrittenFor v now changes s text → IsWrittenFor w source changes s text
+    section_as s text (code contents i h t) = code contents i (code_as s contents h) t
+    section_as s text (replaced contents i h t) = replaced contents i h t
+    section_as s text (carried_over i h t) = carried_over i h t
+    section_as s text (omitted h t) = omitted h t
+
+    sections_as : (all ss : List SectionAt) (text : List ℕ) → AreWrittenAt v now changes all ss text → AreWrittenAt w source changes all ss text
+    sections_as all [] text h = h
+    sections_as all (s ∷ ss) text h = (
+      h.0,
+      h.1,
+      h.2,
+      record { own = h.3.own; is_written = section_as s h.3.own h.3.is_written; text_is = h.3.text_is },
+      sections_as all ss h.1 h.4,
+    )
+
+    pub module_as : (new : List ℕ) → IsWrittenModule v now changes new → IsWrittenModule w source changes new
+    module_as new h = record {
+      sections = h.sections;
+      is_module = subst (λ (l : List ℕ). IsModule l h.sections) x.bytes h.is_module;
+      text = h.text;
+      are_written = sections_as h.sections h.sections h.text h.are_written;
+      new_is = h.new_is;
+    }
+
+-- ---- bodies that are kept
+
+-- the same source at a later state: nothing is said of it
+pub kept_then : (kept : KeptBodies) (source now : ParsedModule) (f : ℕ) (b : BodyAt) (raw : List ℕ) → IsKept kept now f b raw → IsKept kept source f b raw
+kept_then kept source now f b raw h = record { at = h.at; function_is = h.function_is; body_is = h.body_is; raw_is = h.raw_is }
+
+-- the module, of which each body is written as what was kept for it
+pub kept_module :
+    (w : Writes) (source now : ParsedModule) (kept : KeptBodies) (changes : NewSections) (new : List ℕ) → Extends source now → AreKeptAs w source kept →
+    IsWrittenModule (IsKept kept) now changes new → IsWrittenModule w source changes new
+kept_module w source now kept changes new x every h =
+    module_as (IsKept kept) w source now x (λ f b raw k. every f b raw (kept_then kept source now f b raw k)) changes new h
+
+-- ---- functions that are all changed alike
+
+changed_as :
+    (c d : OneChange) (source : ParsedModule) (f : ℕ) (b : BodyAt) (raw : List ℕ) →
+    ((old new : FunctionParts) (old_locals new_locals : List (ValType ℕ)) → c f old new old_locals new_locals → d f old new old_locals new_locals) → IsChanged c source f b raw →
+    IsChanged d source f b raw
+changed_as c d source f b raw each h = record {
+  now = h.now;
+  parsed = h.parsed;
+  is_parsed = h.is_parsed;
+  changed = h.changed;
+  locals = h.locals;
+  is_changed = each h.parsed h.changed h.now.module.locals h.locals h.is_changed;
+  pairs = h.pairs;
+  is_raw_body = h.is_raw_body;
+}
+
+module _ {State : Type 0} (changes : State → (function : ℕ) → (old new : FunctionParts) → Type 0) (source : ParsedModule) where
+  changed_alike :
+      (before after : State) (f : ℕ) (bs : List BodyAt) (raws : List (List ℕ)) (n k : ℕ) (b : BodyAt) (raw : List ℕ) →
+      AreChanged (alike changes) source before f bs raws after → k ≡ f + n → slice_get bs n ≡ Some b → slice_get raws n ≡ Some raw →
+      IsChanged (keeps_locals (changes before)) source k b raw
+  changed_alike before after f [] [] n k b raw h e i j = let no : None ≡ Some b = i in absurd cc
+  changed_alike before after f [] (r ∷ raws) n k b raw h e i j = absurd h
+  changed_alike before after f (a ∷ bs) [] n k b raw h e i j = absurd h
+  changed_alike before after f (a ∷ bs) (r ∷ raws) zero k b raw h e i j =
+      let here =
+      changed_as (alike changes before h.0) (keeps_locals (changes before)) source f a r (λ old new old_locals new_locals c. c.0) h.1 in
+      let same : f ≡ k = omega arith in
+      let body = subst (λ (x : BodyAt). IsChanged (keeps_locals (changes before)) source f x r) (same_Some a b i) here in
+      let bytes = subst (λ (x : List ℕ). IsChanged (keeps_locals (changes before)) source f b x) (same_Some r raw j) body in
+      subst (λ (x : ℕ). IsChanged (keeps_locals (changes before)) source x b raw) same bytes
+  changed_alike before after f (a ∷ bs) (r ∷ raws) (suc n) k b raw h e i j =
+      let next : k ≡ f + 1 + n = omega arith in
+      let there = changed_alike h.0 after (f + 1) bs raws n k b raw h.2 next i j in
+      subst (λ (s : State). IsChanged (keeps_locals (changes s)) source k b raw) h.1.is_changed.1 there
+
+  -- Each body that is kept is that of its function as it is changed in the one state that there is.
+  pub kept_alike : (before after : State) (kept : KeptBodies) → AreKept (alike changes) source before kept after → AreKeptAs (IsChanged (keeps_locals (changes before))) source kept
+  kept_alike before after kept h = λ f b raw k.
+      let place : f ≡ source.imported + k.at = let i = k.function_is in let j = h.first_is in omega arith in
+      changed_alike before after source.imported (bodies_in kept.bodies.items) (raws_in kept.bodies.items) k.at f b raw h.are_changed place k.body_is k.raw_is
+
+-- ---- all that is kept is written, in order
+
+same_items : {A : Type 0} (xs ys : List A) → length xs ≡ length ys → ((n : ℕ) (x : A) → slice_get xs n ≡ Some x → slice_get ys n ≡ Some x) → xs ≡ ys
+same_items [] [] e h = refl
+same_items [] (y ∷ ys) e h = let no : 0 ≡ suc (length ys) = e in absurd (omega arith)
+same_items (x ∷ xs) [] e h = let no : suc (length xs) ≡ 0 = e in absurd (omega arith)
+same_items (x ∷ xs) (y ∷ ys) e h =
+    let len : length xs ≡ length ys = omega (arith, e) in
+    let first = same_Some y x (h zero x refl) in
+    let others = same_items xs ys len (λ n z i. h (suc n) z i) in
+    λ i. sym first i ∷ others i
+
+module _ (kept : KeptBodies) (now : ParsedModule) where
+  body_written :
+      (f : ℕ) (bs : List BodyAt) (raws : List (List ℕ)) (n : ℕ) (b : BodyAt) → AreWritten (IsKept kept) now f bs raws → slice_get bs n ≡ Some b →
+      (raw : List ℕ) × IsKept kept now (f + n) b raw
+  body_written f [] raws n b h i = let no : None ≡ Some b = i in absurd cc
+  body_written f (a ∷ bs) [] n b h i = absurd h
+  body_written f (a ∷ bs) (r ∷ raws) zero b h i =
+      let same : f ≡ f + 0 = omega arith in
+      (r, subst (λ (k : ℕ). IsKept kept now k b r) same (subst (λ (x : BodyAt). IsKept kept now f x r) (same_Some a b i) h.0))
+  body_written f (a ∷ bs) (r ∷ raws) (suc n) b h i =
+      let w = body_written (f + 1) bs raws n b h.1 i in
+      let same : f + 1 + n ≡ f + suc n = omega arith in
+      (w.0, subst (λ (k : ℕ). IsKept kept now k b w.0) same w.1)
+
+  raw_written :
+      (f : ℕ) (bs : List BodyAt) (raws : List (List ℕ)) (n : ℕ) (raw : List ℕ) → AreWritten (IsKept kept) now f bs raws → slice_get raws n ≡ Some raw →
+      (b : BodyAt) × IsKept kept now (f + n) b raw
+  raw_written f [] [] n raw h i = let no : None ≡ Some raw = i in absurd cc
+  raw_written f [] (r ∷ raws) n raw h i = absurd h
+  raw_written f (a ∷ bs) [] n raw h i = absurd h
+  raw_written f (a ∷ bs) (r ∷ raws) zero raw h i =
+      let same : f ≡ f + 0 = omega arith in
+      (a, subst (λ (k : ℕ). IsKept kept now k a raw) same (subst (λ (x : List ℕ). IsKept kept now f a x) (same_Some r raw i) h.0))
+  raw_written f (a ∷ bs) (r ∷ raws) (suc n) raw h i =
+      let w = raw_written (f + 1) bs raws n raw h.1 i in
+      let same : f + 1 + n ≡ f + suc n = omega arith in
+      (w.0, subst (λ (k : ℕ). IsKept kept now k w.0 raw) same w.1)
+
+module _ {State : Type 0} (changes : FunctionChange State) (source : ParsedModule) where
+  pub changed_code :
+      (before after : State) (now : ParsedModule) (kept : KeptBodies) (s : SectionAt) (text : List ℕ) → Extends source now → AreKept changes source before kept after →
+      IsWrittenCode (IsKept kept) now s text → IsChangedCode changes source before s text after
+  changed_code before after now kept s text x k w =
+      let ks = kept.bodies.items in
+      let place : (n at : ℕ) → now.imported + n ≡ kept.first + at → at ≡ n =
+      λ n at e. let i = x.imported in let j = k.first_is in omega arith in
+      let count : length w.bodies ≡ length (bodies_in ks) =
+      let i = w.are_all in let j = same_bodies source now x in let l = k.are_all in let m = bodies_len ks in omega arith in
+      let as_many : length w.raws ≡ length (raws_in ks) =
+      let i = same_count (IsKept kept) now now.imported w.bodies w.raws w.are_written in let m = bodies_len ks in let l = raws_len ks in omega arith in
+      let bodies : w.bodies ≡ bodies_in ks =
+      same_items w.bodies (bodies_in ks) count (λ n b i.
+      let q = body_written kept now now.imported w.bodies w.raws n b w.are_written i in
+      subst (λ (m : ℕ). slice_get (bodies_in ks) m ≡ Some b) (place n q.1.at q.1.function_is) q.1.body_is) in
+      let raws : w.raws ≡ raws_in ks =
+      same_items w.raws (raws_in ks) as_many (λ n raw i.
+      let q = raw_written kept now now.imported w.bodies w.raws n raw w.are_written i in
+      subst (λ (m : ℕ). slice_get (raws_in ks) m ≡ Some raw) (place n q.1.at q.1.function_is) q.1.raw_is) in
+      let with_bodies =
+      subst (λ (l : List BodyAt). AreChanged changes source before source.imported l (raws_in ks) after) (sym bodies) k.are_changed in
+      record {
+        bodies = w.bodies;
+        are_bodies = w.are_bodies;
+        are_all = w.are_all ∙ same_bodies source now x;
+        raws = w.raws;
+        are_changed = subst (λ (l : List (List ℕ)). AreChanged changes source before source.imported w.bodies l after) (sym raws) with_bodies;
+        code_is = w.code_is;
+      }
+
+-- ---- of a result
+
+pub if_both : {A E X : Type 0} {P Q : A → Type 0} (r : Result A E) → OnOk r X → IfOk r P → ((a : A) → X → P a → Q a) → IfOk r Q
+if_both (Ok a) x p f = f a x p
+if_both (Err e) x p f = tt

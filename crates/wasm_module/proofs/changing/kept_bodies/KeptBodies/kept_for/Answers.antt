@@ -1,0 +1,21 @@
+use Rattle.std.proofs.Common.{◌≡◌, List, ◌+◌, Some, length, slice_get, refl, subst, arith, rules}
+use Rattle.std.proofs.lemmas.Option.{slice_get_read}
+use Rattle.wasm_module.specs.declared.changing.kept_bodies.KeptBody.{KeptBody}
+use Rattle.wasm_module.specs.CodeSections.{body_at, bytes_of, place_of}
+use Rattle.wasm_module.proofs.KeptLemmas.{is_kept, same_body}
+use Rattle.wasm_module.proofs.changing.kept_bodies.KeptBodies.kept_for.Goals as goal
+
+pub returns : goal.returns
+returns c = λ source.
+    let kept = c.in-Some-get.kept.now in
+    let b = c.args.body in
+    let at = c.in-Some.at in
+    let place : b.func ≡ c.args.self.now.first + at = search (arith, rules) in
+    let look = c.in-Some-get.ensures.lookup in
+    let all = c.deref.result.now in
+    let there : slice_get all at ≡ Some kept = slice_get_read all (length all) at kept refl look.3.0 look.1 in
+    let found : slice_get c.args.self.now.bodies.items at ≡ Some kept =
+    subst (λ (ks : List KeptBody). slice_get ks at ≡ Some kept) c.deref.ensures.value there in
+    let starts : place_of kept.source ≡ place_of b = search rules in
+    let bytes : bytes_of kept.source ≡ bytes_of b = search rules in
+    is_kept c.args.self.now source b.func (body_at b) at kept place found (same_body (body_at kept.source) (body_at b) starts bytes)

@@ -1,0 +1,128 @@
+//! Changing the functions of a module, the first pass: each is changed once, to find the faults of
+//! bodies and changes, the new size and the new contents of custom sections, before anything is
+//! written; and its new body is kept.
+
+ghost use Rattle.std.specs.Prelude.{◌≡◌, ◌∷◌, ◌++◌, ◌+◌, [], length, OnOk, IfOk};
+ghost use Rattle.wasm_module.specs.declared.parsed.ParsedModule.{ParsedModule as Parsed};
+ghost use Rattle.wasm_module.specs.CodeSections.{body_at};
+ghost use Rattle.wasm_module.specs.KeptCode.{AreKept, KeepsChanged};
+ghost use Rattle.wasm_module.specs.RewrittenCode.{Extends, IsChanged};
+ghost use Rattle.wasm_module.specs.WrittenModules.{new_contents_in};
+
+pub(crate) mod kept_bodies;
+
+use crate::bodies::Scratch;
+use crate::body_writer::ChangeFunction;
+use crate::changes::Changes;
+use crate::changing::kept_bodies::KeptBodies;
+use crate::code::Body;
+use crate::custom::Followers;
+use crate::fault::{ModuleError, ModuleFault};
+use crate::output::number_len;
+use crate::parsed::ParsedModule;
+use crate::rewriting::RewrittenModule;
+use walrus_body::LocalFunction;
+
+impl<'a> ParsedModule<'a> {
+    /// Parses a body, changes its function and its locals, and puts the raw body of the changed
+    /// one and its location pairs into the scratch.
+    fn change_function<C: ChangeFunction>(
+        &mut self,
+        change: &mut C,
+        body: Body<'a>,
+        scratch: &mut Scratch,
+    ) -> Result<LocalFunction, ModuleError>
+        ensures extends { OnOk result (Extends self.old self.new) }
+        ensures changed { (source : Parsed) → Extends source self.old → OnOk result
+            (IsChanged (C.changes (C.state change.old) (C.state change.new))
+            source body.entry.func (body_at body.entry) scratch.new.raw.items) }
+    {
+        let mut function = self.parse(body, scratch)?;
+        change.change(body.func, &mut function, &mut self.module.locals)?;
+        self.write(&function, body.start(), scratch)?;
+        Ok(function)
+    }
+
+    /// Changes the function of a body, and the custom sections along with it, and keeps its new
+    /// body. Returns the number of bytes that it takes in the code section, its size included.
+    fn change_body<C: ChangeFunction>(
+        &mut self,
+        change: &mut C,
+        body: Body<'a>,
+        followers: &mut Followers<'a>,
+        scratch: &mut Scratch,
+        kept: &mut KeptBodies<'a>,
+    ) -> Result<usize, ModuleError>
+        ensures extends { OnOk result (Extends self.old self.new) }
+        ensures changed { (source : Parsed) → Extends source self.old → OnOk result
+            (KeepsChanged (C.changes (C.state change.old) (C.state change.new))
+            source body.entry kept.old kept.new) }
+    {
+        let _needed = followers.reach(body.func)?;
+        let function = self.change_function(change, body, scratch)?;
+        followers.pass(self, body, &function, scratch)?;
+        kept.keep(self.alloc, body, scratch)?;
+        let len = scratch.raw.len();
+        Ok(number_len(len).saturating_add(len))
+    }
+
+    /// Changes the functions of all bodies. Returns the new bodies, and the size of the contents of
+    /// the code section, in bytes.
+    fn change_code<C: ChangeFunction>(
+        &mut self,
+        change: &mut C,
+        followers: &mut Followers<'a>,
+    ) -> Result<(KeptBodies<'a>, usize), ModuleError>
+        ensures extends { OnOk result (Extends self.old self.new) }
+        ensures kept { IfOk result (λ x. AreKept C.changes self.old (C.state change.old) x.0
+            (C.state change.new)) }
+    {
+        let count = self.body_count();
+        let mut kept = KeptBodies::new(self.alloc, self.imported(), count)?;
+        let mut scratch = Scratch::new(self.alloc);
+        let mut len = number_len(count);
+        'bodies: for body in self.bodies() {
+            let more = self.change_body(change, body, followers, &mut scratch, &mut kept)?;
+            len = len.saturating_add(more);
+        }
+        if kept.len() != count {
+            return Err(ModuleError {
+                fault: ModuleFault::BodyCount,
+                at: self.bytes.len(),
+            });
+        }
+        Ok((kept, len))
+    }
+
+    /// Changes the functions that have a body, and these sections. Names of locals and of labels
+    /// and metadata of code are changed along with the functions. The change is asked once for each
+    /// function, in order; `write_module` writes the bodies that are kept from this pass, which take
+    /// the memory of their bytes and some two bytes more for each operator.
+    ///
+    /// # Errors
+    ///
+    /// The first fault of a body, with its place, or that of its change; `InconsistentChange` if
+    /// functions were imported with other changes; or `Memory`.
+    pub fn change_all<C: ChangeFunction>(
+        &mut self,
+        change: &mut C,
+        changes: Changes,
+    ) -> Result<RewrittenModule<'a, KeptBodies<'a>>, ModuleError>
+        ensures extends { OnOk result (Extends self.old self.new) }
+        ensures changed { IfOk result (λ made. AreKept C.changes self.old (C.state change.old)
+            made.bodies (C.state change.new)) }
+        ensures given { IfOk result (λ made. new_contents_in made ≡ changes.given.items) }
+    {
+        self.check_imports(&changes)?;
+        let mut followers = Followers::read(self)?;
+        let (bodies, code_len) = self.change_code(change, &mut followers)?;
+        let (followed, notes) = followers.finish(self.alloc)?;
+        Ok(RewrittenModule {
+            bodies,
+            changes,
+            followed,
+            code_len,
+            notes,
+        })
+    }
+}
