@@ -1,5 +1,8 @@
 //! Tables of modules, with the result for each and the expected result, as text. A module is given
 //! as its preamble and its sections in hexadecimal, with spaces between them.
+use crate::importing::{forgotten_text, imported_text, late_text, traced_text};
+use crate::new_locals::with_locals_text;
+use crate::numbering::{numbered_map, numbered_other, numbered_text};
 use crate::tools::{bodies_text, counted_text, snipped_text};
 use crate::whole_modules::{map_or_faults, notes_of, rewritten_text};
 use std::alloc::Global;
@@ -22,8 +25,24 @@ pub(crate) enum Query<'i> {
     MapOrFaults,
     /// The module where each function counts its calls, in hexadecimal.
     Counted,
+    /// The module where each function begins with its number, in hexadecimal.
+    Numbered,
+    /// The location map of that module.
+    NumberedMap,
+    /// What another module is when it is written with the bodies of that module.
+    NumberedOther(&'i str),
+    /// The module where each function gets two locals more, in hexadecimal.
+    WithLocals,
     /// The module without the bodies of these functions, in hexadecimal.
     Snipped(&'i [usize]),
+    /// The module with this number of imported functions more, in hexadecimal.
+    Imported(usize),
+    /// The module where each function calls an imported one first, in hexadecimal.
+    Traced,
+    /// The module that is rewritten without the changes that import a function.
+    Forgotten,
+    /// The module that was rewritten before a function is imported.
+    Late,
 }
 
 /// The bytes of a module.
@@ -60,7 +79,15 @@ fn returned(
         Query::Notes => notes_of(alloc, parsed),
         Query::MapOrFaults => map_or_faults(alloc, parsed),
         Query::Counted => counted_text(alloc, parsed),
+        Query::Numbered => numbered_text(alloc, parsed),
+        Query::NumberedMap => numbered_map(alloc, parsed),
+        Query::NumberedOther(other) => numbered_other(alloc, parsed, other),
+        Query::WithLocals => with_locals_text(alloc, parsed),
         Query::Snipped(functions) => snipped_text(alloc, parsed, functions),
+        Query::Imported(count) => imported_text(alloc, parsed, count),
+        Query::Traced => traced_text(alloc, parsed),
+        Query::Forgotten => forgotten_text(alloc, parsed),
+        Query::Late => late_text(alloc, parsed),
     }
 }
 

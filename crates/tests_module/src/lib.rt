@@ -4,11 +4,19 @@
 #![tactic(auto)]
 
 #[cfg(test)]
+mod additions;
+#[cfg(test)]
 mod cases;
 #[cfg(test)]
 mod every_operator;
 #[cfg(test)]
+mod importing;
+#[cfg(test)]
 mod mappings;
+#[cfg(test)]
+mod new_locals;
+#[cfg(test)]
+mod numbering;
 #[cfg(test)]
 mod tools;
 #[cfg(test)]

@@ -10,7 +10,7 @@ use wasm_module::{BodyWriter, Note, ParsedModule, RewrittenModule, Scratch, Sect
 /// structs, of which the second is a subtype of the first; an array of i16; from an i32 to nothing.
 /// A function, a table, a memory, a global and a tag are imported. There are tables with a maximum,
 /// with an expression, and with numbers of 64 bits, and element segments of all eight kinds.
-const EVERY_SECTION: &str = "0061736d01000000 0007056669727374ff \
+pub(crate) const EVERY_SECTION: &str = "0061736d01000000 0007056669727374ff \
     01260560000060017f017f4e0250005f027f0178004f01025f037f0178006402005e770160017f00 00020161 \
     022505016d01660000016d01740170010105016d016e020001016d0167037f00016d0178040005 0303020100 \
     0410037000014000700001d2000b6f050102 0509030101020401030101 0d03010000 00020161 \
@@ -301,7 +301,7 @@ pub(crate) fn notes_of(alloc: Global, parsed: &mut ParsedModule<'_>) -> Result<S
 }
 
 /// Appends the location map of the module that is written for a source.
-fn push_map_with<B: BodyWriter>(
+pub(crate) fn push_map_with<B: BodyWriter>(
     alloc: Global,
     parsed: &mut ParsedModule<'_>,
     rewritten: &RewrittenModule<'_, B>,
