@@ -8,6 +8,8 @@ mod additions;
 #[cfg(test)]
 mod cases;
 #[cfg(test)]
+mod defining;
+#[cfg(test)]
 mod every_operator;
 #[cfg(test)]
 mod importing;

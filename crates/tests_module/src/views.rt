@@ -94,6 +94,19 @@ fn push_named(text: &mut String, functions: NamedFunctions<'_>) -> Result<(), Mo
     Ok(())
 }
 
+// Appends the start function, and the places of the bodies of the first functions.
+fn push_bodies(text: &mut String, parsed: &ParsedModule<'_>) -> Result<(), Fail> {
+    if let Ok(Some(start)) = parsed.start() {
+        write!(text, "starts with {}; ", start.index())?;
+    }
+    for index in 0..4 {
+        if let Some(body) = parsed.body_of(index) {
+            write!(text, "{index} at {}; ", body.start())?;
+        }
+    }
+    Ok(())
+}
+
 // Appends the name of a custom section, and the names of functions in it.
 fn push_section(text: &mut String, section: &Section<'_>) -> Result<(), ModuleError> {
     let name = match section.name() {
@@ -163,6 +176,32 @@ fn views_a_module(rt: HostRuntime) -> Result<(), Fail> {
         "g funcs 1 at 36; m.f Func(1) at 22; 0: 0 to 0; 1: 1 to 1 at 84; 2: 0 to 0 at 123; \
         2 2 0 metadata.code.branch_hint name 0 f at 147, 1 g at 150, 2 h at 153, sourceMappingURL ";
     assert_eq!(rt; found.as_str(), expected);
+    Ok(())
+}
+
+fn bodies_of(alloc: Global, module: &str) -> Result<String, Fail> {
+    let bytes = bytes_of(alloc, module)?;
+    match ParsedModule::read(alloc, &bytes) {
+        Ok(parsed) => {
+            let mut text = String::new(alloc);
+            push_bodies(&mut text, &parsed)?;
+            Ok(text)
+        }
+        Err(error) => fault_text(alloc, error),
+    }
+}
+
+/// Two functions with bodies after an imported one, without a start function; and an imported
+/// function, one with a body at 34, and a start section that names this one.
+#[test]
+fn finds_bodies(rt: HostRuntime) -> Result<(), Fail> {
+    let found = bodies_of(rt.alloc(), FOLLOWED)?;
+    assert_eq!(rt; found.as_str(), "1 at 84; 2 at 123; ");
+    let starting = "0061736d01000000 010401600000 020701016d01660000 03020100 080101 0a040102000b";
+    let found = bodies_of(rt.alloc(), starting)?;
+    assert_eq!(rt; found.as_str(), "starts with 1; 1 at 34; ");
+    let found = bodies_of(rt.alloc(), "0061736d01000000")?;
+    assert_eq!(rt; found.as_str(), "");
     Ok(())
 }
 

@@ -1,15 +1,18 @@
 -- The code section that is written, one body after the other.
-use Rattle.std.proofs.Common.{◌≡◌, ℕ, ◌+◌, ◌-◌, List, [], ◌∷◌, ◌++◌, length, Option, Some, None, Ok, refl, sym, ap, subst, ◌∙◌, append_assoc, length-append, suc, arith}
+use Rattle.std.proofs.Common.{◌≡◌, ℕ, ◌+◌, ◌-◌, ◌<◌, List, [], ◌∷◌, ◌++◌, length, Option, Some, None, Ok, refl, sym, ap, subst, ◌∙◌, append_assoc, length-append, suc, arith}
 use Rattle.std.proofs.lemmas.List.{append-nil}
-use Rattle.wasm_numbers.specs.Numbers.{u32}
+use Rattle.std.specs.Prelude.{◌^◌}
+use Rattle.wasm_numbers.specs.Numbers.{u32, unsigned}
+use Rattle.wasm_numbers.proofs.NumberLaws.{integers_agree}
 use Rattle.wasm_operators.specs.Shortest.{short_number}
+use Rattle.wasm_operators.proofs.ShortestNumbers.{unsigned_spelt}
 use Rattle.wasm_module.specs.declared.code.Bodies.{Bodies}
 use Rattle.wasm_module.specs.declared.code.Body.{Body}
 use Rattle.wasm_module.specs.declared.parsed.ParsedModule.{ParsedModule}
 use Rattle.wasm_module.specs.CodeSections.{entry, entries, code_section, BodyAt, AreBodies, IsCode, body_at, bytes_of, place_of, TakesBody}
 use Rattle.wasm_module.specs.RewrittenCode.{Extends}
 use Rattle.wasm_module.specs.Sections.{SectionAt}
-use Rattle.wasm_module.specs.WrittenModules.{Puts, Writes, AreWritten, IsWrittenCode, count_bodies}
+use Rattle.wasm_module.specs.WrittenModules.{Puts, Writes, AreWritten, HasItemsOf, IsWrittenCode, count_bodies}
 use Rattle.wasm_module.proofs.WritingLemmas.{puts_then, puts_same}
 
 -- ---- one more after others
@@ -17,6 +20,10 @@ use Rattle.wasm_module.proofs.WritingLemmas.{puts_then, puts_same}
 entries_more : (raws : List (List ℕ)) (raw : List ℕ) → entries (raws ++ raw ∷ []) ≡ entries raws ++ entry raw
 entries_more [] raw = append-nil (entry raw)
 entries_more (r ∷ raws) raw = ap (λ (x : List ℕ). entry r ++ x) (entries_more raws raw) ∙ sym (append_assoc (entry r) (entries raws) (entry raw))
+
+-- the shortest encoding of a number is read
+pub short_read : (n : ℕ) (following : List ℕ) → n < 2 ^ 32 → u32 (short_number n ++ following) ≡ Ok (n, following)
+short_read n following h = (integers_agree unsigned 32).again n (short_number n) following (unsigned_spelt 9 32 n (omega arith) h)
 
 -- these bodies come first, and then the bytes that are left
 abbrev pub ComeFirst : (end : ℕ) → (text : List ℕ) → List BodyAt → (left : List ℕ) → Type 0
@@ -105,14 +112,17 @@ module _ (writes : Writes) (source : ParsedModule) where
             (puts_then old now later at middle end (short_number count ++ entries p.raws) (entry raw) p.puts q);
       }
 
+  -- All bodies are written, with a greater count, and then those that are added.
   pub all_bodies :
-      (now : ParsedModule) (s : SectionAt) (text : List ℕ) (left : Bodies) (count : ℕ) (old new : Option (List ℕ)) (at end : ℕ) → Extends source now → u32 s.contents ≡ Ok (count, text) →
-      count ≡ count_bodies now → CodeSoFar s.end text left count count old new at end → left.left.rest.now ≡ [] →
-      (code : List ℕ) × IsWrittenCode writes source s code × Puts old new at end code
-  all_bodies now s text left count old new at end x e n p done =
+      (now : ParsedModule) (s : SectionAt) (text : List ℕ) (left : Bodies) (count more : ℕ) (given added : List ℕ) (old middle new : Option (List ℕ)) (at between end : ℕ) → Extends source now →
+      u32 s.contents ≡ Ok (count, text) → count ≡ count_bodies now → count < 2 ^ 32 → CodeSoFar s.end text left count (count + more) old middle at between → left.left.rest.now ≡ [] →
+      u32 given ≡ Ok (more, added) → Puts middle new between end added →
+      (code : List ℕ) × IsWrittenCode writes source s code × (contents : List ℕ) × HasItemsOf code given contents × Puts old new at end contents
+  all_bodies now s text left count more given added old middle new at between end x e n small p done g q =
       let all : length p.bodies ≡ count = p.count_is in
       let code_is : short_number count ++ entries p.raws ≡ code_section p.raws =
-      ap (λ (n : ℕ). short_number n ++ entries p.raws) (sym all ∙ same_count source.imported p.bodies p.raws p.are_written) in (
+      ap (λ (n : ℕ). short_number n ++ entries p.raws) (sym all ∙ same_count source.imported p.bodies p.raws p.are_written) in
+      let front = short_number (count + more) in (
         short_number count ++ entries p.raws,
         record {
           bodies = p.bodies;
@@ -122,5 +132,16 @@ module _ (writes : Writes) (source : ParsedModule) where
           are_written = p.are_written;
           code_is = code_is;
         },
-        p.puts,
+        front ++ (entries p.raws ++ added),
+        record {
+          count = count;
+          items = entries p.raws;
+          first_is = short_read count (entries p.raws) small;
+          more = more;
+          others = added;
+          second_is = g;
+          contents_are = refl;
+        },
+        puts_same old new at end ((front ++ entries p.raws) ++ added) (front ++ (entries p.raws ++ added)) (append_assoc front (entries p.raws) added)
+            (puts_then old middle new at between end (front ++ entries p.raws) added p.puts q),
       )

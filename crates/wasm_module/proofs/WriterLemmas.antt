@@ -37,7 +37,7 @@ module _ (v w : Writes) (source now : ParsedModule) (x : Extends source now) (ea
 
   module _ (changes : NewSections) where
     section_as : (s : SectionAt) (text : List ℕ) → IsWrittenFor v now changes s text → IsWrittenFor w source changes s text
-    section_as s text (code contents i h t) = code contents i (code_as s contents h) t
+    section_as s text (code bodies contents i h m t) = code bodies contents i (code_as s bodies h) m t
     section_as s text (replaced contents i h t) = replaced contents i h t
     section_as s text (carried_over i h t) = carried_over i h t
     section_as s text (omitted h t) = omitted h t

@@ -21,5 +21,6 @@ pub mod ImportedFunctions
 -- new contents of sections, and items that are added after those of a section
 pub mod Additions
 pub mod AddedItems
+pub mod AddedFunctions
 -- bodies that are kept from the first pass to the second, as they were changed
 pub mod KeptCode

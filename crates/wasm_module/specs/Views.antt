@@ -48,6 +48,11 @@ abbrev pub HasSomeItems : Option SectionAt → (count : ℕ) → Type 0
 HasSomeItems None count = count ≡ 0
 HasSomeItems (Some section) count = (text : List ℕ) × (u32 section.contents ≡ Ok (count, text))
 
+-- The function that a start section names (binary format, start section); none without the section.
+abbrev pub HasStart : Option SectionAt → (function : Option ℕ) → Type 0
+HasStart None function = function ≡ None
+HasStart (Some section) function = (index : ℕ) × (following : List ℕ) × (u32 section.contents ≡ Ok (index, following)) × (function ≡ Some index)
+
 -- the place where the items that are left begin
 abbrev pub place_of_items : Items → ℕ
 place_of_items s = s.left.end - length s.left.rest.now

@@ -4,6 +4,7 @@
 use Rattle.std.specs.Prelude.{◌≡◌, ◌≢◌, ◌⊎◌, ◌+◌, ◌-◌, ℕ, zero, suc, List, [], ◌∷◌, ◌++◌, length, Bool, true, ◌==◌, ◌&&◌, nat_lt, if◌then◌else◌, Option, Some, None, Ok, codes}
 use Rattle.std.specs.Io.KnownBytes.{Appends}
 use Rattle.wasm_numbers.specs.Numbers.{u32}
+use Rattle.wasm_operators.specs.Shortest.{short_number}
 use Rattle.wasm_module.specs.declared.changes.Changes.{Changes}
 use Rattle.wasm_module.specs.declared.changes.NewContents.{NewContents}
 use Rattle.wasm_module.specs.declared.parsed.ParsedModule.{ParsedModule}
@@ -82,6 +83,25 @@ pub record IsOmitted (changes : Changes) (s : SectionAt) : Type 0 where
 
 -- ---- bodies
 
+-- the contents of a code section, or those of one without bodies
+abbrev pub bodies_or_none : Option (List ℕ) → List ℕ
+bodies_or_none (Some contents) = contents
+bodies_or_none None = 0 ∷ []
+
+-- the bodies that changes add to the code section, as the contents of one: their number, and each after its size
+abbrev pub added_bodies : Changes → List ℕ
+added_bodies changes = bodies_or_none (contents_in changes.given.items 10)
+
+-- The contents of a section that has the items of two, one after the other: their number is the sum.
+pub record HasItemsOf (first second contents : List ℕ) : Type 0 where
+  pub count : ℕ
+  pub items : List ℕ
+  pub first_is : u32 first ≡ Ok (count, items)
+  pub more : ℕ
+  pub others : List ℕ
+  pub second_is : u32 second ≡ Ok (more, others)
+  pub contents_are : contents ≡ short_number (count + more) ++ (items ++ others)
+
 -- how many functions have a body: those that aren't imported
 abbrev pub count_bodies : ParsedModule → ℕ
 count_bodies source = length source.func_types.items - source.imported
@@ -97,8 +117,8 @@ module _ (writes : Writes) (source : ParsedModule) where
   AreWritten function (b ∷ bs) (raw ∷ raws) = writes source function b raw × AreWritten (function + 1) bs raws
   AreWritten function _ _ = ⊥
 
-  -- The contents of the code section that is written: all bodies of the source's code section, in order, one for each function
-  -- that isn't imported, each as it is written, after its size.
+  -- What the code section that is written begins with, as the contents of one: all bodies of the source's code section, in order,
+  -- one for each function that isn't imported, each as it is written, after its size.
   pub record IsWrittenCode (s : SectionAt) (code : List ℕ) : Type 0 where
     pub bodies : List BodyAt
     pub are_bodies : IsCode s.end s.contents bodies
@@ -112,7 +132,9 @@ module _ (writes : Writes) (source : ParsedModule) where
   module _ (changes : Changes) where
     -- These bytes are written for a section.
     pub data IsWrittenFor (s : SectionAt) (text : List ℕ) : Type 0 where
-      code : (contents : List ℕ) → s.id ≡ 10 → IsWrittenCode s contents → text ≡ section 10 contents → IsWrittenFor s text
+      code :
+          (bodies contents : List ℕ) → s.id ≡ 10 → IsWrittenCode s bodies → HasItemsOf bodies (added_bodies changes) contents →
+          text ≡ section 10 contents → IsWrittenFor s text
       replaced : (contents : List ℕ) → s.id ≢ 10 → IsReplacedBy changes s contents → text ≡ section s.id contents → IsWrittenFor s text
       carried_over : s.id ≢ 10 → IsCarriedOver changes s → text ≡ s.whole → IsWrittenFor s text
       omitted : IsOmitted changes s → text ≡ [] → IsWrittenFor s text

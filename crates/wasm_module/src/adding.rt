@@ -8,6 +8,7 @@ ghost use Rattle.wasm_module.specs.ImportedFunctions.{IsWrittenFunction};
 ghost use Rattle.wasm_module.specs.Sections.{SectionAt, IsModule, id_of};
 
 mod data;
+mod functions;
 mod types;
 
 use crate::changes::Changes;

@@ -12,14 +12,14 @@ use std::alloc::Global;
 /// New contents for the section of a kind. If the module has no such section, a new one is written.
 #[derive(Drop)]
 pub(crate) struct NewContents {
-    /// The kind of the section, neither `Custom` nor `Code`.
+    /// The kind of the section, not `Custom`. For `Code` the contents are the bodies that are added.
     pub kind: SectionKind,
     /// The new contents, without the section's id and size.
     pub contents: Vec<u8>,
 }
 
 /// New contents of sections, at most one for each kind, in the order of the sections in a module.
-/// There are none for the code section and for custom sections.
+/// There are none for custom sections, and for the code section only bodies that are added to it.
 #[derive(Drop)]
 pub struct Changes {
     pub(crate) given: Vec<NewContents>,
@@ -66,7 +66,7 @@ impl Changes {
 
     /// Puts contents in place of those that are given for their section, or before those of the
     /// sections after it.
-    fn put(&mut self, given: NewContents) -> Result<(), ModuleError>
+    pub(crate) fn put(&mut self, given: NewContents) -> Result<(), ModuleError>
         ensures sets { OnOk result (SetsContents self.old self.new (id_of given.kind)
             given.contents.items) }
         ensures refused { OnErr result (AreUnchanged self.old self.new) }
@@ -106,8 +106,8 @@ impl Changes {
         }
     }
 
-    /// The new contents of the section of this kind, without its id and size; `None` if no call of
-    /// `set_contents` has set them.
+    /// The new contents of the section of this kind, without its id and size; `None` if no call has
+    /// set them. For the code section they are the bodies that were added to it, and their number.
     pub fn contents_of(&self, kind: SectionKind) -> Option<&[u8]>
         ensures some { IfSome result (λ contents. contents_in self.now.given.items (id_of kind)
             ≡ Some contents.now) }

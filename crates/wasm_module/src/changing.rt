@@ -102,7 +102,7 @@ impl<'a> ParsedModule<'a> {
     /// # Errors
     ///
     /// The first fault of a body, with its place, or that of its change; `InconsistentChange` if
-    /// functions were imported with other changes; or `Memory`.
+    /// functions were imported or added with other changes; or `Memory`.
     pub fn change_all<C: ChangeFunction>(
         &mut self,
         change: &mut C,
@@ -113,9 +113,10 @@ impl<'a> ParsedModule<'a> {
             made.bodies (C.state change.new)) }
         ensures given { IfOk result (λ made. new_contents_in made ≡ changes.given.items) }
     {
-        self.check_imports(&changes)?;
+        self.check_functions(&changes)?;
         let mut followers = Followers::read(self)?;
-        let (bodies, code_len) = self.change_code(change, &mut followers)?;
+        let (bodies, source_len) = self.change_code(change, &mut followers)?;
+        let code_len = self.code_len_with(&changes, source_len)?;
         let (followed, notes) = followers.finish(self.alloc)?;
         Ok(RewrittenModule {
             bodies,

@@ -103,8 +103,14 @@ pub enum ModuleFault {
     /// An export that is to be added has the name of an existing one.
     #[error("an export has this name already")]
     ExportTaken,
+    /// A function that is to be added doesn't have as many arguments as its type has parameters.
+    #[error("a function does not have as many arguments as parameters")]
+    ArgumentCount,
+    /// A function is imported after a function with a body was added, whose index would change.
+    #[error("a function is imported after one was added")]
+    LateImport,
     /// The code has another size when it is written than before, so a caller's own `BodyWriter`
-    /// wrote other bodies the second time; or functions were imported with other changes.
+    /// wrote other bodies the second time; or functions were imported or added with other changes.
     #[error("a function is changed otherwise than before")]
     InconsistentChange,
     /// A count or a size doesn't fit 32 bits, or there are 2^32 items.

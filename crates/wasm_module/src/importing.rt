@@ -71,7 +71,7 @@ impl<'a> ParsedModule<'a> {
     }
 
     /// The index of a function type in the module that is written.
-    fn imported_type(&self, ty: TypeId) -> Result<u32, ModuleError>
+    pub(crate) fn imported_type(&self, ty: TypeId) -> Result<u32, ModuleError>
         ensures { IfOk result (λ index. number_of self.now.spaces.numbers Types ty ≡ Ok index) }
     {
         if !self.module.types.is_func(ty) {
@@ -241,15 +241,17 @@ impl<'a> ParsedModule<'a> {
     /// The ids of functions stay the indices of the source. Only the contents that the changes give
     /// contain indices of the module that is written, as it is then: this call changes them too.
     ///
+    /// Functions with a body can be added only after all imports (`add_function`).
+    ///
     /// From this call on the module can be rewritten and written only with these changes, and not if
     /// it was rewritten before.
     ///
     /// # Errors
     ///
-    /// `InconsistentChange` if functions were imported with other changes; `NotAFunctionType` if the
-    /// type isn't a function type of the module; the first fault of the contents of a section, with
+    /// `InconsistentChange` if functions were imported with other changes; `LateImport` if a function
+    /// was added; `NotAFunctionType` if the type isn't a function type of the module; the first fault of the contents of a section, with
     /// its place among them; `TooGreat` if the type has no index, or a number doesn't fit 32 bits; or
-    /// `Memory`. The module is as before then, but if it isn't one of the first two, the changes can't
+    /// `Memory`. The module is as before then, but if it isn't one of the first three, the changes can't
     /// be used any more.
     pub fn import_function(
         &mut self,
@@ -265,6 +267,7 @@ impl<'a> ParsedModule<'a> {
         ensures err { OnErr result (self.new ≡ self.old) }
     {
         self.check_imports(changes)?;
+        self.check_none_added()?;
         let index = self.imported_type(ty)?;
         let numbers = self.next_numbers()?;
         let item = import_item(self.alloc, from, name, index)?;

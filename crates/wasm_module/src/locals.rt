@@ -26,7 +26,7 @@ pub(crate) struct Locals {
 
 impl Locals {
     /// The parameters of a function.
-    fn of_params(alloc: Global, params: &[ValType]) -> Result<Locals, ModuleError>
+    pub(crate) fn of_params(alloc: Global, params: &[ValType]) -> Result<Locals, ModuleError>
         ensures types { IfOk result (λ locals. locals.types ≡ params.now) }
         ensures count { IfOk result (λ locals. locals.count ≡ length params.now) }
         ensures refused { IfErr result (λ e. e.fault ≡ Memory) }

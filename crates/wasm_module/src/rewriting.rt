@@ -174,7 +174,7 @@ impl<'a> ParsedModule<'a> {
     /// # Errors
     ///
     /// The first fault of a body, with its place, or why it isn't written; `InconsistentChange` if
-    /// functions were imported with other changes; or `Memory`.
+    /// functions were imported or added with other changes; or `Memory`.
     pub fn rewrite_with<B: BodyWriter + Drop>(
         &mut self,
         bodies: B,
@@ -184,9 +184,10 @@ impl<'a> ParsedModule<'a> {
         ensures bodies { IfOk result (λ made. made.bodies ≡ bodies) }
         ensures given { IfOk result (λ made. new_contents_in made ≡ changes.given.items) }
     {
-        self.check_imports(&changes)?;
+        self.check_functions(&changes)?;
         let mut followers = Followers::read(self)?;
-        let code_len = self.measure_code(&bodies, &mut followers)?;
+        let source_len = self.measure_code(&bodies, &mut followers)?;
+        let code_len = self.code_len_with(&changes, source_len)?;
         let (followed, notes) = followers.finish(self.alloc)?;
         Ok(RewrittenModule {
             bodies,

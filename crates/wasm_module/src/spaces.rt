@@ -1,8 +1,8 @@
 //! The index spaces of a module: everything in them keeps its index, unless functions are imported.
 
-ghost use Rattle.std.specs.Prelude.{◌≡◌, ◌<◌, ◌≤◌, ◌^◌, ℕ, Ok, IsErr, OnOk, IfErr};
+ghost use Rattle.std.specs.Prelude.{◌≡◌, ◌<◌, ◌≤◌, ◌+◌, ◌-◌, ◌^◌, ℕ, Ok, IsErr, OnOk, IfOk, IfErr, IfSome};
 ghost use Rattle.wasm_body.specs.declared.error.IndexError.TheVariants as index;
-ghost use Rattle.wasm_operators.specs.declared.types.Space.TheVariants.{Types};
+ghost use Rattle.wasm_operators.specs.declared.types.Space.TheVariants.{Types, Funcs};
 ghost use Rattle.walrus_maps.specs.IndexMaps.{locals_in, local_of, number_of, with_next_number};
 ghost use Rattle.wasm_module.specs.Declarations.{first_numbers};
 
@@ -35,6 +35,8 @@ pub(crate) struct Spaces {
     pub counts: Counts,
     /// The number of functions that are imported besides those of the source.
     pub more_imports: usize,
+    /// The number of functions with a body that are added to those of the source.
+    pub more_functions: usize,
     /// The number of indices of locals with ids, which equal the indices.
     locals: usize,
     ghost local_ids: { locals_in indices 0 ≡ first_numbers locals },
@@ -61,6 +63,17 @@ macro_rules! add_next {
     }};
 }
 
+/// The sum of the numbers of functions of the source, of those that are imported besides, and of
+/// those that are added, if there may be one more.
+fn next_func(total: usize, imports: usize, functions: usize) -> Option<usize>
+    ensures sum { IfSome result (λ next. next ≡ total + (imports + functions)) }
+    ensures few { IfSome result (λ next. next < 2 ^ 64 - 1) }
+{
+    let next = total.checked_add(imports.checked_add(functions)?)?;
+    next.checked_add(1)?;
+    Some(next)
+}
+
 impl Spaces {
     ghost use Rattle.wasm_module.specs.RewrittenCode.{HasOtherLocals};
 
@@ -71,6 +84,7 @@ impl Spaces {
             numbers: IdsToIndices::new(alloc),
             counts: Counts::default(),
             more_imports: 0,
+            more_functions: 0,
             locals: 0,
         }
     }
@@ -87,6 +101,39 @@ impl Spaces {
     /// Gives a function the next index.
     pub fn add_func(&mut self, id: FunctionId) -> Result<(), IndexError> {
         add!(self, id, push_func, get_func_index)
+    }
+
+    /// Adds a function with a body after all functions, to a module whose source has `total`
+    /// functions. Its id is its index in the module that is written, and comes after all others.
+    ///
+    /// # Errors
+    ///
+    /// `TooMany` if there are 2^32 functions; or `Memory`.
+    pub fn define_func(&mut self, total: usize) -> Result<FunctionId, IndexError>
+        ensures id { IfOk result (λ id. id
+            ≡ total + (self.old.more_imports + self.old.more_functions)) }
+        ensures number { IfOk result (λ id. number_of self.new.numbers Funcs id ≡ Ok id) }
+        ensures numbers { IfOk result
+            (λ id. self.new.numbers ≡ with_next_number Funcs id self.old.numbers) }
+        ensures more { OnOk result (self.new.more_functions ≡ self.old.more_functions + 1) }
+        ensures more_imports { self.new.more_imports ≡ self.old.more_imports }
+        ensures indices { self.new.indices ≡ self.old.indices }
+    {
+        let Some(next) = next_func(total, self.more_imports, self.more_functions) else {
+            return Err(IndexError::TooMany);
+        };
+        let id = FunctionId::new(next);
+        match self.numbers.get_func_index(id) {
+            Ok(_) => return Err(IndexError::TooMany),
+            Err(_) => self.numbers.push_func(id)?,
+        }
+        match self.numbers.get_func_index(id) {
+            Ok(index) if index as usize == id.index() => {
+                self.more_functions += 1;
+                Ok(id)
+            }
+            _ => Err(IndexError::TooMany),
+        }
     }
 
     /// Adds a table, whose id is its index.

@@ -1,12 +1,12 @@
 //! Views of a module that was read: its sections by kind, and the items in them. They take no
 //! memory.
 
-ghost use Rattle.std.specs.Prelude.{◌≡◌, List, length, option_map, Ok, IfOk};
+ghost use Rattle.std.specs.Prelude.{◌≡◌, List, length, option_map, Ok, IfOk, IfSome};
 ghost use Rattle.wasm_numbers.specs.Numbers.{u32};
 ghost use Rattle.wasm_module.specs.Sections.{SectionAt, IsModule, first_with, id_of, section_at};
-ghost use Rattle.wasm_module.specs.Views.{HasItems, HasBodies, HasSomeItems};
+ghost use Rattle.wasm_module.specs.Views.{HasItems, HasBodies, HasSomeItems, HasStart};
 
-use crate::code::Bodies;
+use crate::code::{Bodies, Body};
 use crate::exports::Exports;
 use crate::fault::ModuleError;
 use crate::functions::Functions;
@@ -18,6 +18,7 @@ use crate::parsed::ParsedModule;
 use crate::sections::{Section, SectionKind, Sections};
 use crate::tables::Tables;
 use crate::tags::Tags;
+use walrus_ir::FunctionId;
 
 /// The items of a section that are left, and their number.
 #[derive(Clone, Copy)]
@@ -98,6 +99,28 @@ impl<'a> ParsedModule<'a> {
     {
         match self.items(kind) {
             Ok(items) => Ok(items.count),
+            Err(error) => Err(error),
+        }
+    }
+
+    /// The start function, which the start section names, if there is one.
+    ///
+    /// # Errors
+    ///
+    /// None, since the sections were read before.
+    pub fn start(&self) -> Result<Option<FunctionId>, ModuleError>
+        ensures { (all : List SectionAt) → IsModule self.now.bytes.now all
+            → IfOk result (HasStart (first_with 8 all)) }
+    {
+        match self.section(SectionKind::Start) {
+            Ok(Some(section)) => {
+                let mut contents = section.contents;
+                match contents.number() {
+                    Ok(index) => Ok(Some(FunctionId::new(index as usize))),
+                    Err(error) => Err(error),
+                }
+            }
+            Ok(None) => Ok(None),
             Err(error) => Err(error),
         }
     }
@@ -217,6 +240,20 @@ impl<'a> ParsedModule<'a> {
             }),
             Err(error) => Err(error),
         }
+    }
+
+    /// The body of the function with this index, as `bodies` gives it; `None` if it is imported, or
+    /// if there is no such function. It is found by going over the bodies before it: a tool that
+    /// needs those of many functions goes over `bodies` once.
+    pub fn body_of(&self, index: usize) -> Option<Body<'a>>
+        ensures { IfSome result (λ body. body.func ≡ index) }
+    {
+        'bodies: for body in self.bodies() {
+            if body.func == index {
+                return Some(body);
+            }
+        }
+        None
     }
 
     /// The bodies of the code section; none if there is no code section.

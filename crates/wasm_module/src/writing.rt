@@ -8,7 +8,7 @@ ghost use Rattle.wasm_module.specs.declared.parsed.ParsedModule.{ParsedModule as
 ghost use Rattle.wasm_module.specs.CodeSections.{body_at, entry};
 ghost use Rattle.wasm_module.specs.RewrittenCode.{Extends};
 ghost use Rattle.wasm_module.specs.Sections.{id_of, section as whole_section, section_at, SectionAt, IsModule};
-ghost use Rattle.wasm_module.specs.WrittenModules.{Puts, new_contents_in, between, new_after, IsWrittenCode, IsWrittenFor, IsWrittenAt, IsWrittenModule};
+ghost use Rattle.wasm_module.specs.WrittenModules.{Puts, new_contents_in, between, new_after, added_bodies, HasItemsOf, IsWrittenCode, IsWrittenFor, IsWrittenAt, IsWrittenModule};
 
 use crate::bodies::Scratch;
 use crate::body_writer::{BodyWriter, Needed};
@@ -167,10 +167,11 @@ impl<'a> ParsedModule<'a> {
         put(raw, start, out)
     }
 
-    /// Writes the contents of the code section: the number of bodies, then each after its size.
+    /// Writes the contents of the code section: the number of bodies, then each after its size, and
+    /// then those that are added.
     fn put_code<B: BodyWriter, T: MapSink, W: Write>(
         &mut self,
-        bodies: &B,
+        rewritten: &RewrittenModule<'_, B>,
         section: &Section<'a>,
         sink: &mut T,
         at: usize,
@@ -179,23 +180,25 @@ impl<'a> ParsedModule<'a> {
         ensures extends { OnOk result (Extends self.old self.new) }
         ensures written { (source : Parsed) → Extends source self.old
             → IfOk result (λ end. (code : List ℕ)
-            × IsWrittenCode (B.writes bodies.now) source (section_at section.now) code
-            × Puts (W.contents out.old) (W.contents out.new) at end code) }
+            × IsWrittenCode (B.writes rewritten.now.bodies) source (section_at section.now) code
+            × (contents : List ℕ) × HasItemsOf code (added_bodies rewritten.now.changes) contents
+            × Puts (W.contents out.old) (W.contents out.new) at end contents) }
     {
         let mut scratch = Scratch::new(self.alloc);
         let (count, mut source) = Bodies::of_section(section.contents, self.imported())?;
         if count as usize != self.body_count() {
             return Err(WriteError::from(section.contents.fault(ModuleFault::BodyCount)));
         }
-        let mut end = put_number(self.alloc, count as usize, at, out)?;
+        let (more, added) = rewritten.changes.added_bodies()?;
+        let mut end = put_number(self.alloc, count as usize + more as usize, at, out)?;
         'bodies: for _ in 0..count {
             let Some(body) = source.next() else {
                 return Err(WriteError::from(section.contents.fault(ModuleFault::BodyCount)));
             };
-            end = self.put_body(bodies, body, &mut scratch, sink, end, out)?;
+            end = self.put_body(&rewritten.bodies, body, &mut scratch, sink, end, out)?;
         }
         source.finish()?;
-        Ok(end)
+        put(added, end, out)
     }
 
     /// Writes the code section.
@@ -211,10 +214,11 @@ impl<'a> ParsedModule<'a> {
         ensures written { (source : Parsed) → Extends source self.old
             → IfOk result (λ end. (code : List ℕ)
             × IsWrittenCode (B.writes rewritten.now.bodies) source (section_at section.now) code
-            × Puts (W.contents out.old) (W.contents out.new) at end (whole_section 10 code)) }
+            × (contents : List ℕ) × HasItemsOf code (added_bodies rewritten.now.changes) contents
+            × Puts (W.contents out.old) (W.contents out.new) at end (whole_section 10 contents)) }
     {
         let at = put_header(self.alloc, SectionKind::Code, rewritten.code_len, at, out)?;
-        let end = self.put_code(&rewritten.bodies, section, sink, at, out)?;
+        let end = self.put_code(rewritten, section, sink, at, out)?;
         match end == place_after(at, rewritten.code_len)? {
             true => Ok(end),
             false => Err(WriteError::from(section.contents.fault(ModuleFault::InconsistentChange))),
@@ -303,7 +307,7 @@ impl<'a> ParsedModule<'a> {
             × IsWrittenModule (B.writes rewritten.now.bodies) self.old rewritten.now.changes new
             × Appends (W.contents out.old) (W.contents out.new) new) }
     {
-        self.check_imports(&rewritten.changes)?;
+        self.check_functions(&rewritten.changes)?;
         let begin = put(&PREAMBLE, 0, out)?;
         let mut end = self.put_new_after(rewritten, 0, begin, out)?;
         'sections: for section in Sections::new(self.bytes())? {
@@ -321,8 +325,8 @@ impl<'a> ParsedModule<'a> {
     ///
     /// Those of the writer; `BodyCount` if the functions of another module were changed;
     /// `InconsistentChange` if a caller's own `BodyWriter` writes other bodies than the first time,
-    /// so that the code has another size, or if functions were imported with other changes; or
-    /// `Memory`. A part of the module may have been written.
+    /// so that the code has another size, or if functions were imported or added with other changes;
+    /// or `Memory`. A part of the module may have been written.
     pub fn write_module<B: BodyWriter, W: Write>(
         &mut self,
         rewritten: &RewrittenModule<'_, B>,

@@ -21,7 +21,7 @@ fn number(bytes: &[u8]) -> Result<(u32, &[u8]), ModuleError> {
 }
 
 /// Adds the function whose index is at the front, and returns the bytes after it.
-pub fn add_index<'a>(bytes: &'a [u8], reached: &mut Reached) -> Result<&'a [u8], ModuleError> {
+fn add_index<'a>(bytes: &'a [u8], reached: &mut Reached) -> Result<&'a [u8], ModuleError> {
     let (index, rest) = number(bytes)?;
     reached.add(FunctionId::new(index as usize))?;
     Ok(rest)

@@ -1,6 +1,6 @@
 //! Which functions can be run.
 
-use crate::elements::{add_constant, add_index, add_segments};
+use crate::elements::{add_constant, add_segments};
 use std::alloc::Global;
 use walrus_body::{LocalFunction, Space};
 use walrus_ir::{FunctionId, IdHashSet, Instr, InstrLocId, dfs_in_order};
@@ -51,8 +51,8 @@ fn add_exports(parsed: &ParsedModule<'_>, reached: &mut Reached) -> Result<(), M
 
 /// Adds the function that is called at the start, and those that element segments name.
 fn add_started(parsed: &ParsedModule<'_>, reached: &mut Reached) -> Result<(), ModuleError> {
-    if let Some(section) = parsed.section(SectionKind::Start)? {
-        add_index(section.contents(), reached)?;
+    if let Some(start) = parsed.start()? {
+        reached.add(start)?;
     }
     if let Some(section) = parsed.section(SectionKind::Element)? {
         add_segments(section.contents(), reached)?;

@@ -1,7 +1,9 @@
-use Rattle.std.proofs.Common.{◌≡◌, ℕ, refl, subst, ◌∙◌, arith}
+use Rattle.std.proofs.Common.{◌≡◌, ◌+◌, ◌<◌, ℕ, refl, subst, ◌∙◌, arith}
+use Rattle.std.specs.Prelude.{◌^◌}
 use Rattle.wasm_module.specs.Sections.{section_at}
-use Rattle.wasm_module.specs.WrittenModules.{count_bodies}
+use Rattle.wasm_module.specs.WrittenModules.{added_bodies, count_bodies}
 use Rattle.wasm_module.proofs.ModuleLemmas.{extends_same, extends_then}
+use Rattle.wasm_module.proofs.WritingLemmas.{if_so}
 use Rattle.wasm_module.proofs.CodeLemmas.{CodeSoFar, no_bodies, one_more_body, all_bodies}
 use Rattle.wasm_module.proofs.parsed.ParsedModule.put_code.Goals as goal
 
@@ -12,7 +14,7 @@ bodies-init g c =
     record {
       extends = extends_same c.args.self.now;
       so_far = λ source e.
-          no_bodies (g.B.BodyWriter.writes c.args.bodies.now) source c.args.self.now at.source at.count (contents c.args.out.now) (contents c.put_number.new.out) c.args.at c.in_ok-end.end
+          no_bodies (g.B.BodyWriter.writes c.args.rewritten.now.bodies) source c.args.self.now at.source (at.count + c.in_ok-more.more) (contents c.args.out.now) (contents c.put_number.new.out) c.args.at c.in_ok-end.end
           c.args.section.now.contents.end at.source.left.rest.now e refl at.ensures.end (at.ensures.first ∙ c.imported.ensures) c.in_ok-end.ensures;
     }
 
@@ -24,21 +26,26 @@ bodies-preserved g c =
       extends = extends_then c.args.self.now at.self c.put_body.new.self at.invariant.extends c.in_ok-end-2.ensures.extends;
       so_far = λ source e.
           let w = c.in_ok-end-2.ensures.written source (extends_then source c.args.self.now at.self e at.invariant.extends) in
-          one_more_body (g.B.BodyWriter.writes c.args.bodies.now) source c.args.section.now.contents.end c.in_ok-count.source.left.rest.now at.source c.next.new.self c.next.result c.in-Some.body
-          at.counter c.in_ok-count.count (contents c.args.out.now) (contents at.out) (contents c.put_body.new.out) c.args.at at.end c.in_ok-end-2.end w.0
+          one_more_body (g.B.BodyWriter.writes c.args.rewritten.now.bodies) source c.args.section.now.contents.end c.in_ok-count.source.left.rest.now at.source c.next.new.self c.next.result c.in-Some.body
+          at.counter (c.in_ok-count.count + c.in_ok-more.more) (contents c.args.out.now) (contents at.out) (contents c.put_body.new.out) c.args.at at.end c.in_ok-end-2.end w.0
           (at.invariant.so_far source e) c.in-Some.is c.next.ensures.steps w.1 w.2;
     }
 
 pub returns-clause-written : goal.returns-clause-written
 returns-clause-written g c = λ source e.
     let at = c.bodies in
-    let writes = g.B.BodyWriter.writes c.args.bodies.now in
-    let old = g.W.Write.contents c.args.out.now in
-    let new = g.W.Write.contents at.out in
+    let contents = g.W.Write.contents in
+    let writes = g.B.BodyWriter.writes c.args.rewritten.now.bodies in
+    let old = contents c.args.out.now in
+    let middle = contents at.out in
     let count = c.in_ok-count.count in
+    let more = c.in_ok-more.more in
     let section = section_at c.args.section.now in
     let text = c.in_ok-count.source.left.rest.now in
     let all : at.counter ≡ count = omega arith in
     let known : count ≡ count_bodies c.args.self.now = omega (arith, c.body_count.ensures) in
-    let so_far = subst (λ (n : ℕ). CodeSoFar writes source section.end text at.source n count old new c.args.at at.end) all (at.invariant.so_far source e) in
-    all_bodies writes source c.args.self.now section text at.source count old new c.args.at at.end e c.in_ok-count.ensures.count_is_read known so_far c.in_ok-finish.ensures
+    let small : count < 2 ^ 32 = omega arith in
+    let so_far = subst (λ (n : ℕ). CodeSoFar writes source section.end text at.source n (count + more) old middle c.args.at at.end) all (at.invariant.so_far source e) in
+    if_so c.put.result c.put.ensures (λ end q.
+    all_bodies writes source c.args.self.now section text at.source count more (added_bodies c.args.rewritten.now.changes) c.in_ok-more.added.now old middle (contents c.put.new.out) c.args.at at.end end e
+    c.in_ok-count.ensures.count_is_read known small so_far c.in_ok-finish.ensures c.in_ok-more.ensures q)

@@ -11,7 +11,7 @@ returns-in-true-clause-written g c = λ source e.
     let new = g.W.Write.contents c.put_code.new.out in
     let known = c.args.rewritten.now.code_len in
     let same = c.in-true.is in
-    let end_is = w.2.end_is in
-    let len : known ≡ length w.0 = omega (arith, c.in_ok-place_after.ensures) in
-    let header = puts_same old middle c.args.at c.in_ok-at.at (10 ∷ short_number known) (10 ∷ short_number (length w.0)) (ap (λ (n : ℕ). 10 ∷ short_number n) len) c.in_ok-at.ensures in
-    (w.0, w.1, puts_then old middle new c.args.at c.in_ok-at.at c.in_ok-end.end (10 ∷ short_number (length w.0)) w.0 header w.2)
+    let end_is = w.4.end_is in
+    let len : known ≡ length w.2 = omega (arith, c.in_ok-place_after.ensures) in
+    let header = puts_same old middle c.args.at c.in_ok-at.at (10 ∷ short_number known) (10 ∷ short_number (length w.2)) (ap (λ (n : ℕ). 10 ∷ short_number n) len) c.in_ok-at.ensures in
+    (w.0, w.1, w.2, w.3, puts_then old middle new c.args.at c.in_ok-at.at c.in_ok-end.end (10 ∷ short_number (length w.2)) w.2 header w.4)

@@ -8,7 +8,7 @@ use Rattle.wasm_module.proofs.parsed.ParsedModule.put_in_place.Goals as goal
 pub returns-then-eq-clause-written : goal.returns-then-eq-clause-written
 returns-then-eq-clause-written g c = λ source e.
     let is_code : id_of c.args.section.now.kind ≡ 10 = search rules in
-    if_so c.put_code_section.result (c.put_code_section.ensures.written source e) (λ end w. (section 10 w.0, code w.0 is_code w.1 refl, w.2))
+    if_so c.put_code_section.result (c.put_code_section.ensures.written source e) (λ end w. (section 10 w.2, code w.0 w.2 is_code w.1 w.3 refl, w.4))
 
 pub returns-in-Some-clause-extends : goal.returns-in-Some-clause-extends
 returns-in-Some-clause-extends g c = then_ok c.put_section.result (extends_same c.args.self.now)
