@@ -475,9 +475,10 @@ fn first_scopes(builder: &FunctionBuilder, entry: InstrSeqId) -> Result<Scopes, 
     Ok(scopes)
 }
 
-/// How many instructions all sequences have.
-fn instr_count(builder: &FunctionBuilder) -> usize {
-    let mut count = 0usize;
+/// How many operators are written at most: one for each instruction, and one for the end of each
+/// sequence.
+fn operator_count(builder: &FunctionBuilder) -> usize {
+    let mut count = builder.count();
     for slot in 0..builder.count() {
         count = count.saturating_add(builder.seq(InstrSeqId::new(slot)).len());
     }
@@ -519,7 +520,7 @@ fn draft_tree(
         numbers: *numbers,
         locals,
         scopes,
-        draft: Draft::new(builder.allocator(), base, has_map, instr_count(builder)),
+        draft: Draft::new(builder.allocator(), base, has_map, operator_count(builder)),
     };
     match dfs_in_order(&mut visitor, builder, entry) {
         Ok(()) => {
