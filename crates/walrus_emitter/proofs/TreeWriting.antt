@@ -3,3 +3,4 @@ pub mod Lanes
 pub mod Steps
 pub mod Spelled
 pub mod Trees
+pub mod Openers

@@ -1,5 +1,5 @@
 //! Writing a function's tree.
-ghost use Rattle.std.specs.Prelude.{◌≡◌, ◌∷◌, [], ◌<◌, ◌^◌, length, None, Some, Ok, OnOk, OnErr, IfOk, IfErr};
+ghost use Rattle.std.specs.Prelude.{◌≡◌, ◌∷◌, [], ◌<◌, ◌^◌, length, true, None, Some, Ok, OnOk, OnErr, IfOk, IfErr};
 ghost use Rattle.walrus_ir.specs.declared.val_type.InstrSeqType.TheVariants.{Simple};
 ghost use Rattle.std.specs.Bool.{OnTrue, OnFalse};
 ghost use Rattle.walrus_ir.specs.declared.instr.Instr.TheVariants as instruction;
@@ -9,7 +9,7 @@ ghost use Rattle.wasm_operators.specs.declared.types.Space.TheVariants.{Funcs, G
 ghost use Rattle.wasm_operators.specs.Operations.{operation, index as index_immediate, local as local_immediate, label as label_immediate, access as access_immediate, i32 as i32_immediate, i64 as i64_immediate};
 ghost use Rattle.walrus_emit_state.specs.Emission.{first_type_at};
 ghost use Rattle.wasm_body.specs.Bytes.{Numbers};
-ghost use Rattle.wasm_body.specs.InstructionTable.{operation_of, access_at, clauses_of_try};
+ghost use Rattle.wasm_body.specs.InstructionTable.{operation_of, access_at, block_immediate, clauses_of_try};
 ghost use Rattle.wasm_body.specs.FlatText.{are_lawful as lawful_clauses};
 ghost use Rattle.walrus_numbering.specs.NumberMaps.{numbers_of};
 ghost use Rattle.walrus_numbering.specs.NumberTables.{HasNumbers};
@@ -28,6 +28,9 @@ use walrus_operators::{Lists, closing_operator, operator_of};
 use wasm_body::EmitError;
 use wasm_encode::FunctionEncoder;
 use wasm_operators::{Opcode, binary_opcode, load_opcode, store_opcode, unary_opcode};
+
+/// The byte of a block type without parameters and results.
+const NO_TYPE: u32 = 0x40;
 
 /// Writes the operators of the events that it visits, aside.
 #[derive(Drop)]
@@ -331,6 +334,7 @@ impl<'a> EmitVisitor<'a> {
     }
 
     /// Writes an instruction without sequences, of any kind.
+    #[inline(never)]
     fn visit_plain(&mut self, instr: &Instr, location: InstrLocId) -> Result<(), EmitError>
         requires { slots_in instr.now ≡ [] }
         ensures ok { OnOk result (Steps self.old (VisitInstruction instr.now location) self.new) }
@@ -370,6 +374,7 @@ impl<'a> EmitVisitor<'a> {
     }
 
     /// Writes the operator of an instruction with sequences.
+    #[inline(never)]
     fn visit_construct(&mut self, instr: &Instr, location: InstrLocId) -> Result<(), EmitError>
         ensures ok { OnOk result (Steps self.old (VisitInstruction instr.now location) self.new) }
         ensures err { IfErr result (Refuses self.old (VisitInstruction instr.now location)) }
@@ -385,6 +390,65 @@ impl<'a> EmitVisitor<'a> {
         }
     }
 
+    /// Writes an instruction of a byte and a block type, if its first sequence has no parameters and
+    /// no results, and announces its sequences. Returns whether it did; if not, some of them may be
+    /// announced.
+    #[inline(always)]
+    fn begin_opener(&mut self, instr: &Instr, byte: u8, location: InstrLocId) -> bool
+        requires row { operation_of instr.now
+            ≡ operation (opcodes.Byte byte) (block_immediate ∷ []) }
+        requires lawful { lawful_clauses (clauses_of_try instr.now) ≡ true }
+        ensures done { OnTrue result (Steps self.old (VisitInstruction instr.now location) self.new) }
+        ensures unchanged { OnFalse result (HasOnlyMore self.old self.new) }
+    {
+        match first_type(self.builder, instr) {
+            Ok(InstrSeqType::Simple(None)) => {}
+            _ => return false,
+        }
+        match announce(&mut self.scopes, self.builder, self.numbers.types, instr) {
+            Ok(()) => self.draft.write_number(byte, NO_TYPE, location),
+            Err(_) => false,
+        }
+    }
+
+    /// The same, and if it returns that it didn't, nothing is changed.
+    #[inline(always)]
+    fn write_opener(&mut self, instr: &Instr, byte: u8, location: InstrLocId) -> bool
+        requires row { operation_of instr.now
+            ≡ operation (opcodes.Byte byte) (block_immediate ∷ []) }
+        requires lawful { lawful_clauses (clauses_of_try instr.now) ≡ true }
+        ensures done { OnTrue result (Steps self.old (VisitInstruction instr.now location) self.new) }
+        ensures unchanged { OnFalse result (Same self.old self.new) }
+    {
+        let count = self.scopes.coming_count();
+        if self.begin_opener(instr, byte, location) {
+            return true;
+        }
+        self.scopes.keep_last(count);
+        false
+    }
+
+    /// Writes a `block`, a `loop` or an `if`, whose opcode is this byte, and announces its sequences.
+    #[inline(never)]
+    fn visit_opener(
+        &mut self,
+        instr: &Instr,
+        byte: u8,
+        location: InstrLocId,
+    ) -> Result<(), EmitError>
+        requires row { operation_of instr.now
+            ≡ operation (opcodes.Byte byte) (block_immediate ∷ []) }
+        requires lawful { lawful_clauses (clauses_of_try instr.now) ≡ true }
+        ensures ok { OnOk result (Steps self.old (VisitInstruction instr.now location) self.new) }
+        ensures err { IfErr result (Refuses self.old (VisitInstruction instr.now location)) }
+        ensures unchanged { OnErr result (Same self.old self.new) }
+    {
+        if self.write_opener(instr, byte, location) {
+            return Ok(());
+        }
+        self.visit_construct(instr, location)
+    }
+
     /// Writes the operator of an instruction of any kind, and announces its sequences.
     #[inline(never)]
     fn visit_at_length(&mut self, instr: &Instr, location: InstrLocId) -> Result<(), EmitError>
@@ -393,11 +457,10 @@ impl<'a> EmitVisitor<'a> {
         ensures unchanged { OnErr result (Same self.old self.new) }
     {
         match instr {
-            Instr::Block(_)
-            | Instr::Loop(_)
-            | Instr::IfElse(_)
-            | Instr::TryTable(_)
-            | Instr::Try(_) => self.visit_construct(instr, location),
+            Instr::Block(_) => self.visit_opener(instr, 0x02, location),
+            Instr::Loop(_) => self.visit_opener(instr, 0x03, location),
+            Instr::IfElse(_) => self.visit_opener(instr, 0x04, location),
+            Instr::TryTable(_) | Instr::Try(_) => self.visit_construct(instr, location),
             _ => self.visit_plain(instr, location),
         }
     }

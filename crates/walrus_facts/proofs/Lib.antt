@@ -5,3 +5,4 @@ mod Gathering
 mod Marks
 mod FactLaws
 pub mod LocalsOfTrees
+pub mod Scans

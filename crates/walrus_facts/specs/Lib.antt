@@ -4,3 +4,4 @@ pub mod Segments
 pub mod Gathering
 pub mod FactLaws
 pub mod Marking
+pub mod Scanning

@@ -4,6 +4,7 @@
 
 mod facts;
 mod marking;
+mod scanning;
 mod segments;
 mod sizes;
 

@@ -7,6 +7,7 @@ ghost use Rattle.walrus_facts.specs.Marking.{is_marked, AreUsed};
 ghost use Rattle.walrus_facts.specs.Sizes.{IsTooLarge};
 
 use crate::facts::{EmitFacts, FactsVisitor};
+use crate::scanning::facts_at_once;
 use walrus_ir::{
     DataId, FunctionBuilder, Instr, InstrLocId, InstrSeq, InstrSeqId, LocalId, RefFunc, Visitor,
     WalkError, dfs_in_order,
@@ -127,14 +128,12 @@ impl Visitor for MarkingVisitor {
     }
 }
 
-/// The facts of the instructions in the sequence `start` and in those inside of it.
+/// The facts of the instructions in the sequence `start` and in those inside of it, by a walk.
 ///
 /// # Errors
 ///
-/// `WalkError::UnknownSequence` or `WalkError::SharedSequence` if the sequences are not a tree: the
-/// first fault in walk order. `WalkError::TooLarge` if the number of instructions doesn't fit 64
-/// bits. `WalkError::Memory` if memory runs out.
-pub fn emit_facts(builder: &FunctionBuilder, start: InstrSeqId) -> Result<EmitFacts, WalkError>
+/// Those of `emit_facts`.
+fn walked_facts(builder: &FunctionBuilder, start: InstrSeqId) -> Result<EmitFacts, WalkError>
     ensures ok { IfOk result (λ f. TreeHas builder.now.sequences start
         (λ t. AreFacts t.items f)) }
     ensures err { IfErr result (λ e. HasNoWalk builder.now.sequences start e
@@ -148,4 +147,23 @@ pub fn emit_facts(builder: &FunctionBuilder, start: InstrSeqId) -> Result<EmitFa
     dfs_in_order(&mut visitor, builder, start)?;
     let MarkingVisitor { inner, .. } = visitor;
     Ok(inner.facts)
+}
+
+/// The facts of the instructions in the sequence `start` and in those inside of it.
+///
+/// # Errors
+///
+/// `WalkError::UnknownSequence` or `WalkError::SharedSequence` if the sequences are not a tree: the
+/// first fault in walk order. `WalkError::TooLarge` if the number of instructions doesn't fit 64
+/// bits. `WalkError::Memory` if memory runs out.
+pub fn emit_facts(builder: &FunctionBuilder, start: InstrSeqId) -> Result<EmitFacts, WalkError>
+    ensures ok { IfOk result (λ f. TreeHas builder.now.sequences start
+        (λ t. AreFacts t.items f)) }
+    ensures err { IfErr result (λ e. HasNoWalk builder.now.sequences start e
+        ⊎ IsTooLarge builder.now.sequences start e) }
+{
+    match facts_at_once(builder, start) {
+        Some(facts) => Ok(facts),
+        None => walked_facts(builder, start),
+    }
 }

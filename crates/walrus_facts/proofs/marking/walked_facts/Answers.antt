@@ -2,7 +2,7 @@ use Rattle.std.proofs.lemmas.Result.{err_from_is_err_and}
 use Rattle.walrus_facts.specs.declared.marking.MarkingVisitor.{MarkingVisitor}
 use Rattle.walrus_facts.proofs.Counting.{not_counted}
 use Rattle.walrus_facts.proofs.Gathering.{facts_count, gathered}
-use Rattle.walrus_facts.proofs.marking.emit_facts.Goals as goal
+use Rattle.walrus_facts.proofs.marking.walked_facts.Goals as goal
 
 pub returns-in_err-dfs_in_order-clause-err : goal.returns-in_err-dfs_in_order-clause-err
 returns-in_err-dfs_in_order-clause-err c =
