@@ -26,7 +26,7 @@ use walrus_ir::{
 use walrus_numbering::{NumberMaps, memory_argument, number_at, number_table};
 use walrus_operators::{Lists, closing_operator, operator_of};
 use wasm_body::EmitError;
-use wasm_encode::FunctionEncoder;
+use wasm_encode::{FunctionEncoder, OutOp};
 use wasm_operators::{Opcode, binary_opcode, load_opcode, store_opcode, unary_opcode};
 
 /// The byte of a block type without parameters and results.
@@ -68,6 +68,15 @@ fn first_type(builder: &FunctionBuilder, instr: &Instr) -> Result<InstrSeqType, 
         Instr::Try(x) => type_at(builder, x.seq),
         _ => Ok(InstrSeqType::Simple(None)),
     }
+}
+
+/// Whether the first sequence in an instruction has no parameters and no results.
+#[inline(always)]
+fn is_untyped(builder: &FunctionBuilder, instr: &Instr) -> bool
+    ensures { OnTrue result
+        (first_type_at builder.now.sequences (slots_in instr.now) ≡ Ok (Simple None)) }
+{
+    matches!(first_type(builder, instr), Ok(InstrSeqType::Simple(None)))
 }
 
 /// Whether the clauses of an instruction are lawful, if it has some.
@@ -349,6 +358,26 @@ impl<'a> EmitVisitor<'a> {
         }
     }
 
+    /// Writes a constant of any type.
+    #[inline(never)]
+    fn visit_constant(
+        &mut self,
+        instr: &Instr,
+        constant: &Const,
+        location: InstrLocId,
+    ) -> Result<(), EmitError>
+        requires { instr.now ≡ instruction.Const constant.now }
+        ensures ok { OnOk result (Steps self.old (VisitInstruction instr.now location) self.new) }
+        ensures err { IfErr result (Refuses self.old (VisitInstruction instr.now location)) }
+        ensures unchanged { OnErr result (Same self.old self.new) }
+    {
+        match constant.value {
+            Value::F32(bits) => self.draft.write_any(&OutOp::F32Const { bits }, location),
+            Value::F64(bits) => self.draft.write_any(&OutOp::F64Const { bits }, location),
+            _ => self.visit_plain(instr, location),
+        }
+    }
+
     /// Writes the operator of an instruction and announces its sequences. If it fails, some of them
     /// may be announced.
     fn begin_construct(&mut self, instr: &Instr, location: InstrLocId) -> Result<(), EmitError>
@@ -401,9 +430,8 @@ impl<'a> EmitVisitor<'a> {
         ensures done { OnTrue result (Steps self.old (VisitInstruction instr.now location) self.new) }
         ensures unchanged { OnFalse result (HasOnlyMore self.old self.new) }
     {
-        match first_type(self.builder, instr) {
-            Ok(InstrSeqType::Simple(None)) => {}
-            _ => return false,
+        if !is_untyped(self.builder, instr) {
+            return false;
         }
         match announce(&mut self.scopes, self.builder, self.numbers.types, instr) {
             Ok(()) => self.draft.write_number(byte, NO_TYPE, location),
@@ -461,6 +489,7 @@ impl<'a> EmitVisitor<'a> {
             Instr::Loop(_) => self.visit_opener(instr, 0x03, location),
             Instr::IfElse(_) => self.visit_opener(instr, 0x04, location),
             Instr::TryTable(_) | Instr::Try(_) => self.visit_construct(instr, location),
+            Instr::Const(x) => self.visit_constant(instr, x, location),
             _ => self.visit_plain(instr, location),
         }
     }

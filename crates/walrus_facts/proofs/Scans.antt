@@ -339,9 +339,8 @@ pub really : {P : Type 0} (b : Bool) → b ≡ true → OnTrue b P → P
 really true e h = h
 really false e h = absurd cc
 
-
 pub not_marked : (marks : List Bool) (id : ℕ) (x : ℕ) (c : Bool) → is_marked marks id ≡ false → c ≡ (((x == id) && is_marked marks id) || c)
-not_marked marks id x c e = elim (x == id) as (λ b. c ≡ ((b && is_marked marks id) || c)) [ | true ↦ ap (λ m. m || c) (sym e) | false ↦ refl ]
+not_marked marks id x c e = elim (x == id) as (λ b. c ≡ ((b && is_marked marks id) || c)) [ true ↦ ap (λ m. m || c) (sym e) | false ↦ refl ]
 
 pub is_put : (marks : List Bool) (id : ℕ) (x : ℕ) (c d : Bool) → is_marked marks id ≡ true → d ≡ (among x (id ∷ []) || c) → d ≡ (((x == id) && is_marked marks id) || c)
 is_put marks id x c d e h = h ∙ ap (λ b. b || c) (same (x == id) ∙ ap (λ m. (x == id) && m) (sym e))

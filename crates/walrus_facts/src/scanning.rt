@@ -239,11 +239,7 @@ fn is_dense(scan: &Scan) -> bool {
 }
 
 /// Puts a local into a set if it is marked.
-fn put_marked(
-    set: &mut IdHashSet<LocalId>,
-    marks: &[bool],
-    id: usize,
-) -> Result<(), AllocError>
+fn put_marked(set: &mut IdHashSet<LocalId>, marks: &[bool], id: usize) -> Result<(), AllocError>
     ensures { OnOk result ((x : ℕ) → contains (λ x y. x == y) set.new x
         ≡ (((x == id) && is_marked marks.now id) || contains (λ x y. x == y) set.old x)) }
 {
@@ -255,11 +251,7 @@ fn put_marked(
 }
 
 /// The marked locals in a set, which has room for so many.
-fn marked_set(
-    alloc: Global,
-    marks: &[bool],
-    room: usize,
-) -> Result<IdHashSet<LocalId>, AllocError>
+fn marked_set(alloc: Global, marks: &[bool], room: usize) -> Result<IdHashSet<LocalId>, AllocError>
     ensures { IfOk result (λ set. (l : ℕ) → contains (λ x y. x == y) set l
         ≡ is_marked marks.now l) }
 {

@@ -1,5 +1,6 @@
 -- Blocks, loops and ifs without parameters and results: their two bytes, and the emitter after them.
-use Rattle.std.specs.Prelude.{◌≡◌, ℕ, List, [], ◌∷◌, true, None, Ok}
+use Rattle.std.specs.Prelude.{◌≡◌, ℕ, List, [], ◌∷◌, Bool, true, false, None, Ok}
+use Rattle.std.specs.Bool.{OnTrue}
 use Rattle.std.proofs.Common.{refl, ap, ◌∙◌}
 use Rattle.walrus_ir.specs.declared.instr.Instr.{Instr}
 use Rattle.walrus_ir.specs.declared.seq.InstrSeq.{InstrSeq}
@@ -44,3 +45,8 @@ opener_visited b to old new draft drafted i l byte row lawful type h is =
     (numbered_opener to (places_of old.open_scopes) i byte row) h.are_these
     ∙ ap (λ (s : Emitter). Ok s)
     (kept_begins b to old new draft drafted h.more (opener byte) l h.are_first (is ∙ ap (λ bs. with_bytes draft (byte ∷ bs) l) no_type))
+
+-- it does
+pub really : {P : Type 0} (b : Bool) → b ≡ true → OnTrue b P → P
+really true e h = h
+really false e h = absurd cc
