@@ -1,6 +1,6 @@
 -- A scan of a function's sequences: what it has found of the instructions of the sequences that it has reached is what the
 -- tree's instructions name.
-use Rattle.std.proofs.Common.{◌≡◌, ℕ, zero, suc, ◌+◌, ◌<◌, ◌==◌, ◌&&◌, nat_lt, List, [], ◌∷◌, ◌++◌, Bool, true, false, ◌||◌, Some, length, length-append, reverse, set, get_or, refl, sym, ap, ◌∙◌, append-nil, append_assoc, arith}
+use Rattle.std.proofs.Common.{◌≡◌, ℕ, zero, suc, ◌+◌, ◌<◌, ◌==◌, ◌&&◌, nat_lt, List, [], ◌∷◌, ◌++◌, Bool, true, false, ◌||◌, length, length-append, reverse, set, get_or, refl, sym, ap, ◌∙◌, append-nil, append_assoc, arith}
 use Rattle.std.specs.Prelude.{slice_get}
 use Rattle.std.proofs.lemmas.Bool.{eqb-true}
 use Rattle.std.proofs.lemmas.Bool.Decides.{nat_tests}
@@ -15,16 +15,15 @@ use Rattle.std.proofs.lemmas.List.Folds.{list_any-append}
 use Rattle.walrus_ir.specs.declared.seq.InstrSeq.{InstrSeq}
 use Rattle.walrus_ir.specs.declared.instr.Instr.{Instr}
 use Rattle.walrus_ir.specs.declared.control.LegacyCatch.{LegacyCatch}
-use Rattle.walrus_ir.specs.Tree.{Items, no_items, item, Sequences, no_sequences, sequence, Tree, alone}
+use Rattle.walrus_ir.specs.Tree.{Items, no_items, item, Sequences, Tree, alone}
 use Rattle.walrus_ir.specs.Unfolding.{SequenceAt, LocatedInstr, handler_of, handlers, slots_in, slots_in_all, AreItems, are_no_items, are_items, AreSequences, are_no_sequences, are_sequences, slots_reached, slots_reached_each, among, IsTree}
 use Rattle.walrus_ir.specs.Faults.{Walks, onward}
-use Rattle.walrus_ir.specs.WalkLaws.{WalkMakesTree}
 use Rattle.walrus_ir.proofs.WalkLaws.{walk_makes_tree}
 use Rattle.walrus_ir.proofs.Marks.{marked, unreached, unreached-set}
 use Rattle.walrus_facts.specs.declared.scanning.Scan.{Scan}
 use Rattle.walrus_facts.specs.declared.facts.EmitFacts.{EmitFacts}
 use Rattle.walrus_facts.specs.Marking.{is_marked}
-use Rattle.walrus_facts.specs.Facts.{instructions, instructions_inside, count, segment_of, function_of, referred, local_of_instr, are_some, AreFacts, TreeHas}
+use Rattle.walrus_facts.specs.Facts.{instructions, instructions_inside, segment_of, function_of, referred, local_of_instr, are_some, AreFacts, TreeHas}
 use Rattle.walrus_facts.specs.Scanning.{locals_named, segments_named, functions_named, GoesOn, MarksOne, AddsOne, AddsAll, Enters, HasFound, instrs_of, instrs_at, IsScanning}
 
 -- ---- what is said of lists of instructions in any order

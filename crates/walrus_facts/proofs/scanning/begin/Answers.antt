@@ -1,5 +1,5 @@
 use Rattle.std.proofs.Common.{◌≡◌, false, [], ◌∷◌, ◌++◌, length, replicate, refl, ap, ◌∙◌, rules, reverse, vec_len}
-use Rattle.walrus_ir.specs.Faults.{Walks, begun}
+use Rattle.walrus_ir.specs.Faults.{begun}
 use Rattle.walrus_ir.proofs.Marks.{all_unmarked}
 use Rattle.walrus_facts.specs.Marking.{is_marked}
 use Rattle.walrus_facts.proofs.scanning.begin.Goals as goal

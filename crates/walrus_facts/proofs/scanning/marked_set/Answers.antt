@@ -1,5 +1,4 @@
 use Rattle.std.proofs.Common.{◌≡◌, ◌==◌, ◌&&◌, ◌||◌, length, refl, ap, sym, ◌∙◌, arith}
-use Rattle.std.specs.HashSet.{contains}
 use Rattle.walrus_facts.specs.Marking.{is_marked}
 use Rattle.walrus_facts.proofs.Scans.{marked_below, all_below, one_below}
 use Rattle.walrus_facts.proofs.scanning.marked_set.Goals as goal

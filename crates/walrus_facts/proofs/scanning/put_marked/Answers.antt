@@ -1,5 +1,4 @@
 use Rattle.std.proofs.Common.{◌≡◌, true, false, rules}
-use Rattle.std.specs.HashSet.{contains}
 use Rattle.walrus_facts.specs.Marking.{is_marked}
 use Rattle.walrus_facts.proofs.Collecting.{put_one}
 use Rattle.walrus_facts.proofs.Scans.{not_marked, is_put}

@@ -1,6 +1,4 @@
-use Rattle.std.proofs.Common.{◌≡◌, [], ◌∷◌, refl, rules}
-use Rattle.walrus_ir.specs.Unfolding.{slots_in}
-use Rattle.walrus_facts.specs.Facts.{segment_of, function_of, local_of_instr}
+use Rattle.std.proofs.Common.{rules}
 use Rattle.walrus_facts.proofs.Scans.{goes_on, marks_one, on_true}
 use Rattle.walrus_facts.proofs.scanning.Scan.scan_instr.Goals as goal
 
