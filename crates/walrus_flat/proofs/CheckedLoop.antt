@@ -4,6 +4,7 @@ use Rattle.wasm_operators.specs.Operations.{RawOperation}
 use Rattle.wasm_operators.specs.OperatorList.{Placed}
 use Rattle.wasm_operators.specs.Spelling.{read_operation}
 use Rattle.wasm_operators.specs.Meaning.{Listed, meaning}
+use Rattle.wasm_ops.specs.Position.{Position}
 use Rattle.wasm_numbers.specs.declared.fault.ReadFault.{ReadFault}
 use Rattle.wasm_body.specs.declared.error.ParseError.{ParseError}
 use Rattle.wasm_body.specs.declared.error.ParseError.TheVariants.{Memory, Read, Trailing, MissingEnd}
@@ -25,7 +26,7 @@ use Rattle.walrus_parser.proofs.Roles.{fate_of_operator}
 use Rattle.walrus_flat.specs.declared.checker.Checker.{Checker}
 use Rattle.walrus_flat.specs.Checked.{env_of, AreFrames, state_of, Passes, StaysSame}
 use Rattle.walrus_flat.specs.Checkers.{used_in}
-use Rattle.walrus_flat.specs.CheckedBody.{HasLimit, fits_limit, BeginsBody, setting_at, parsed_here, ChecksBody, RefusesTaking, IsTaken, ChecksNext}
+use Rattle.walrus_flat.specs.CheckedBody.{HasLimit, fits_limit, BeginsBody, setting_at, parsed_here, ChecksBody, RefusesTaking, IsTaken, ChecksNext, ChecksNextAtOnce}
 use Rattle.walrus_flat.proofs.CheckedFronts.{begins, unread, too_great, refused, unnamed, named, stops, missing, trailing, complete}
 use Rattle.walrus_flat.proofs.CheckedBodies.{ChecksSo, ChecksWhole, continues}
 use Rattle.walrus_flat.proofs.CheckedSteps.{alone_named, does}
@@ -203,3 +204,17 @@ module _ {V : Type 0} (start : ℕ) (check : V → Placed → Result V ℕ) (v0 
       pub goes_on : (w : V) (next : ℕ) (after : List ℕ) → read_operation rest ≡ Ok (meaning x, after) → ChecksNext check v w limit place c new (meaning x) (Ok tt) →
           next + length after ≡ place + length rest → length after < length rest → SoFar new w next after
       goes_on w next after read (taken, (steps, env)) moved shorter = stays c new v w place next rest after (meaning x) so read taken steps moved shorter env (stays_inside steps)
+
+  -- ---- an operator that is taken at once
+
+  module _ (c new : Checker) (v w : V) (from to : Position) (so : SoFar c v from.place from.rest) where
+    pub goes_next : ChecksNextAtOnce check v w limit from.place from to c new (Ok true) → SoFar new w to.place to.rest
+    goes_next t = elim t.4 [
+      | inl alone ↦ goes_on c v from.place from.rest so new t.0 alone w to.place to.rest t.1 t.3 t.2.0 t.2.1
+      | inr inside ↦ stays c new v w from.place to.place from.rest to.rest (meaning t.0) so t.1 t.3.0 t.3.1.0 t.2.0 t.2.1 t.3.1.1 inside
+    ]
+
+    -- or that isn't accepted then
+    pub goes_no_further : 0 < length from.rest → (e : ParseError) → ChecksNextAtOnce check v w limit from.place from to c new (Err e) → (f : ParseFailure) → f ≡ failure e from.place →
+        (f.error ≡ Memory) ⊎ ((locations : Option (ℕ → ℕ)) → HasLimit limit locations → parsed_here (given locations) bytes ≡ Err f)
+    goes_no_further some e t f is = untaken c v from.place from.rest so some (meaning t.0) t.1 t.2 e t.3 f is

@@ -42,7 +42,7 @@ use Rattle.walrus_flat.specs.Checked.{marks}
 use Rattle.walrus_flat.specs.CheckedBody.{HasLimit, AcceptsUsing, ChecksAll}
 use Rattle.walrus_flat.specs.Laws.{written_of, reads_local}
 use Rattle.walrus_flat.specs.WrittenBody.{some_locations, IsAccepted, WritesBody, RefusesWriting}
-use Rattle.walrus_flat.specs.RewrittenFlat.{read_again, empty_draft, emit_input, is_none, Composes, WritesAll, IsNotAllWritten, out_of_memory, not_begun as all_not_begun, not_written as all_not_written}
+use Rattle.walrus_flat.specs.RewrittenFlat.{read_again, begun_draft, emit_input, is_none, Composes, WritesAll, IsNotAllWritten, out_of_memory, not_begun as all_not_begun, not_written as all_not_written}
 use Rattle.walrus_flat.proofs.Accepting.{accepted_of}
 use Rattle.walrus_flat.proofs.CheckedWhole.{read_operators}
 use Rattle.walrus_flat.proofs.Drafts.{drafted_bytes, drafted_pairs}
@@ -68,8 +68,8 @@ pub both_some : {F : Type 0} (o : Option F) → BothOrNone o (some_locations o)
 both_some None = tt
 both_some (Some f) = tt
 
-no_place : (n : ℕ) → n + 0 ≡ n
-no_place n = omega arith
+from_no_place : (n : ℕ) → 0 + n ≡ n
+from_no_place n = omega arith
 
 module _ {S F : Type 0} (asks : Shared F (Bor ℕ × Unit {0}) ℕ) (i : ParseInput S F) where
   abbrev Given : Option (ℕ → ℕ) → (ℕ → Bool) → Type 0
@@ -151,9 +151,9 @@ module _ {S F : Type 0} (asks : Shared F (Bor ℕ × Unit {0}) ℕ) (i : ParseIn
 
         -- ---- the raw body
 
-        pub composes : BalanceAlike (typing_of i.environment) by.to → AreBytes i.bytes → (base : ℕ) → base ≡ length encoder → (has_map : Bool) (d : Drafted) → WritesBody asks (read_again i) numbers (empty_draft base has_map) d →
-            Composes asks i by has_map encoder d
-        composes alike fits base base_is has_map d w =
+        pub composes : BalanceAlike (typing_of i.environment) by.to → AreBytes i.bytes → (has_map : Bool) (d : Drafted) → WritesBody asks (read_again i) numbers (begun_draft encoder has_map) d →
+            Composes asks i by has_map d
+        composes alike fits has_map d w =
             let l = mapped_by asks i w.mapping in
             let a = checks l (limited i.on_instr_pos l (mapped_both i.on_instr_pos i.offset w.mapping)) in
             let id = is_ok (entry_type_id i.environment) a.accepted.lawful.entry in
@@ -165,8 +165,8 @@ module _ {S F : Type 0} (asks : Shared F (Bor ℕ × Unit {0}) ℕ) (i : ParseIn
             let raw = has_raw_body i.environment a.accepted.operators a.body (spelt l a) a.accepted.lawful by alike b.others begins.declarations
             (subst (λ (u : ℕ → Bool). AreDeclared by.types by.args u b.others) (used_is l a) b.are_declared) b.declarations_are w.operators written in
             let declared = encoded.declaration_bytes begins.declarations in
-            let bytes : declared ++ bytes_of w.operators ≡ encoder ++ d.output.bytes =
-            (λ k. sym begins.encoder_is k ++ sym (ap (λ (q : Drafted). q.output.bytes) w.draft ∙ drafted_bytes w.operators (empty_draft base has_map)) k) in
+            let bytes : declared ++ bytes_of w.operators ≡ d.output.bytes =
+            ap (λ (xs : List ℕ). xs ++ bytes_of w.operators) (sym begins.encoder_is) ∙ sym (ap (λ (q : Drafted). q.output.bytes) w.draft ∙ drafted_bytes w.operators (begun_draft encoder has_map)) in
             record {
               mapping = w.mapping;
               body = a.body;
@@ -177,7 +177,7 @@ module _ {S F : Type 0} (asks : Shared F (Bor ℕ × Unit {0}) ℕ) (i : ParseIn
               keeps = raw.1;
               kept_pairs = λ has.
                   ap (λ (q : Drafted). q.output.pairs) w.draft
-                  ∙ (drafted_pairs w.operators (empty_draft base has_map) has ∙ ap (λ n. pairs_from n w.operators) (no_place base ∙ (base_is ∙ ap length begins.encoder_is)));
+                  ∙ (drafted_pairs w.operators (begun_draft encoder has_map) has ∙ ap (λ n. pairs_from n w.operators) (from_no_place (length encoder) ∙ ap length begins.encoder_is));
             }
 
 -- ---- with the new indices of a module
@@ -186,11 +186,11 @@ module _ {S F : Type 0} (asks : Shared F (Bor ℕ × Unit {0}) ℕ) (i : ParseIn
   abbrev numbers_with : List (ℕ × ℕ) → Numbers
   numbers_with entries = numbers_by m.types out entries
 
-  pub composed : BalanceAlike (typing_of i.environment) (numbers_by m.types out []) → AreBytes i.bytes → (has_map : Bool) (declared : List ℕ) (d : Drafted) → WritesAll asks (read_again i) (emit_input m out args) has_map (numbers_by m.types out) used declared d →
-      Composes asks i (emit_input m out args) has_map declared d
-  composed alike fits has_map declared d h =
-      composes asks i used checks (emit_input m out args) declared h.entries h.begins (numbers_with h.entries)
-      (same_numbers m.types out h.entries args (ids_of h.begins.declares.others) h.begins.declares.numbers_are) alike fits h.base h.base_is has_map d h.writes
+  pub composed : BalanceAlike (typing_of i.environment) (numbers_by m.types out []) → AreBytes i.bytes → (has_map : Bool) (d : Drafted) → WritesAll asks (read_again i) (emit_input m out args) has_map (numbers_by m.types out) used d →
+      Composes asks i (emit_input m out args) has_map d
+  composed alike fits has_map d h =
+      composes asks i used checks (emit_input m out args) h.declared h.entries h.begins (numbers_with h.entries)
+      (same_numbers m.types out h.entries args (ids_of h.begins.declares.others) h.begins.declares.numbers_are) alike fits has_map d h.writes
 
   pub refused : (e : EmitError) → IsNotAllWritten asks (read_again i) (emit_input m out args) (numbers_by m.types out) used e → RefusesRewriting asks i (emit_input m out args) (Emit e)
   refused e (out_of_memory memory) = inl memory

@@ -26,19 +26,19 @@ use Rattle.walrus_rewrite.specs.RewrittenBodies.{RefusesRewriting, IsOfWriting}
 use Rattle.walrus_flat.specs.RewrittenFlat.{Finishes, FinishesBoth, Composes, RewritesFlat}
 
 -- the result of appending
-pub finishes : (m : Result (List ℕ × Drafted) RewriteError) (p : List ℕ × Drafted) → m ≡ Ok p → (old new : List ℕ) (r : Result (Unit {0}) RewriteError) → OnOk r (new ≡ old ++ (p.0 ++ p.1.output.bytes)) → IfErr r (λ e. e ≡ Emit emit.Memory) → Finishes m old new r
+pub finishes : (m : Result Drafted RewriteError) (p : Drafted) → m ≡ Ok p → (old new : List ℕ) (r : Result (Unit {0}) RewriteError) → OnOk r (new ≡ old ++ p.output.bytes) → IfErr r (λ e. e ≡ Emit emit.Memory) → Finishes m old new r
 finishes m p e old new (Ok u) ok err = subst (λ n. Finishes n old new (Ok u)) (sym e) ok
 finishes m p e old new (Err f) ok err = subst (λ n. Finishes n old new (Err f)) (sym e) err
 
-pub finishes_both : (m : Result (List ℕ × Drafted) RewriteError) (p : List ℕ × Drafted) → m ≡ Ok p → (old new : List ℕ) (ps qs : List Pair) (r : Result (Unit {0}) RewriteError) → OnOk r (new ≡ old ++ (p.0 ++ p.1.output.bytes)) → OnOk r (qs ≡ ps ++ p.1.output.pairs) →
+pub finishes_both : (m : Result Drafted RewriteError) (p : Drafted) → m ≡ Ok p → (old new : List ℕ) (ps qs : List Pair) (r : Result (Unit {0}) RewriteError) → OnOk r (new ≡ old ++ p.output.bytes) → OnOk r (qs ≡ ps ++ p.output.pairs) →
     IfErr r (λ e. e ≡ Emit emit.Memory) → FinishesBoth m old new ps qs r
 finishes_both m p e old new ps qs (Ok u) ok pairs err = subst (λ n. FinishesBoth n old new ps qs (Ok u)) (sym e) (ok, pairs)
 finishes_both m p e old new ps qs (Err f) ok pairs err = subst (λ n. FinishesBoth n old new ps qs (Err f)) (sym e) err
 
-pub finishes_not : (m : Result (List ℕ × Drafted) RewriteError) (f : RewriteError) → m ≡ Err f → (old new : List ℕ) → Finishes m old new (Err f)
+pub finishes_not : (m : Result Drafted RewriteError) (f : RewriteError) → m ≡ Err f → (old new : List ℕ) → Finishes m old new (Err f)
 finishes_not m f e old new = subst (λ n. Finishes n old new (Err f)) (sym e) refl
 
-pub finishes_not_both : (m : Result (List ℕ × Drafted) RewriteError) (f : RewriteError) → m ≡ Err f → (old new : List ℕ) (ps qs : List Pair) → FinishesBoth m old new ps qs (Err f)
+pub finishes_not_both : (m : Result Drafted RewriteError) (f : RewriteError) → m ≡ Err f → (old new : List ℕ) (ps qs : List Pair) → FinishesBoth m old new ps qs (Err f)
 finishes_not_both m f e old new ps qs = subst (λ n. FinishesBoth n old new ps qs (Err f)) (sym e) refl
 
 module _ {S F : Type 0} (asks : Shared F (Bor ℕ × Unit {0}) ℕ) (i : ParseInput S F) (by : EmitInput) where
@@ -48,20 +48,20 @@ module _ {S F : Type 0} (asks : Shared F (Bor ℕ × Unit {0}) ℕ) (i : ParseIn
 
   -- ---- what is appended
 
-  module _ (has_map : Bool) (m : Result (List ℕ × Drafted) RewriteError) (ok : IfOk m (λ made. Composes asks i by has_map made.0 made.1)) (err : IfErr m (RefusesRewriting asks i by)) (old new : List ℕ) where
+  module _ (has_map : Bool) (m : Result Drafted RewriteError) (ok : IfOk m (Composes asks i by has_map)) (err : IfErr m (RefusesRewriting asks i by)) (old new : List ℕ) where
     pub flat_with_map : {Z : Type 0} → has_map ≡ true → (list left : LentPairs Z) → (r : Result (Unit {0}) RewriteError) → FinishesBoth m old new list.now.items left.now.items r →
         OnOk r (RewritesFlat asks i by old new (Some list) (inr (inl (left, tt))))
     flat_with_map has list left (Err e) h = tt
     flat_with_map has list left (Ok u) h = by_made m ok h
       where
-        by_made : (n : Result (List ℕ × Drafted) RewriteError) → IfOk n (λ made. Composes asks i by has_map made.0 made.1) → FinishesBoth n old new list.now.items left.now.items (Ok u) → RewritesFlat asks i by old new (Some list) (inr (inl (left, tt)))
+        by_made : (n : Result Drafted RewriteError) → IfOk n (Composes asks i by has_map) → FinishesBoth n old new list.now.items left.now.items (Ok u) → RewritesFlat asks i by old new (Some list) (inr (inl (left, tt)))
         by_made (Err f) k h = absurd h
         by_made (Ok made) k h = record {
           mapping = k.mapping;
           body = k.body;
           accepted = k.accepted;
           is_mapping = k.is_mapping;
-          raw = made.0 ++ made.1.output.bytes;
+          raw = made.output.bytes;
           pairs = k.pairs;
           is_raw_body = k.is_raw_body;
           keeps = k.keeps;
@@ -73,14 +73,14 @@ module _ {S F : Type 0} (asks : Shared F (Bor ℕ × Unit {0}) ℕ) (i : ParseIn
     flat_without_map Z (Err e) h = tt
     flat_without_map Z (Ok u) h = by_made m ok h
       where
-        by_made : (n : Result (List ℕ × Drafted) RewriteError) → IfOk n (λ made. Composes asks i by has_map made.0 made.1) → Finishes n old new (Ok u) → RewritesFlat asks i by {Z = Z} old new None (inl tt)
+        by_made : (n : Result Drafted RewriteError) → IfOk n (Composes asks i by has_map) → Finishes n old new (Ok u) → RewritesFlat asks i by {Z = Z} old new None (inl tt)
         by_made (Err f) k h = absurd h
         by_made (Ok made) k h = record {
           mapping = k.mapping;
           body = k.body;
           accepted = k.accepted;
           is_mapping = k.is_mapping;
-          raw = made.0 ++ made.1.output.bytes;
+          raw = made.output.bytes;
           pairs = k.pairs;
           is_raw_body = k.is_raw_body;
           keeps = k.keeps;
@@ -94,7 +94,7 @@ module _ {S F : Type 0} (asks : Shared F (Bor ℕ × Unit {0}) ℕ) (i : ParseIn
     accepts_with_map ps qs (Err e) h = tt
     accepts_with_map ps qs (Ok u) h = by_made m ok h
       where
-        by_made : (n : Result (List ℕ × Drafted) RewriteError) → IfOk n (λ made. Composes asks i by has_map made.0 made.1) → FinishesBoth n old new ps qs (Ok u) → IsAcceptedSomehow
+        by_made : (n : Result Drafted RewriteError) → IfOk n (Composes asks i by has_map) → FinishesBoth n old new ps qs (Ok u) → IsAcceptedSomehow
         by_made (Err f) k h = absurd h
         by_made (Ok made) k h = (k.mapping, k.body, k.accepted)
 
@@ -102,7 +102,7 @@ module _ {S F : Type 0} (asks : Shared F (Bor ℕ × Unit {0}) ℕ) (i : ParseIn
     accepts_without_map (Err e) h = tt
     accepts_without_map (Ok u) h = by_made m ok h
       where
-        by_made : (n : Result (List ℕ × Drafted) RewriteError) → IfOk n (λ made. Composes asks i by has_map made.0 made.1) → Finishes n old new (Ok u) → IsAcceptedSomehow
+        by_made : (n : Result Drafted RewriteError) → IfOk n (Composes asks i by has_map) → Finishes n old new (Ok u) → IsAcceptedSomehow
         by_made (Err f) k h = absurd h
         by_made (Ok made) k h = (k.mapping, k.body, k.accepted)
 
@@ -112,7 +112,7 @@ module _ {S F : Type 0} (asks : Shared F (Bor ℕ × Unit {0}) ℕ) (i : ParseIn
     refused_with_map ps qs (Ok u) h = tt
     refused_with_map ps qs (Err e) h = by_made m err h
       where
-        by_made : (n : Result (List ℕ × Drafted) RewriteError) → IfErr n (RefusesRewriting asks i by) → FinishesBoth n old new ps qs (Err e) → RefusesRewriting asks i by e
+        by_made : (n : Result Drafted RewriteError) → IfErr n (RefusesRewriting asks i by) → FinishesBoth n old new ps qs (Err e) → RefusesRewriting asks i by e
         by_made (Err f) k h = subst (RefusesRewriting asks i by) (sym h) k
         by_made (Ok made) k h = subst (RefusesRewriting asks i by) (sym h) (inl refl)
 
@@ -120,7 +120,7 @@ module _ {S F : Type 0} (asks : Shared F (Bor ℕ × Unit {0}) ℕ) (i : ParseIn
     refused_without_map (Ok u) h = tt
     refused_without_map (Err e) h = by_made m err h
       where
-        by_made : (n : Result (List ℕ × Drafted) RewriteError) → IfErr n (RefusesRewriting asks i by) → Finishes n old new (Err e) → RefusesRewriting asks i by e
+        by_made : (n : Result Drafted RewriteError) → IfErr n (RefusesRewriting asks i by) → Finishes n old new (Err e) → RefusesRewriting asks i by e
         by_made (Err f) k h = subst (RefusesRewriting asks i by) (sym h) k
         by_made (Ok made) k h = subst (RefusesRewriting asks i by) (sym h) (inl refl)
 

@@ -6,6 +6,8 @@ pub mod CheckingAlike
 pub mod NoParts
 -- a body that is checked so far
 pub mod CheckedFronts
+-- what a cursor passes
+pub mod Cursors
 -- what parsing the operators gives
 pub mod Accepting
 -- an accepted body that is read again
@@ -22,6 +24,7 @@ pub mod CheckedClosings
 pub mod CheckerSteps
 pub mod CheckerOperators
 pub mod CheckerAtOnce
+pub mod CheckedControls
 pub mod CheckedBodies
 pub mod CheckedLoop
 -- what is written aside
@@ -31,6 +34,7 @@ pub mod WriterSteps
 pub mod WriterOperators
 pub mod WriterAtOnce
 pub mod WriterShort
+pub mod WriterControls
 -- types of sequences that are written as one byte
 pub mod TypeBytes
 -- the operators of a body that is written so far

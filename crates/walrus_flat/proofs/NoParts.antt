@@ -1,9 +1,10 @@
 -- Operators without parts that may be missing.
-use Rattle.std.proofs.Common.{◌≡◌, ℕ, [], ◌∷◌, Bool, Result, Ok, Err, refl, sym, subst}
+use Rattle.std.proofs.Common.{◌≡◌, ℕ, [], ◌∷◌, Bool, true, Result, Ok, Err, refl, sym, subst}
 use Rattle.std.specs.Prelude.{IsOk}
 use Rattle.std.specs.Bool.{OnTrue}
 use Rattle.wasm_operators.specs.declared.types.BlockType.{BlockType}
 use Rattle.wasm_operators.specs.declared.types.Opcode.TheVariants.{Byte}
+use Rattle.wasm_operators.specs.declared.operator.Op.TheVariants as op
 use Rattle.wasm_operators.specs.Meaning.{Listed, meaning}
 use Rattle.wasm_operators.specs.Operations.{block, operation, RawOperation}
 use Rattle.wasm_body.specs.Naming.{name_block}
@@ -28,3 +29,14 @@ at_opener o byte b is r = on_true r (λ none. subst HasNoParts (sym is) (opener_
 -- an operator that is one byte
 pub byte_alone : (o : RawOperation) (byte : ℕ) → IsByte o byte → HasNoParts o
 byte_alone o byte is c = subst (λ x. IsOk (parts_in c x)) (sym is) refl
+
+-- constants of floating point
+pub f32_alone : (bits : ℕ) → HasNoParts (meaning (op.F32Const bits))
+f32_alone bits c = refl
+
+pub f64_alone : (bits : ℕ) → HasNoParts (meaning (op.F64Const bits))
+f64_alone bits c = refl
+
+-- what is so where the result is true
+pub on_true_is : {P : Type 0} (b : Bool) → b ≡ true → OnTrue b P → P
+on_true_is {P} b is h = subst (λ c. OnTrue c P) is h

@@ -3,8 +3,8 @@ use Rattle.std.proofs.Common.{◌≡◌, ℕ, [], ◌∷◌, Result, Ok, Err, On
 use Rattle.walrus_ir.specs.declared.val_type.InstrSeqType.{InstrSeqType}
 use Rattle.wasm_operators.specs.declared.types.BlockType.{BlockType}
 use Rattle.wasm_operators.specs.declared.types.Opcode.TheVariants.{Byte}
-use Rattle.wasm_operators.specs.Operations.{block, operation, RawOperation}
-use Rattle.wasm_operators.specs.Shortest.{short, short_block, short_number}
+use Rattle.wasm_operators.specs.Operations.{RawImmediate, block, operation, RawOperation}
+use Rattle.wasm_operators.specs.Shortest.{short, short_block, short_bits, short_immediate, short_number}
 use Rattle.wasm_body.specs.declared.error.EmitError.{EmitError}
 use Rattle.wasm_body.specs.declared.error.EmitError.TheVariants.{Memory}
 use Rattle.wasm_body.specs.Bytes.{numbered_block}
@@ -53,3 +53,16 @@ module _ (old w : Writer) (o : RawOperation) (type : InstrSeqType) (location : �
   pub plain_written : (byte : ℕ) → IsByte o byte → (r : Result (Unit {0}) EmitError) → OnOk r (new ≡ record w { draft = with_written w.draft (at_location (operation (Byte byte) []) location) }) → IfErr r (λ e. e ≡ Memory) →
       PutsAsIs old new o type location r
   plain_written byte is = put_as_is (operation (Byte byte) []) (ap (renumbered w type) is)
+
+-- a constant that is a byte and its bits
+module _ (old new : Writer) (type : InstrSeqType) (location : ℕ) (byte count bits : ℕ) (raw : RawImmediate) (spelt : short_immediate raw ≡ short_bits count bits)
+    (numbered : (w : Writer) → renumbered w type (operation (Byte byte) (raw ∷ [])) ≡ Ok (operation (Byte byte) (raw ∷ []))) where
+  abbrev woke : Writer
+  woke = record old { draft = drafted old.draft (waiting_else old.«open».next); «open» = awake old.«open» }
+
+  pub float_written : (r : Result (Unit {0}) EmitError) →
+      OnOk r (new ≡ record old { draft = with_bytes (drafted old.draft (waiting_else old.«open».next)) (byte ∷ short_bits count bits) location; «open» = awake old.«open» }) → IfErr r (λ e. e ≡ Memory) →
+      PutsAsIs old new (operation (Byte byte) (raw ∷ [])) type location r
+  float_written r ok err =
+      put_as_is old woke (operation (Byte byte) (raw ∷ [])) type location refl new (operation (Byte byte) (raw ∷ [])) (numbered woke) r
+      (subst (λ bs. OnOk r (new ≡ record woke { draft = with_bytes woke.draft (byte ∷ bs) location })) (sym (append-nil (short_immediate raw) ∙ spelt)) ok) err

@@ -1,5 +1,5 @@
 -- What checking the operators of a body shows.
-use Rattle.std.specs.Prelude.{◌≡◌, ◌⊎◌, ℕ, List, [], ◌∷◌, ◌||◌, length, map, nat_lt, Bool, true, false, Option, Some, None, Result, Ok, Err}
+use Rattle.std.specs.Prelude.{◌≡◌, ◌≢◌, ◌⊎◌, ℕ, List, [], ◌∷◌, ◌||◌, length, map, nat_lt, Bool, true, false, Option, Some, None, Result, Ok, Err}
 use Rattle.walrus_ir.specs.declared.control.BlockKind.TheVariants as kind
 use Rattle.walrus_ir.specs.Types.{ModuleType, signature_of, find_entry}
 use Rattle.walrus_ir.specs.Results.{◌>>=◌, some_or}
@@ -7,11 +7,9 @@ use Rattle.walrus_ir.specs.Unfolding.{among}
 use Rattle.walrus_ir.specs.Locations.{default_location}
 use Rattle.wasm_operators.specs.OperatorList.{Placed}
 use Rattle.wasm_operators.specs.Operations.{RawOperation}
-use Rattle.wasm_operators.specs.Meaning.{meaning}
+use Rattle.wasm_operators.specs.Meaning.{Listed, meaning}
 use Rattle.wasm_operators.specs.Spelling.{read_operation}
-use Rattle.wasm_ops.specs.CommonOperators.{listed}
 use Rattle.wasm_ops.specs.Position.{Position, IsAfter}
-use Rattle.wasm_ops.specs.declared.common.CommonOperator.{CommonOperator}
 use Rattle.wasm_body.specs.declared.error.ParseError.{ParseError}
 use Rattle.wasm_body.specs.declared.error.ParseError.TheVariants.{Memory, PlaceTooGreat, Checked, NotAFunctionType, EntryTypeMissing}
 use Rattle.wasm_body.specs.declared.error.ParseFailure.{ParseFailure}
@@ -21,6 +19,7 @@ use Rattle.wasm_body.specs.Parsing.Accepted.{Setting, Accepted, FirstFault, mark
 use Rattle.wasm_body.specs.Parsing.Lists.{parsed_from}
 use Rattle.wasm_body.specs.Parsing.Progress.{Whole, nothing_read, progress_after}
 use Rattle.wasm_flat.specs.Flat.{first_deadness, locals_read}
+use Rattle.walrus_instructions.specs.OperatorKinds.{is_instruction}
 use Rattle.walrus_parser.specs.Checking.{placed_at}
 use Rattle.walrus_parser.specs.Settings.{operators_of}
 use Rattle.walrus_flat.specs.declared.checker.Checker.{Checker}
@@ -37,6 +36,11 @@ HasLimit _ _ = ⊥
 abbrev pub fits_limit : Bool → ℕ → Bool
 fits_limit true place = nat_lt place default_location
 fits_limit false place = true
+
+-- the last place that is small enough
+abbrev pub last_place : Bool → ℕ
+last_place true = 0xffff_fffe
+last_place false = 0xffff_ffff_ffff_ffff
 
 -- Nothing is read yet: the function's own sequence is open, and code isn't dead.
 pub record BeginsBody (c : Checker) : Type 0 where
@@ -81,12 +85,16 @@ abbrev pub ChecksNext : {V : Type 0} → (V → Placed → Result V ℕ) → (v 
 ChecksNext check v w limit place old new o (Ok u) = IsTaken check v w o limit place × StepsChecker old new o (Ok tt)
 ChecksNext check v w limit place old new o (Err e) = RefusesTaking check v o limit place e ⊎ (IsTaken check v w o limit place × StepsChecker old new o (Err e))
 
--- The next operator is a common one, which was taken at once; or it wasn't, and nothing changed but memory; or it isn't accepted.
+-- An operator by itself, or sequences are open after it.
+abbrev pub StaysInside : Listed → Checker → Type 0
+StaysInside x new = (is_instruction x ≡ true) ⊎ (new.«open».items ≢ [])
+
+-- The next operator is a frequent one, which was taken at once; or it wasn't, and nothing changed but memory; or it isn't accepted.
 abbrev pub ChecksNextAtOnce : {V : Type 0} → (V → Placed → Result V ℕ) → (v w : V) → (limit : Bool) → (place : ℕ) → Position → Position → Checker → Checker → Result Bool ParseError → Type 0
 ChecksNextAtOnce check v w limit place from to old new (Ok true) =
-    (x : CommonOperator) × (read_operation from.rest ≡ Ok (meaning (listed x), to.rest)) × IsAfter from to × ChecksNext check v w limit place old new (meaning (listed x)) (Ok tt)
+    (x : Listed) × (read_operation from.rest ≡ Ok (meaning x, to.rest)) × IsAfter from to × ChecksNext check v w limit place old new (meaning x) (Ok tt) × StaysInside x new
 ChecksNextAtOnce check v w limit place from to old new (Ok false) = (to ≡ from) × StaysSame old new × (w ≡ v)
-ChecksNextAtOnce check v w limit place from to old new (Err e) = (x : CommonOperator) × (rest : List ℕ) × (read_operation from.rest ≡ Ok (meaning (listed x), rest)) × RefusesTaking check v (meaning (listed x)) limit place e
+ChecksNextAtOnce check v w limit place from to old new (Err e) = (x : Listed) × (rest : List ℕ) × (read_operation from.rest ≡ Ok (meaning x, rest)) × RefusesTaking check v (meaning x) limit place e
 
 -- ---- with the function's own type
 

@@ -1,5 +1,5 @@
 -- What the steps of the checker do.
-use Rattle.std.specs.Prelude.{◌≡◌, ◌⊎◌, ℕ, List, [], ◌∷◌, ◌++◌, ◌==◌, ◌||◌, reverse, Bool, true, false, cond, Option, Some, None, IsOk, Result, Ok, Err}
+use Rattle.std.specs.Prelude.{◌≡◌, ◌≢◌, ◌⊎◌, ℕ, List, [], ◌∷◌, ◌++◌, ◌==◌, ◌||◌, reverse, Bool, true, false, cond, Option, Some, None, IsOk, Result, Ok, Err}
 use Rattle.walrus_ir.specs.declared.control.BlockKind.{BlockKind}
 use Rattle.walrus_ir.specs.declared.control.BlockKind.TheVariants as kind
 use Rattle.walrus_ir.specs.declared.val_type.InstrSeqType.{InstrSeqType}
@@ -62,6 +62,10 @@ as_kind k f = record f { kind = k }
 pub record Closes (old new : Checker) (top : OpenSequence) : Type 0 where
   pub was : old.«open».items ≡ new.«open».items ++ top ∷ []
   pub is : new ≡ record old { «open» = new.«open»; dead = top.before }
+
+-- And others are still open.
+abbrev pub ClosesInner : Checker → Checker → Type 0
+ClosesInner old new = (top : OpenSequence) × Closes old new top × (new.«open».items ≢ [])
 
 -- It is replaced by the next one of its construct, which has this kind.
 pub record Parts (old new : Checker) (top : OpenSequence) (k : BlockKind) : Type 0 where

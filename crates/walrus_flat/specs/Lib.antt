@@ -1,5 +1,6 @@
 -- the open sequences of a body that is checked, and the operators of one that is written
 pub mod SequenceKinds
+pub mod Controls
 -- locals and their numbers
 pub mod UsedMarks
 pub mod UsedLocals

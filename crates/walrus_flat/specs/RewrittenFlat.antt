@@ -40,24 +40,24 @@ read_again i = record {
 abbrev pub emit_input : Module → IdsToIndices → List ℕ → EmitInput
 emit_input m out args = record { to = numbers_by m.types out []; types = m.locals; args = args }
 
--- nothing is written
-abbrev pub empty_draft : ℕ → Bool → Drafted
-empty_draft base has_map = record { base = base; has_map = has_map; output = record { bytes = []; pairs = [] } }
+-- the declarations are written, and no operator
+abbrev pub begun_draft : List ℕ → Bool → Drafted
+begun_draft declared has_map = record { base = 0; has_map = has_map; output = record { bytes = declared; pairs = [] } }
 
 abbrev pub is_none : {A : Type 0} → Option A → Bool
 is_none None = true
 is_none (Some x) = false
 
 -- The bytes are appended if the body was written; else its fault is returned.
-abbrev pub Finishes : Result (List ℕ × Drafted) RewriteError → (old new : List ℕ) → Result (Unit {0}) RewriteError → Type 0
-Finishes (Ok made) old new (Ok u) = new ≡ old ++ (made.0 ++ made.1.output.bytes)
+abbrev pub Finishes : Result Drafted RewriteError → (old new : List ℕ) → Result (Unit {0}) RewriteError → Type 0
+Finishes (Ok made) old new (Ok u) = new ≡ old ++ made.output.bytes
 Finishes (Ok made) old new (Err e) = e ≡ Emit Memory
 Finishes (Err f) old new (Ok u) = ⊥
 Finishes (Err f) old new (Err e) = e ≡ f
 
 -- And the pairs are appended to their list.
-abbrev pub FinishesBoth : Result (List ℕ × Drafted) RewriteError → (old new : List ℕ) → (old_pairs new_pairs : List Pair) → Result (Unit {0}) RewriteError → Type 0
-FinishesBoth (Ok made) old new old_pairs new_pairs (Ok u) = (new ≡ old ++ (made.0 ++ made.1.output.bytes)) × (new_pairs ≡ old_pairs ++ made.1.output.pairs)
+abbrev pub FinishesBoth : Result Drafted RewriteError → (old new : List ℕ) → (old_pairs new_pairs : List Pair) → Result (Unit {0}) RewriteError → Type 0
+FinishesBoth (Ok made) old new old_pairs new_pairs (Ok u) = (new ≡ old ++ made.output.bytes) × (new_pairs ≡ old_pairs ++ made.output.pairs)
 FinishesBoth (Ok made) old new old_pairs new_pairs (Err e) = e ≡ Emit Memory
 FinishesBoth (Err f) old new old_pairs new_pairs (Ok u) = ⊥
 FinishesBoth (Err f) old new old_pairs new_pairs (Err e) = e ≡ f
@@ -77,27 +77,25 @@ module _ {S F : Type 0} (asks : Shared F (Bor ℕ × Unit {0}) ℕ) (i : ParseIn
     pub bytes : new ≡ old ++ raw
     pub appends_pairs : AppendsPairs pairs entry exit
 
-  -- The declarations, and what is written after them, are the raw body of the accepted body; the pairs are its own, if they are
-  -- kept.
-  pub record Composes (has_map : Bool) (declared : List ℕ) (written : Drafted) : Type 0 where
+  -- What is written is the raw body of the accepted body; the pairs are its own, if they are kept.
+  pub record Composes (has_map : Bool) (written : Drafted) : Type 0 where
     pub mapping : List (ℕ × ℕ)
     pub body : Body Occurrence
     pub accepted : Accepted (setting_with i (mapped_by asks i mapping)) i.bytes body
     pub is_mapping : IsMapping asks i.on_instr_pos i.offset i.start (i.start + length i.bytes) (operators_of body) mapping
     pub pairs : List Pair
-    pub is_raw_body : IsRawBody by (body_tree i.environment body) (declared ++ written.output.bytes) pairs
+    pub is_raw_body : IsRawBody by (body_tree i.environment body) written.output.bytes pairs
     pub keeps : KeepsSource i.environment accepted.operators body pairs
     pub kept_pairs : has_map ≡ true → written.output.pairs ≡ pairs
 
   -- ---- after the first pass, which found that live operators name these locals
 
   -- The declarations are written, and after them what is written of the body.
-  pub record WritesAll (has_map : Bool) (numbers_with : List (ℕ × ℕ) → Numbers) (used : ℕ → Bool) (declared : List ℕ) (written : Drafted) : Type 0 where
+  pub record WritesAll (has_map : Bool) (numbers_with : List (ℕ × ℕ) → Numbers) (used : ℕ → Bool) (written : Drafted) : Type 0 where
     pub entries : List (ℕ × ℕ)
+    pub declared : List ℕ
     pub begins : Begins by used declared entries
-    pub base : ℕ
-    pub base_is : base ≡ length declared
-    pub writes : WritesBody asks (read_again i) (numbers_with entries) (empty_draft base has_map) written
+    pub writes : WritesBody asks (read_again i) (numbers_with entries) (begun_draft declared has_map) written
 
   -- The locals can't be declared, or else this is the first fault of what is written of the body; or memory ran out.
   pub data IsNotAllWritten (numbers_with : List (ℕ × ℕ) → Numbers) (used : ℕ → Bool) (e : EmitError) : Type 0 where

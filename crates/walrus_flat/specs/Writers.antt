@@ -4,7 +4,7 @@ use Rattle.walrus_ir.specs.declared.val_type.InstrSeqType.{InstrSeqType}
 use Rattle.walrus_ir.specs.declared.val_type.InstrSeqType.TheVariants.{Simple}
 use Rattle.wasm_operators.specs.Meaning.{Listed, meaning}
 use Rattle.walrus_parser.specs.OperatorKinds.{is_diverging}
-use Rattle.walrus_emit_state.specs.TreeWriting.Drafts.{with_written}
+use Rattle.walrus_emit_state.specs.TreeWriting.Drafts.{with_written, with_bytes}
 use Rattle.walrus_ir.specs.Types.{Signature, pick}
 use Rattle.walrus_ir.specs.Results.{gather}
 use Rattle.wasm_operators.specs.declared.types.BlockType.{BlockType}
@@ -21,7 +21,7 @@ use Rattle.wasm_body.specs.Naming.{Environment, NamedOperation, Occurrence, name
 use Rattle.wasm_body.specs.NormalForm.{Typing, typing_of, construct_type}
 use Rattle.wasm_body.specs.TextLaws.{mark_named}
 use Rattle.wasm_body.specs.Translation.{Located, at_location}
-use Rattle.wasm_flat.specs.Flat.{Named, Kept, Dropped, Dead, Live, FlatState, state, written_at, after, numbered}
+use Rattle.wasm_flat.specs.Flat.{Named, Kept, Dropped, Dead, Live, FlatState, state, innermost, around, needs_else, written_at, after, numbered}
 use Rattle.wasm_translate.specs.Changes.{changed}
 use Rattle.walrus_maps.specs.Environments.{environment_of}
 use Rattle.walrus_maps.specs.IndexMaps.{id_of, local_of}
@@ -159,3 +159,18 @@ abbrev pub StepsWriter : Writer → Writer → RawOperation → (location : ℕ)
 StepsWriter old new o location r =
     (type : ℕ) (g : Frame Occurrence) (gs : List (Frame Occurrence)) (text : List ℕ) (named : NamedOperation) → Spells o text → named_in (env_at old type) (g ∷ gs) o ≡ Ok named →
     IsTaken (typing_of (env_at old type)) old new (mark_named (at_location named location)) r
+
+-- ---- control operators that are written at once
+
+-- The opener of a construct of the empty type, whose opcode is this byte, was written, and its first sequence is open.
+pub record OpensEmpty (old new : Writer) (byte location : ℕ) : Type 0 where
+  pub is : new ≡ record old { draft = with_bytes old.draft (byte ∷ short_number 0x40) location; «open» = new.«open» }
+  pub next : new.«open».next ≡ old.«open».next
+  pub opens : opens_of new.«open» ≡ Kept false ∷ opens_of old.«open»
+
+-- The `end` of a sequence that needs no `else` was written, and the sequence is closed.
+pub record ClosesShort (old new : Writer) (location : ℕ) : Type 0 where
+  pub is : new ≡ record old { draft = with_bytes old.draft (0x0b ∷ []) location; «open» = new.«open» }
+  pub next : new.«open».next ≡ old.«open».next
+  pub closes : opens_of new.«open» ≡ around (opens_of old.«open»)
+  pub short : needs_else (innermost (opens_of old.«open»)) ≡ false

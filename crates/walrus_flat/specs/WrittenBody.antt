@@ -3,11 +3,9 @@ use Rattle.std.specs.Prelude.{◌≡◌, ◌⊎◌, ℕ, ◌+◌, List, length, 
 use Rattle.std.specs.Borrow.{Bor}
 use Rattle.std.specs.Fn.{Shared}
 use Rattle.wasm_operators.specs.Operations.{RawOperation}
-use Rattle.wasm_operators.specs.Meaning.{meaning}
+use Rattle.wasm_operators.specs.Meaning.{Listed, meaning}
 use Rattle.wasm_operators.specs.Spelling.{Spells, read_operation}
-use Rattle.wasm_ops.specs.CommonOperators.{listed}
 use Rattle.wasm_ops.specs.Position.{Position, IsAfter}
-use Rattle.wasm_ops.specs.declared.common.CommonOperator.{CommonOperator}
 use Rattle.wasm_body.specs.declared.error.EmitError.{EmitError}
 use Rattle.wasm_body.specs.declared.error.EmitError.TheVariants.{Memory}
 use Rattle.wasm_body.specs.Bytes.{Numbers}
@@ -37,10 +35,10 @@ pub record IsAccepted {F : Type 0} (i : ParseInput (Unit {0}) F) : Type 0 where
   pub body : Body Occurrence
   pub accepted : Accepted (setting_with i (some_locations i.on_instr_pos)) i.bytes body
 
--- The next operator is a common one, which was written or skipped at once; or it wasn't, and nothing changed.
+-- The next operator is a frequent one, which was written or skipped at once; or it wasn't, and nothing changed.
 abbrev pub WritesNextAtOnce : Position → Position → Writer → Writer → (location : ℕ) → Bool → Type 0
 WritesNextAtOnce from to old new location true =
-    (x : CommonOperator) × (read_operation from.rest ≡ Ok (meaning (listed x), to.rest)) × ((text : List ℕ) × Spells (meaning (listed x)) text) × IsAfter from to × StepsWriter old new (meaning (listed x)) location (Ok tt)
+    (x : Listed) × (read_operation from.rest ≡ Ok (meaning x, to.rest)) × ((text : List ℕ) × Spells (meaning x) text) × IsAfter from to × StepsWriter old new (meaning x) location (Ok tt)
 WritesNextAtOnce from to old new location false = (to ≡ from) × (new ≡ old)
 
 module _ {F : Type 0} (g : Shared F (Bor ℕ × Unit {0}) ℕ) (i : ParseInput (Unit {0}) F) (to : Numbers) where

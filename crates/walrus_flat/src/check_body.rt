@@ -5,47 +5,33 @@ ghost use Rattle.wasm_operators.specs.Meaning.{meaning};
 ghost use Rattle.wasm_encode.specs.Writable.{IsWritable};
 ghost use Rattle.wasm_ops.specs.CommonOperators.{listed};
 ghost use Rattle.wasm_ops.specs.Position.{IsAfter};
+ghost use Rattle.walrus_parser.specs.Checking.{Checks, placed_at};
+ghost use Rattle.walrus_flat.specs.Controls.{control_listed};
 ghost use Rattle.walrus_flat.specs.Checked.{env_of};
-ghost use Rattle.walrus_flat.specs.CheckedBody.{fits_limit, BeginsBody, setting_at, ChecksOperators, ChecksNextAtOnce, RefusesTaking, IsTaken};
+ghost use Rattle.walrus_flat.specs.CheckedBody.{BeginsBody, setting_at, ChecksOperators, ChecksNextAtOnce, RefusesTaking, IsTaken};
 
 use crate::checker::Checker;
-use walrus_parser::{OpCheck, check_common, checked, failure};
+use crate::control::Control;
+use crate::cursor::Cursor;
+use crate::place_limit::PlaceLimit;
+use walrus_parser::{CheckError, OpCheck, check_common, checked, failure};
 use wasm_body::{ParseError, ParseFailure};
-use wasm_ops::{CommonOperator, Operator, ReadError, Reader};
-
-/// Whether a place is small enough, if places have a limit.
-fn fits_limit(has_limit: bool, at: usize) -> bool
-    ensures { result ≡ fits_limit has_limit at }
-{
-    !has_limit || at < u32::MAX as usize
-}
-
-/// Reads the next operator.
-pub(crate) fn read_other<'a>(reader: &mut Reader<'a>) -> Result<Operator<'a>, ReadError>
-    ensures is_read { IfOk result (λ x.
-        read_operation reader.old.rest ≡ Ok (meaning x, reader.new.rest)) }
-    ensures writable { IfOk result (λ x. IsWritable (meaning x)) }
-    ensures spelt { IfOk result (λ x. (text : List ℕ) × Spells (meaning x) text) }
-    ensures moves { IfOk result (λ _. IsAfter reader.old reader.new) }
-    ensures err { IfErr result (λ e. (read_operation reader.old.rest ≡ Err e.fault)
-        × (e.at ≡ reader.old.place)) }
-{
-    reader.read_other()
-}
+use wasm_operators::BlockType;
+use wasm_ops::{CommonOperator, Operator};
 
 /// Whether an operator that was read at this place is taken.
 fn accepts<V: OpCheck>(
     at: usize,
     operator: &Operator<'_>,
-    has_limit: bool,
+    limit: PlaceLimit,
     validator: &mut V,
 ) -> Result<(), ParseError>
     ensures ok { OnOk result (IsTaken V.check (V.state validator.old) (V.state validator.new)
-        (meaning operator.now) has_limit at) }
+        (meaning operator.now) limit.has_limit at) }
     ensures err { IfErr result (RefusesTaking V.check (V.state validator.old)
-        (meaning operator.now) has_limit at) }
+        (meaning operator.now) limit.has_limit at) }
 {
-    if !fits_limit(has_limit, at) {
+    if !limit.fits(at) {
         return Err(ParseError::PlaceTooGreat);
     }
     match validator.op(at, operator) {
@@ -59,20 +45,90 @@ fn accepts<V: OpCheck>(
 fn accepts_common<V: OpCheck>(
     at: usize,
     common: CommonOperator,
-    has_limit: bool,
+    limit: PlaceLimit,
     validator: &mut V,
 ) -> Result<(), ParseError>
     ensures ok { OnOk result (IsTaken V.check (V.state validator.old) (V.state validator.new)
-        (meaning (listed common)) has_limit at) }
+        (meaning (listed common)) limit.has_limit at) }
     ensures err { IfErr result (RefusesTaking V.check (V.state validator.old)
-        (meaning (listed common)) has_limit at) }
+        (meaning (listed common)) limit.has_limit at) }
 {
-    if !fits_limit(has_limit, at) {
+    if !limit.fits(at) {
         return Err(ParseError::PlaceTooGreat);
     }
     match check_common(validator, at, common) {
         Ok(()) => Ok(()),
         Err(error) => Err(checked(error)),
+    }
+}
+
+/// Has the validator check a control operator, as `check_common`.
+#[inline(always)]
+fn check_operator<V: OpCheck>(
+    validator: &mut V,
+    at: usize,
+    control: Control,
+) -> Result<(), CheckError>
+    ensures { Checks V.check (V.state validator.old)
+        (placed_at (meaning (control_listed control)) at) result (V.state validator.new) }
+{
+    let ty = BlockType::Empty;
+    match control {
+        Control::Block => validator.op(at, &Operator::Block { ty }),
+        Control::Loop => validator.op(at, &Operator::Loop { ty }),
+        Control::If => validator.op(at, &Operator::If { ty }),
+        Control::End => validator.op(at, &Operator::End),
+    }
+}
+
+/// Whether a control operator that was read at this place is taken.
+#[inline(always)]
+fn accepts_control<V: OpCheck>(
+    at: usize,
+    control: Control,
+    limit: PlaceLimit,
+    validator: &mut V,
+) -> Result<(), ParseError>
+    ensures ok { OnOk result (IsTaken V.check (V.state validator.old) (V.state validator.new)
+        (meaning (control_listed control)) limit.has_limit at) }
+    ensures err { IfErr result (RefusesTaking V.check (V.state validator.old)
+        (meaning (control_listed control)) limit.has_limit at) }
+{
+    if !limit.fits(at) {
+        return Err(ParseError::PlaceTooGreat);
+    }
+    match check_operator(validator, at, control) {
+        Ok(()) => Ok(()),
+        Err(error) => Err(checked(error)),
+    }
+}
+
+/// Checks the next operator at once if it is one of the frequent control operators, as
+/// `check_at_once`.
+#[inline(never)]
+fn check_control<V: OpCheck>(
+    checker: &mut Checker<'_>,
+    reader: &mut Cursor<'_>,
+    at: usize,
+    limit: PlaceLimit,
+    validator: &mut V,
+) -> Result<bool, ParseError>
+    requires inside { checker.old.open.items ≢ [] }
+    ensures { ChecksNextAtOnce V.check (V.state validator.old) (V.state validator.new)
+        limit.has_limit at reader.old reader.new checker.old checker.new result }
+{
+    let Some((control, rest)) = reader.peek_control() else {
+        return Ok(false);
+    };
+    if !checker.step_control(control) {
+        return Ok(false);
+    }
+    match accepts_control(at, control, limit, validator) {
+        Ok(()) => {
+            reader.pass(rest);
+            Ok(true)
+        }
+        Err(error) => Err(error),
     }
 }
 
@@ -83,14 +139,14 @@ fn accepts_common<V: OpCheck>(
 #[inline(always)]
 fn check_at_once<V: OpCheck>(
     checker: &mut Checker<'_>,
-    reader: &mut Reader<'_>,
+    reader: &mut Cursor<'_>,
     at: usize,
-    has_limit: bool,
+    limit: PlaceLimit,
     validator: &mut V,
 ) -> Result<bool, ParseError>
     requires inside { checker.old.open.items ≢ [] }
-    ensures { ChecksNextAtOnce V.check (V.state validator.old) (V.state validator.new) has_limit at
-        reader.old reader.new checker.old checker.new result }
+    ensures { ChecksNextAtOnce V.check (V.state validator.old) (V.state validator.new)
+        limit.has_limit at reader.old reader.new checker.old checker.new result }
 {
     let Some((common, rest)) = reader.peek_common() else {
         return Ok(false);
@@ -98,9 +154,9 @@ fn check_at_once<V: OpCheck>(
     if !checker.step_common(common) {
         return Ok(false);
     }
-    match accepts_common(at, common, has_limit, validator) {
+    match accepts_common(at, common, limit, validator) {
         Ok(()) => {
-            reader.pass_common(common, rest);
+            reader.pass(rest);
             Ok(true)
         }
         Err(error) => Err(error),
@@ -112,28 +168,34 @@ fn check_at_once<V: OpCheck>(
 #[inline(never)]
 pub(crate) fn check_operators<V: OpCheck>(
     checker: &mut Checker<'_>,
-    reader: &mut Reader<'_>,
-    has_limit: bool,
+    reader: &mut Cursor<'_>,
+    limit: PlaceLimit,
     mut validator: V,
 ) -> Result<(), ParseFailure>
     requires { BeginsBody checker.old }
     ensures { ChecksOperators (setting_at (env_of checker.old) reader.old.place V.check
-        (V.state validator)) has_limit reader.old.rest checker.old checker.new result }
+        (V.state validator)) limit.has_limit reader.old.rest checker.old checker.new result }
 {
     let _ids = checker.indices.ids;
     while !reader.eof() {
         let at = reader.original_position();
-        match check_at_once(checker, reader, at, has_limit, &mut validator) {
+        match check_at_once(checker, reader, at, limit, &mut validator) {
             Ok(true) => continue,
             Ok(false) => {}
             Err(error) => return Err(failure(error, at)),
         }
-        let read = read_other(reader);
+        // This isn't in `check_at_once`, so that the way of a common operator stays short.
+        match check_control(checker, reader, at, limit, &mut validator) {
+            Ok(true) => continue,
+            Ok(false) => {}
+            Err(error) => return Err(failure(error, at)),
+        }
+        let read = reader.read_other();
         let operator = match &read {
             Ok(operator) => operator,
             Err(error) => return Err(failure(ParseError::Read(*error), at)),
         };
-        match accepts(at, operator, has_limit, &mut validator) {
+        match accepts(at, operator, limit, &mut validator) {
             Ok(()) => {}
             Err(error) => return Err(failure(error, at)),
         }

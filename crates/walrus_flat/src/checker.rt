@@ -10,9 +10,12 @@ ghost use Rattle.walrus_flat.specs.Checkers.{NamesNoType, HasNoParts, IsByte};
 ghost use Rattle.walrus_flat.specs.SequenceKinds.{handler_kind, has_else, has_clauses, has_delegate};
 ghost use Rattle.std.specs.Bool.{OnTrue, OnFalse};
 ghost use Rattle.wasm_ops.specs.CommonOperators.{listed};
+ghost use Rattle.walrus_flat.specs.Controls.{control_listed};
+ghost use Rattle.walrus_ir.specs.declared.val_type.InstrSeqType.TheVariants.{Simple as SimpleType};
 
 use crate::body_indices::BodyIndices;
 use crate::checking::Checking;
+use crate::control::Control;
 use crate::open_sequence::OpenSequence;
 use crate::used_locals::UsedLocals;
 use walrus_context::value_type;
@@ -110,9 +113,21 @@ fn is_plain_opener(operator: &Operator<'_>) -> bool
     }
 }
 
+/// Whether this is a constant of floating point, which has no part to check.
+#[inline(always)]
+fn is_float(operator: &Operator<'_>) -> bool
+    ensures { OnTrue result (HasNoParts (meaning operator.now)) }
+{
+    match operator {
+        Operator::F32Const { .. } => true,
+        Operator::F64Const { .. } => true,
+        _ => false,
+    }
+}
+
 impl Checker<'_> {
     ghost use Rattle.walrus_flat.specs.Checked.{env_of, ChecksStep, StaysSame, ChecksAtOnce};
-    ghost use Rattle.walrus_flat.specs.Checkers.{ChecksParts, IsNamedType, has_handler_type, as_kind, Closes, Opens, BeginsConstruct, RefusesConstruct, PartsIf, RefusesElse, PartsTry, RefusesClause, ClosesTry, RefusesDelegate, NamesLocal, RefusesLocal, Takes, parts_in};
+    ghost use Rattle.walrus_flat.specs.Checkers.{ChecksParts, IsNamedType, has_handler_type, as_kind, Closes, ClosesInner, Opens, BeginsConstruct, RefusesConstruct, PartsIf, RefusesElse, PartsTry, RefusesClause, ClosesTry, RefusesDelegate, NamesLocal, RefusesLocal, Takes, parts_in};
 
     /// Checks the parts of an operator.
     fn check_parts(&mut self, operator: &Operator<'_>) -> Result<(), ParseError>
@@ -152,6 +167,9 @@ impl Checker<'_> {
         ensures parts { ChecksParts self.old (meaning operator.now) result }
         ensures same { self.new ≡ record self.old { lists = self.new.lists } }
     {
+        if is_float(operator) {
+            return Ok(());
+        }
         match plain_byte(operator) {
             Some(_) => Ok(()),
             None => self.check_parts(operator),
@@ -463,6 +481,58 @@ impl Checker<'_> {
             }
             CommonOperator::BrIf { label } => has_label(&self.open, label),
             CommonOperator::Drop => true,
+        }
+    }
+
+    /// Opens a sequence of the empty type, and returns whether it did. If not, nothing is changed: the
+    /// list has no room for it.
+    #[inline(always)]
+    fn open_empty(&mut self, kind: BlockKind) -> bool
+        ensures done { OnTrue result (Opens self.old self.new kind (SimpleType None)) }
+        ensures unchanged { OnFalse result (StaysSame self.old self.new) }
+    {
+        let _ids = self.indices.ids;
+        if self.open.len() == self.open.capacity() {
+            return false;
+        }
+        self.open.push_reserved(OpenSequence {
+            kind,
+            ty: InstrSeqType::Simple(None),
+            before: self.dead,
+        });
+        true
+    }
+
+    /// Closes the innermost sequence if it is within another one, and returns whether it did. If not,
+    /// nothing is changed.
+    #[inline(always)]
+    fn close_inner(&mut self) -> bool
+        ensures done { OnTrue result (ClosesInner self.old self.new) }
+        ensures unchanged { OnFalse result (StaysSame self.old self.new) }
+    {
+        let _ids = self.indices.ids;
+        if self.open.len() < 2 {
+            return false;
+        }
+        match self.close() {
+            Some(_top) => true,
+            None => false,
+        }
+    }
+
+    /// Takes one of the frequent control operators. Returns whether it did; if not, nothing is
+    /// changed.
+    #[inline(always)]
+    pub fn step_control(&mut self, control: Control) -> bool
+        requires { self.old.open.items ≢ [] }
+        ensures step { ChecksAtOnce self.old self.new (meaning (control_listed control)) result }
+        ensures inside { OnTrue result (self.new.open.items ≢ []) }
+    {
+        match control {
+            Control::Block => self.open_empty(BlockKind::Block),
+            Control::Loop => self.open_empty(BlockKind::Loop),
+            Control::If => self.open_empty(BlockKind::If),
+            Control::End => self.close_inner(),
         }
     }
 

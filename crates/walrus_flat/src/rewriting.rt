@@ -23,13 +23,17 @@ ghost use Rattle.walrus_flat.specs.CheckedBody.{BeginsBody, setting_at, entry_in
 ghost use Rattle.walrus_flat.specs.UsedLocals.{is_used, entries_of};
 ghost use Rattle.walrus_flat.specs.Written.{state_of};
 ghost use Rattle.walrus_flat.specs.WrittenBody.{again, IsAccepted, WritesBody, RefusesWriting};
-ghost use Rattle.walrus_flat.specs.RewrittenFlat.{emit_input, empty_draft, is_none, Composes, WritesAll, IsNotAllWritten, Finishes, FinishesBoth, RewritesFlat};
+ghost use Rattle.walrus_flat.specs.RewrittenFlat.{emit_input, is_none, Composes, WritesAll, IsNotAllWritten, Finishes, FinishesBoth, RewritesFlat};
 
 use crate::body_indices::BodyIndices;
 use crate::check_body::check_operators;
 use crate::checker::Checker;
+use crate::cursor::Cursor;
+use crate::declarations::write_declarations;
+use crate::draft::Draft;
 use crate::local_numbers::{LocalNumbers, NumberedLocals, declare_locals};
 use crate::open_sequence::OpenSequence;
+use crate::place_limit::PlaceLimit;
 use crate::scratch::FlatScratch;
 use crate::sequences::{Next, OpenSequences, Written};
 use crate::used_locals::UsedLocals;
@@ -37,14 +41,11 @@ use crate::write_body::write_operators;
 use crate::writer::Writer;
 use std::alloc::Global;
 use std::mem;
-use walrus_emit_state::Draft;
 use walrus_ir::{BlockKind, FunctionId, InstrLocId, InstrSeqType, LocalId, Module, TypeId};
-use walrus_maps::{IdsToIndices, IndicesToIds};
+use walrus_maps::{IdsToIndices, IndicesToIds, make_room};
 use walrus_parser::{FunctionBody, OpCheck, failure};
 use walrus_rewrite::{RewriteError, append_lists};
 use wasm_body::{EmitError, ParseError, ParseFailure};
-use wasm_encode::FunctionEncoder;
-use wasm_ops::Reader;
 use wasm_translate::Lists;
 
 /// The entry type of a function of this type.
@@ -130,8 +131,9 @@ fn check<V: OpCheck>(
         Ok(checker) => checker,
         Err(error) => return Err(failure(error, start)),
     };
-    let mut reader = Reader::new(ops, start);
-    let result = check_operators(&mut checker, &mut reader, has_limit, validator);
+    let mut reader = Cursor::new(ops, start);
+    let limit = PlaceLimit::new(has_limit);
+    let result = check_operators(&mut checker, &mut reader, limit, validator);
     let Checker { open, used, .. } = checker;
     scratch.open = open;
     scratch.used = used;
@@ -154,7 +156,7 @@ fn begin_sequences(alloc: Global, scratch: &mut FlatScratch) -> Result<OpenSeque
     }
 }
 
-/// The second pass over the operators of a body, after its declarations.
+/// The second pass over the operators of a body, after its declarations, which are written.
 fn write<'a, F: Fn(&usize) -> InstrLocId>(
     alloc: Global,
     module: &'a Module,
@@ -166,11 +168,9 @@ fn write<'a, F: Fn(&usize) -> InstrLocId>(
     on_instr_pos: Option<&F>,
     out: &'a IdsToIndices,
     locals: &'a NumberedLocals,
-    base: usize,
-    has_map: bool,
+    draft: Draft,
     scratch: &mut FlatScratch,
 ) -> Result<Draft, EmitError>
-    requires base { base < 2 ^ 63 }
     requires fits { start + length ops.now < 2 ^ 64 }
     requires offset { «module».now.code_section_offset ≤ start }
     requires may_call { MayCall F.pre on_instr_pos start (start + length ops.now) }
@@ -180,7 +180,7 @@ fn write<'a, F: Fn(&usize) -> InstrLocId>(
     ensures ok { IfOk result (WritesBody F.Fn (again (environment_of «module».now indices.now
         function ty) (record { rest = ops.now; place = start })
         «module».now.code_section_offset on_instr_pos.entry) (numbers_by «module».now.types
-        out.now (entries_of locals.now)) (empty_draft base has_map)) }
+        out.now (entries_of locals.now)) draft) }
     ensures err { IfErr result (λ e. (e ≡ Memory) ⊎ RefusesWriting F.Fn
         (again (environment_of «module».now indices.now function ty)
         (record { rest = ops.now; place = start }) «module».now.code_section_offset
@@ -190,7 +190,6 @@ fn write<'a, F: Fn(&usize) -> InstrLocId>(
         Ok(open) => open,
         Err(fault) => return Err(fault),
     };
-    let draft = Draft::new(alloc, base, has_map, ops.len() / 2);
     let mut writer = Writer {
         module,
         indices: BodyIndices {
@@ -208,7 +207,7 @@ fn write<'a, F: Fn(&usize) -> InstrLocId>(
         lists: Lists::new(alloc),
         draft,
     };
-    let mut reader = Reader::new(ops, start);
+    let mut reader = Cursor::new(ops, start);
     match write_operators(&mut writer, &mut reader, on_instr_pos) {
         Ok(()) => {
             let Writer { open, draft, .. } = writer;
@@ -219,16 +218,18 @@ fn write<'a, F: Fn(&usize) -> InstrLocId>(
     }
 }
 
-/// An encoder with the declarations of the locals that a body uses, and the number of each local.
+/// Writes the declarations of the locals that a body uses, and returns the number of each local.
 fn begin_body(
     alloc: Global,
     module: &Module,
     args: &[LocalId],
     out: &IdsToIndices,
     used: &UsedLocals,
-) -> Result<(FunctionEncoder, NumberedLocals), EmitError>
-    ensures ok { IfOk result (λ made. Begins (emit_input «module».now out.now args.now)
-        (is_used used.now) made.0 (entries_of made.1)) }
+    bytes: &mut Vec<u8>,
+) -> Result<NumberedLocals, EmitError>
+    requires { bytes.old.items ≡ [] }
+    ensures ok { IfOk result (λ numbers. Begins (emit_input «module».now out.now args.now)
+        (is_used used.now) bytes.new.items (entries_of numbers)) }
     ensures err { IfErr result (IsNotBegun (emit_input «module».now out.now args.now)
         (is_used used.now)) }
 {
@@ -236,14 +237,34 @@ fn begin_body(
         Ok(made) => made,
         Err(fault) => return Err(fault),
     };
-    match FunctionEncoder::new(alloc, declarations.as_slice()) {
-        Ok(encoder) => Ok((encoder, numbers)),
+    match write_declarations(bytes, declarations.as_slice()) {
+        Ok(()) => Ok(numbers),
         Err(_) => Err(EmitError::Memory),
     }
 }
 
+/// Makes room for a body that is read from so many bytes, if there is memory for it. Most operators
+/// take two bytes or more.
+fn make_room_for(
+    bytes: &mut Vec<u8>,
+    pairs: &mut Vec<(InstrLocId, usize)>,
+    len: usize,
+    has_map: bool,
+)
+    ensures bytes { bytes.new.items ≡ bytes.old.items }
+    ensures pairs { pairs.new.items ≡ pairs.old.items }
+{
+    if bytes.capacity() < len {
+        let _ = make_room(bytes, len);
+    }
+    let operators = len / 2;
+    if has_map && pairs.capacity() < operators {
+        let _ = make_room(pairs, operators);
+    }
+}
+
 /// The declarations of a body, and what is written after them, of one that was checked. The scratch
-/// has the locals that live operators name.
+/// has the locals that live operators name, and the body is written to these lists, which are empty.
 fn write_checked<F: Fn(&usize) -> InstrLocId>(
     alloc: Global,
     module: &Module,
@@ -255,30 +276,34 @@ fn write_checked<F: Fn(&usize) -> InstrLocId>(
     start: usize,
     on_instr_pos: Option<&F>,
     out: &IdsToIndices,
+    mut bytes: Vec<u8>,
+    mut pairs: Vec<(InstrLocId, usize)>,
     has_map: bool,
     scratch: &mut FlatScratch,
-) -> Result<(FunctionEncoder, Draft), EmitError>
+) -> Result<Draft, EmitError>
     requires fits { start + length ops.now < 2 ^ 64 }
     requires offset { «module».now.code_section_offset ≤ start }
     requires may_call { MayCall F.pre on_instr_pos start (start + length ops.now) }
     requires accepted { IsAccepted (again (environment_of «module».now indices.now function ty)
         (record { rest = ops.now; place = start }) «module».now.code_section_offset
         on_instr_pos) }
-    ensures ok { IfOk result (λ made. WritesAll F.Fn (again (environment_of «module».now
+    requires no_bytes { bytes.items ≡ [] }
+    requires no_pairs { pairs.items ≡ [] }
+    ensures ok { IfOk result (WritesAll F.Fn (again (environment_of «module».now
         indices.now function ty) (record { rest = ops.now; place = start })
         «module».now.code_section_offset on_instr_pos.entry) (emit_input «module».now out.now
-        args.now) has_map (numbers_by «module».now.types out.now) (is_used scratch.old.used) made.0
-        made.1) }
+        args.now) has_map (numbers_by «module».now.types out.now) (is_used scratch.old.used)) }
     ensures err { IfErr result (IsNotAllWritten F.Fn (again (environment_of «module».now
         indices.now function ty) (record { rest = ops.now; place = start })
         «module».now.code_section_offset on_instr_pos.entry) (emit_input «module».now out.now
         args.now) (numbers_by «module».now.types out.now) (is_used scratch.old.used)) }
 {
-    let (encoder, numbers) = match begin_body(alloc, module, args, out, &scratch.used) {
-        Ok(made) => made,
+    make_room_for(&mut bytes, &mut pairs, ops.len(), has_map);
+    let numbers = match begin_body(alloc, module, args, out, &scratch.used, &mut bytes) {
+        Ok(numbers) => numbers,
         Err(fault) => return Err(fault),
     };
-    let base = encoder.byte_len();
+    let draft = Draft::new(bytes, pairs, has_map);
     match write(
         alloc,
         module,
@@ -290,11 +315,10 @@ fn write_checked<F: Fn(&usize) -> InstrLocId>(
         on_instr_pos,
         out,
         &numbers,
-        base,
-        has_map,
+        draft,
         scratch,
     ) {
-        Ok(draft) => Ok((encoder, draft)),
+        Ok(written) => Ok(written),
         Err(fault) => Err(fault),
     }
 }
@@ -309,7 +333,8 @@ fn has_limit<F: Fn(&usize) -> InstrLocId>(on_instr_pos: Option<&F>) -> bool
     }
 }
 
-/// Both passes: the declarations of a body, and what is written after them.
+/// Both passes: the declarations of a body, and what is written after them, in these lists, which
+/// are empty.
 fn write_body<V: OpCheck, F: Fn(&usize) -> InstrLocId>(
     alloc: Global,
     module: &Module,
@@ -322,15 +347,19 @@ fn write_body<V: OpCheck, F: Fn(&usize) -> InstrLocId>(
     on_instr_pos: Option<&F>,
     validator: V,
     out: &IdsToIndices,
+    bytes: Vec<u8>,
+    pairs: Vec<(InstrLocId, usize)>,
     has_map: bool,
     scratch: &mut FlatScratch,
-) -> Result<(FunctionEncoder, Draft), RewriteError>
+) -> Result<Draft, RewriteError>
     requires fits { start + length ops.now < 2 ^ 64 }
     requires offset { «module».now.code_section_offset ≤ start }
     requires may_call { MayCall F.pre on_instr_pos start (start + length ops.now) }
-    ensures ok { IfOk result (λ made. Composes F.Fn (input_of «module».now indices.now function
+    requires no_bytes { bytes.items ≡ [] }
+    requires no_pairs { pairs.items ≡ [] }
+    ensures ok { IfOk result (Composes F.Fn (input_of «module».now indices.now function
         ty start ops.now on_instr_pos.entry V.check (V.state validator)) (emit_input
-        «module».now out.now args.now) has_map made.0 made.1) }
+        «module».now out.now args.now) has_map) }
     ensures err { IfErr result (RefusesRewriting F.Fn (input_of «module».now indices.now function
         ty start ops.now on_instr_pos.entry V.check (V.state validator)) (emit_input
         «module».now out.now args.now)) }
@@ -353,66 +382,75 @@ fn write_body<V: OpCheck, F: Fn(&usize) -> InstrLocId>(
         start,
         on_instr_pos,
         out,
+        bytes,
+        pairs,
         has_map,
         scratch,
     ) {
-        Ok(made) => Ok(made),
+        Ok(draft) => Ok(draft),
         Err(fault) => Err(RewriteError::Emit(fault)),
     }
 }
 
-/// Appends a body to `dst`.
-fn append(mut encoder: FunctionEncoder, draft: Draft, dst: &mut Vec<u8>) -> Result<(), RewriteError>
-    ensures ok { OnOk result
-        (dst.new.items ≡ dst.old.items ++ (encoder ++ draft.output.bytes)) }
+/// An empty list to write to: with the memory of the caller's, if that is empty, which this one then
+/// becomes.
+fn list_to_write<T>(list: &mut Vec<T>, alloc: Global) -> Vec<T>
+    ensures empty { result.items ≡ [] }
+    ensures same { list.new.items ≡ list.old.items }
+{
+    if list.is_empty() {
+        mem::replace(list, Vec::new(alloc))
+    } else {
+        Vec::new(alloc)
+    }
+}
+
+/// Appends a body to `dst`. If that is empty it becomes the list of the body's bytes.
+fn append(draft: Draft, dst: &mut Vec<u8>) -> Result<(), RewriteError>
+    ensures ok { OnOk result (dst.new.items ≡ dst.old.items ++ draft.output.bytes) }
     ensures err { IfErr result (λ e. e ≡ EmitFault Memory) }
     ensures same { OnErr result (dst.new.items ≡ dst.old.items) }
 {
-    draft.append_bytes_to(&mut encoder)?;
-    dst.extend_from_slice(encoder.bytes())?;
+    let (bytes, _pairs) = draft.into_lists();
+    if dst.is_empty() {
+        *dst = bytes;
+        return Ok(());
+    }
+    dst.extend_from_slice(&bytes)?;
     Ok(())
 }
 
-/// Appends a body to `dst`, and its pairs to the list.
+/// Appends a body to `dst`, and its pairs to the list. If both are empty they become its lists.
 fn append_with_map(
-    mut encoder: FunctionEncoder,
     draft: Draft,
     dst: &mut Vec<u8>,
     map: &mut Vec<(InstrLocId, usize)>,
 ) -> Result<(), RewriteError>
-    ensures ok { OnOk result
-        (dst.new.items ≡ dst.old.items ++ (encoder ++ draft.output.bytes)) }
+    ensures ok { OnOk result (dst.new.items ≡ dst.old.items ++ draft.output.bytes) }
     ensures pairs { OnOk result (map.new.items ≡ map.old.items ++ draft.output.pairs) }
     ensures err { IfErr result (λ e. e ≡ EmitFault Memory) }
     ensures same { OnErr result (dst.new.items ≡ dst.old.items) }
     ensures same_pairs { OnErr result (map.new.items ≡ map.old.items) }
 {
-    let mut pairs = Vec::new(*dst.allocator());
-    draft.append_to(&mut encoder, &mut pairs)?;
-    append_lists(dst, map, encoder.into_raw_body(), pairs)?;
+    let (bytes, pairs) = draft.into_lists();
+    append_lists(dst, map, bytes, pairs)?;
     Ok(())
 }
 
 /// Appends a body to `dst`, if it was written.
-fn finish(
-    made: Result<(FunctionEncoder, Draft), RewriteError>,
-    dst: &mut Vec<u8>,
-) -> Result<(), RewriteError>
+fn finish(made: Result<Draft, RewriteError>, dst: &mut Vec<u8>) -> Result<(), RewriteError>
     ensures finishes { Finishes made dst.old.items dst.new.items result }
     ensures same_bytes { OnErr result (dst.new.items ≡ dst.old.items) }
 {
     match made {
-        Ok(parts) => {
-            let (encoder, draft) = parts;
-            append(encoder, draft, dst)
-        }
+        Ok(draft) => append(draft, dst),
         Err(error) => Err(error),
     }
 }
 
 /// The same, and its pairs to the list.
 fn finish_with_map(
-    made: Result<(FunctionEncoder, Draft), RewriteError>,
+    made: Result<Draft, RewriteError>,
     dst: &mut Vec<u8>,
     map: &mut Vec<(InstrLocId, usize)>,
 ) -> Result<(), RewriteError>
@@ -422,10 +460,7 @@ fn finish_with_map(
     ensures same_pairs { OnErr result (map.new.items ≡ map.old.items) }
 {
     match made {
-        Ok(parts) => {
-            let (encoder, draft) = parts;
-            append_with_map(encoder, draft, dst, map)
-        }
+        Ok(draft) => append_with_map(draft, dst, map),
         Err(error) => Err(error),
     }
 }
@@ -491,6 +526,8 @@ pub fn rewrite_flat<V: OpCheck, F: Fn(&usize) -> InstrLocId>(
     let ops = body.operators();
     match map {
         Some(list) => {
+            let bytes = list_to_write(dst, alloc);
+            let pairs = list_to_write(list, alloc);
             let with_pairs = write_body(
                 alloc,
                 module,
@@ -503,12 +540,16 @@ pub fn rewrite_flat<V: OpCheck, F: Fn(&usize) -> InstrLocId>(
                 on_instr_pos,
                 validator,
                 out,
+                bytes,
+                pairs,
                 true,
                 scratch,
             );
             finish_with_map(with_pairs, dst, list)
         }
         None => {
+            let alone = list_to_write(dst, alloc);
+            let none = Vec::new(alloc);
             let without = write_body(
                 alloc,
                 module,
@@ -521,6 +562,8 @@ pub fn rewrite_flat<V: OpCheck, F: Fn(&usize) -> InstrLocId>(
                 on_instr_pos,
                 validator,
                 out,
+                alone,
+                none,
                 false,
                 scratch,
             );

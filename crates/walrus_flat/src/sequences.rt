@@ -1,5 +1,5 @@
 //! The open sequences of a body that is written, and what is written of the operators that follow.
-ghost use Rattle.std.specs.Prelude.{◌≡◌, ◌∷◌, OnOk, IfErr};
+ghost use Rattle.std.specs.Prelude.{◌≡◌, ◌<◌, ◌∷◌, vec_len, vec_capacity, OnOk, IfErr};
 ghost use Rattle.std.specs.Bool.{OnTrue};
 ghost use Rattle.wasm_body.specs.declared.error.EmitError.TheVariants.{Memory};
 ghost use Rattle.wasm_flat.specs.Flat.{innermost, around, needs_else};
@@ -123,6 +123,25 @@ impl OpenSequences {
             Ok(()) => Ok(()),
             Err(_) => Err(EmitError::Memory),
         }
+    }
+
+    /// Whether the list has room for another sequence.
+    #[inline(always)]
+    pub fn has_room(&self) -> bool
+        ensures { OnTrue result
+            (vec_len self.now.sequences < vec_capacity self.now.sequences) }
+    {
+        self.sequences.len() < self.sequences.capacity()
+    }
+
+    /// Opens a sequence. Requires room for it.
+    #[inline(always)]
+    pub fn enter_reserved(&mut self, sequence: Written)
+        requires { vec_len self.old.sequences < vec_capacity self.old.sequences }
+        ensures sequences { opens_of self.new ≡ open_of sequence ∷ opens_of self.old }
+        ensures next { self.new.next ≡ self.old.next }
+    {
+        self.sequences.push_reserved(sequence);
     }
 
     /// Closes the innermost sequence, if one is open.

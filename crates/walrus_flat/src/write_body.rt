@@ -3,14 +3,14 @@ ghost use Rattle.std.specs.Prelude.{◌≡◌, ◌≤◌, ◌+◌, length, Match
 ghost use Rattle.walrus_parser.specs.Locating.{MayCall, Locates, HasNoLocation};
 ghost use Rattle.wasm_flat.specs.Flat.{first_state};
 ghost use Rattle.walrus_flat.specs.Written.{state_of};
+ghost use Rattle.walrus_flat.specs.declared.sequences.Next.TheVariants.{Live as LiveNext};
 ghost use Rattle.walrus_flat.specs.Writers.{env_at, numbers_in};
 ghost use Rattle.walrus_flat.specs.WrittenBody.{again, IsAccepted, WritesOperators, WritesNextAtOnce};
 
-use crate::check_body::read_other;
+use crate::cursor::Cursor;
 use crate::writer::Writer;
 use walrus_ir::InstrLocId;
 use wasm_body::EmitError;
-use wasm_ops::Reader;
 
 /// The location of the operator at this place: the one that the function returns. Without a
 /// function it is the place itself, if that is small enough.
@@ -29,11 +29,27 @@ fn location_at<F: Fn(&usize) -> InstrLocId>(
     }
 }
 
+/// Writes the next operator at once if it is one of the frequent control operators, as
+/// `write_at_once`, where what follows is written and no `else` waits.
+fn write_control(writer: &mut Writer<'_>, reader: &mut Cursor<'_>, location: InstrLocId) -> bool
+    requires { writer.old.open.next ≡ LiveNext }
+    ensures { WritesNextAtOnce reader.old reader.new writer.old writer.new location result }
+{
+    let Some((control, rest)) = reader.peek_control() else {
+        return false;
+    };
+    if !writer.step_control(control, location) {
+        return false;
+    }
+    reader.pass(rest);
+    true
+}
+
 /// Writes the next operator at once if it is a common one in live code, and returns whether it did.
 /// It doesn't if an `else` waits, a part of the operator has no number or memory runs out; then
 /// nothing is changed, and the operator is written as any other.
 #[inline(always)]
-fn write_at_once(writer: &mut Writer<'_>, reader: &mut Reader<'_>, location: InstrLocId) -> bool
+fn write_at_once(writer: &mut Writer<'_>, reader: &mut Cursor<'_>, location: InstrLocId) -> bool
     ensures { WritesNextAtOnce reader.old reader.new writer.old writer.new location result }
 {
     let _ids = writer.indices.ids;
@@ -43,12 +59,12 @@ fn write_at_once(writer: &mut Writer<'_>, reader: &mut Reader<'_>, location: Ins
         return false;
     }
     let Some((common, rest)) = reader.peek_common() else {
-        return false;
+        return write_control(writer, reader, location);
     };
     if !writer.step_live(common, location) {
         return false;
     }
-    reader.pass_common(common, rest);
+    reader.pass(rest);
     true
 }
 
@@ -57,7 +73,7 @@ fn write_at_once(writer: &mut Writer<'_>, reader: &mut Reader<'_>, location: Ins
 #[inline(never)]
 pub(crate) fn write_operators<F: Fn(&usize) -> InstrLocId>(
     writer: &mut Writer<'_>,
-    reader: &mut Reader<'_>,
+    reader: &mut Cursor<'_>,
     on_instr_pos: Option<&F>,
 ) -> Result<(), EmitError>
     requires begins { state_of writer.old.open ≡ first_state }
@@ -78,7 +94,7 @@ pub(crate) fn write_operators<F: Fn(&usize) -> InstrLocId>(
         if write_at_once(writer, reader, location) {
             continue;
         }
-        let read = read_other(reader);
+        let read = reader.read_other();
         let operator = match &read {
             Ok(operator) => operator,
             Err(_) => return Err(EmitError::UnknownSequence),

@@ -1,5 +1,5 @@
 //! The operators of a body, written one by one.
-ghost use Rattle.std.specs.Prelude.{◌≡◌, ◌∷◌, [], OnOk, IfErr, IfSome, false, None, Ok};
+ghost use Rattle.std.specs.Prelude.{◌≡◌, ◌≤◌, ◌∷◌, [], OnOk, IfErr, IfSome, false, None, Ok};
 ghost use Rattle.walrus_ir.specs.Locations.{default_location};
 ghost use Rattle.walrus_ir.specs.declared.val_type.InstrSeqType.TheVariants.{Simple as SimpleType};
 ghost use Rattle.wasm_operators.specs.Meaning.{meaning};
@@ -8,7 +8,7 @@ ghost use Rattle.wasm_body.specs.declared.error.EmitError.TheVariants.{Memory};
 ghost use Rattle.wasm_flat.specs.Flat.{Kept as KeptOpen, Live as LiveMode, Dead as DeadMode, innermost, around, mode_of_else, state};
 ghost use Rattle.walrus_parser.specs.OperatorKinds.{is_diverging};
 ghost use Rattle.walrus_flat.specs.declared.sequences.Next.TheVariants.{Live as LiveNext};
-ghost use Rattle.std.specs.Bool.{OnTrue};
+ghost use Rattle.std.specs.Bool.{OnTrue, OnFalse};
 ghost use Rattle.walrus_flat.specs.Written.{drafted, waiting_else, awake, opens_of, state_of, mode_of, is_dead, ends_dropped, else_if, end_if, end_location, else_pieces, end_pieces, state_after_else, state_after_end, mode_if};
 ghost use Rattle.wasm_operators.specs.AccessOperations.{access_of};
 ghost use Rattle.wasm_operators.specs.declared.operator.Op.TheVariants as listing;
@@ -16,18 +16,20 @@ ghost use Rattle.wasm_operators.specs.declared.types.Opcode.TheVariants as opcod
 ghost use Rattle.wasm_operators.specs.declared.types.Space.TheVariants.{Funcs, Globals};
 ghost use Rattle.wasm_operators.specs.Operations.{operation, index as index_immediate, local as local_immediate, label as label_immediate, access as access_immediate};
 ghost use Rattle.wasm_ops.specs.CommonOperators.{listed};
+ghost use Rattle.walrus_flat.specs.Controls.{control_listed};
 ghost use Rattle.wasm_body.specs.Translation.{at_location};
-ghost use Rattle.wasm_operators.specs.Shortest.{short_number};
+ghost use Rattle.wasm_operators.specs.Shortest.{short_number, short_bits};
 ghost use Rattle.walrus_emit_state.specs.TreeWriting.Drafts.{with_bytes};
 ghost use Rattle.walrus_flat.specs.Writers.{IsOpener, IsTypeByte, IsShortOpener};
 
 use crate::body_indices::BodyIndices;
 use crate::checker::{is_diverging, plain_byte};
+use crate::control::Control;
+use crate::draft::Draft;
 use crate::local_numbers::LocalNumbers;
 use crate::renumbering::Renumbering;
 use crate::sequences::{Next, OpenSequences, Written};
 use walrus_context::value_type;
-use walrus_emit_state::Draft;
 use walrus_ir::{BinaryOp, InstrLocId, InstrSeqType, Module, TypeId, UnaryOp, ValType};
 use walrus_maps::IdsToIndices;
 use walrus_numbering::is_balanced;
@@ -101,7 +103,7 @@ fn opener_bytes(operator: &Operator<'_>, ty: &InstrSeqType) -> Option<(u8, u32)>
 }
 
 impl Writer<'_> {
-    ghost use Rattle.walrus_flat.specs.Writers.{PutsAsIs, Goes, WritesUnless, OpensUnless, Picks, needs_one, numbers_in, StepsWriter, WritesCommon, WritesAtOnce};
+    ghost use Rattle.walrus_flat.specs.Writers.{PutsAsIs, Goes, WritesUnless, OpensUnless, Picks, needs_one, numbers_in, StepsWriter, WritesCommon, WritesAtOnce, OpensEmpty, ClosesShort};
 
     /// Writes an operator that is one byte.
     fn put_byte(&mut self, byte: u8, location: InstrLocId) -> Result<(), EmitError>
@@ -201,6 +203,33 @@ impl Writer<'_> {
         }
     }
 
+    /// Writes a constant of floating point, which is a byte and its bits.
+    fn write_float(
+        &mut self,
+        byte: u8,
+        count: u32,
+        bits: u64,
+        location: InstrLocId,
+    ) -> Result<(), EmitError>
+        requires { count ≤ 8 }
+        ensures ok { OnOk result (self.new ≡ record self.old {
+          draft = with_bytes (drafted self.old.draft (waiting_else self.old.open.next))
+              (byte ∷ short_bits count bits) location;
+          «open» = awake self.old.open;
+        }) }
+        ensures err { IfErr result (λ e. e ≡ Memory) }
+    {
+        match self.write_else() {
+            Ok(()) => {}
+            Err(fault) => return Err(fault),
+        }
+        if self.draft.write_bits(byte, count, bits, location) {
+            Ok(())
+        } else {
+            Err(EmitError::Memory)
+        }
+    }
+
     /// Writes an operator by itself as it is, as `write_as_is`.
     fn write_alone(
         &mut self,
@@ -211,6 +240,13 @@ impl Writer<'_> {
         ensures { PutsAsIs self.old self.new (meaning operator.now) (SimpleType None) location
             result }
     {
+        match operator {
+            Operator::F32Const { bits } => {
+                return self.write_float(0x43, 4, u64::from(*bits), location);
+            }
+            Operator::F64Const { bits } => return self.write_float(0x44, 8, *bits, location),
+            _ => {}
+        }
         let Some(byte) = plain_byte(operator) else {
             return self.write_as_is(operator, InstrSeqType::Simple(None), location);
         };
@@ -631,6 +667,59 @@ impl Writer<'_> {
             self.open.next = Next::Dead;
         }
         true
+    }
+
+    /// Writes the opener of a construct of the empty type, and opens its first sequence. Returns whether
+    /// it did; if not, nothing is changed: there is no room for it.
+    #[inline(always)]
+    fn open_empty(&mut self, byte: u8, location: InstrLocId) -> bool
+        ensures done { OnTrue result (OpensEmpty self.old self.new byte location) }
+        ensures unchanged { OnFalse result (self.new ≡ self.old) }
+    {
+        let _ids = self.indices.ids;
+        if !self.open.has_room() {
+            return false;
+        }
+        if !self.draft.write_number(byte, 0x40, location) {
+            return false;
+        }
+        self.open.enter_reserved(Written::Kept(false));
+        true
+    }
+
+    /// Writes the `end` of a sequence that is written and needs no `else`, and closes the sequence.
+    /// Returns whether it did; if not, nothing is changed.
+    #[inline(always)]
+    fn close_short(&mut self, location: InstrLocId) -> bool
+        ensures done { OnTrue result (ClosesShort self.old self.new location) }
+        ensures unchanged { OnFalse result (self.new ≡ self.old) }
+    {
+        let _ids = self.indices.ids;
+        if self.open.needs_else() {
+            return false;
+        }
+        if !self.draft.write_byte(0x0b, location) {
+            return false;
+        }
+        self.open.leave();
+        true
+    }
+
+    /// Takes one of the frequent control operators where what follows is written and no `else` waits.
+    /// Returns whether it did; if not, nothing is changed.
+    #[inline(always)]
+    pub fn step_control(&mut self, control: Control, location: InstrLocId) -> bool
+        requires { self.old.open.next ≡ LiveNext }
+        ensures done { OnTrue result (StepsWriter self.old self.new
+            (meaning (control_listed control)) location (Ok tt)) }
+        ensures unchanged { OnFalse result (self.new ≡ self.old) }
+    {
+        match control {
+            Control::Block => self.open_empty(0x02, location),
+            Control::Loop => self.open_empty(0x03, location),
+            Control::If => self.open_empty(0x04, location),
+            Control::End => self.close_short(location),
+        }
     }
 
     /// Takes the next operator.

@@ -3,8 +3,8 @@ use Rattle.walrus_numbering.specs.NumberMaps.{numbers_by}
 use Rattle.walrus_rewrite.proofs.RawBodyLemmas.{few_declarations}
 use Rattle.walrus_flat.proofs.rewriting.begin_body.Goals as goal
 
-pub new-requires : goal.new-requires
-new-requires c =
+pub write_declarations-requires : goal.write_declarations-requires
+write_declarations-requires c =
     let made = c.in-Ok.made in
     let d = c.in-Ok.ensures.ok in
     let few = few_declarations (numbers_by c.args.module.now.types c.args.out.now []) (length c.args.args.now) d.others made.0.items d.declarations_are in

@@ -1,4 +1,4 @@
-use Rattle.std.proofs.Common.{inl, inr, ap, sym, subst, ◌∙◌, arith}
+use Rattle.std.proofs.Common.{Bool, inl, inr, ap, sym, subst, ◌∙◌, arith}
 use Rattle.wasm_ops.specs.Position.{Position}
 use Rattle.wasm_operators.proofs.ReadingBytes.{each_byte}
 use Rattle.wasm_body.specs.declared.error.ParseFailure.{ParseFailure}
@@ -31,5 +31,6 @@ returns g c =
     let r = c.check_operators-result.result in
     let checks : ChecksOperators (setting_at env a.start check v0) a.has_limit a.ops.now old new r =
     subst (λ (e : Environment). ChecksOperators (setting_at e a.start check v0) a.has_limit a.ops.now old new r) c.in-Ok-begin_check.ensures.env
-    (subst (λ (p : Position). ChecksOperators (setting_at (env_of old) p.place check v0) a.has_limit p.rest old new r) c.new-reader.ensures c.check_operators-result.ensures) in
+    (subst (λ (b : Bool). ChecksOperators (setting_at (env_of old) a.start check v0) b a.ops.now old new r) c.new-limit.ensures
+    (subst (λ (p : Position). ChecksOperators (setting_at (env_of old) p.place check v0) c.new-limit.result.has_limit p.rest old new r) c.new-reader.ensures c.check_operators-result.ensures)) in
     checks_all (setting_at env a.start check v0) a.has_limit a.ops.now c.in-Ok.entry (λ l. sym c.in-Ok.ensures) (each_byte a.ops.now (λ k. omega (arith, c.type_inv.ops k))) old new c.in-Ok-begin_check.ensures.none r checks

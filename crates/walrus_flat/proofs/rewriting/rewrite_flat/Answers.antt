@@ -1,10 +1,11 @@
 use Rattle.std.proofs.Common.{◌≡◌, ◌≤◌, ◌<◌, ◌+◌, ◌^◌, ℕ, List, length, drop, true, false, refl, ap, subst, arith}
-use Rattle.std.specs.Prelude.{IfOk, IfErr}
+use Rattle.std.specs.Prelude.{IfOk, IfErr, OnErr}
 use Rattle.std.proofs.lemmas.List.{length-drop}
 use Rattle.walrus_parser.specs.Bodies.{input_of, body_input}
 use Rattle.walrus_parser.specs.Locating.{MayCall}
 use Rattle.walrus_rewrite.specs.RewrittenBodies.{RefusesRewriting}
-use Rattle.walrus_flat.specs.RewrittenFlat.{emit_input, Composes}
+use Rattle.wasm_body.specs.Pairs.{Pair}
+use Rattle.walrus_flat.specs.RewrittenFlat.{emit_input, Composes, Finishes, FinishesBoth}
 use Rattle.walrus_flat.proofs.FlatResults.{flat_with_map, flat_without_map, accepts_with_map, accepts_without_map, refused_with_map, refused_without_map, each_body, each_fault}
 use Rattle.walrus_flat.proofs.rewriting.rewrite_flat.Goals as goal
 
@@ -42,65 +43,66 @@ pub returns-in-Some-clause-rewritten : goal.returns-in-Some-clause-rewritten
 returns-in-Some-clause-rewritten g c =
     let a = c.args in
     let made = c.write_body-with_pairs.result in
-    let ok = subst (λ (xs : List ℕ). IfOk made (λ m. Composes g.F.Fn (input_of a.module.now a.indices.now a.id a.ty (a.body.start + a.body.ops) xs a.on_instr_pos g.V.OpCheck.check (g.V.OpCheck.state a.validator)) (emit_input a.module.now a.out.now a.args.now) true m.0 m.1)) c.operators-ops.ensures c.write_body-with_pairs.ensures.ok in
+    let ok = subst (λ (xs : List ℕ). IfOk made (Composes g.F.Fn (input_of a.module.now a.indices.now a.id a.ty (a.body.start + a.body.ops) xs a.on_instr_pos g.V.OpCheck.check (g.V.OpCheck.state a.validator)) (emit_input a.module.now a.out.now a.args.now) true)) c.operators-ops.ensures c.write_body-with_pairs.ensures.ok in
     let err = subst (λ (xs : List ℕ). IfErr made (RefusesRewriting g.F.Fn (input_of a.module.now a.indices.now a.id a.ty (a.body.start + a.body.ops) xs a.on_instr_pos g.V.OpCheck.check (g.V.OpCheck.state a.validator)) (emit_input a.module.now a.out.now a.args.now))) c.operators-ops.ensures c.write_body-with_pairs.ensures.err in
-    rw c.in-Some.is (flat_with_map g.F.Fn (body_input a.module.now a.indices.now a.id a.ty a.body a.on_instr_pos g.V.OpCheck.check (g.V.OpCheck.state a.validator)) (emit_input a.module.now a.out.now a.args.now) true made ok err a.dst.now.items c.finish_with_map.new.dst.items refl c.in-Some.list _ c.finish_with_map.result c.finish_with_map.ensures.finishes)
+    rw c.in-Some.is (flat_with_map g.F.Fn (body_input a.module.now a.indices.now a.id a.ty a.body a.on_instr_pos g.V.OpCheck.check (g.V.OpCheck.state a.validator)) (emit_input a.module.now a.out.now a.args.now) true made ok err a.dst.now.items c.finish_with_map.new.dst.items refl c.in-Some.list _ c.finish_with_map.result (subst (λ (xs : List ℕ). FinishesBoth made xs c.finish_with_map.new.dst.items c.in-Some.list.now.items c.finish_with_map.new.map.items c.finish_with_map.result) c.list_to_write-bytes.ensures.same (subst (λ (ps : List Pair). FinishesBoth made c.list_to_write-bytes.new.list.items c.finish_with_map.new.dst.items ps c.finish_with_map.new.map.items c.finish_with_map.result) c.list_to_write-pairs.ensures.same c.finish_with_map.ensures.finishes)))
 
 pub returns-in-Some-clause-refused : goal.returns-in-Some-clause-refused
 returns-in-Some-clause-refused g c =
     let a = c.args in
     let made = c.write_body-with_pairs.result in
-    let ok = subst (λ (xs : List ℕ). IfOk made (λ m. Composes g.F.Fn (input_of a.module.now a.indices.now a.id a.ty (a.body.start + a.body.ops) xs a.on_instr_pos g.V.OpCheck.check (g.V.OpCheck.state a.validator)) (emit_input a.module.now a.out.now a.args.now) true m.0 m.1)) c.operators-ops.ensures c.write_body-with_pairs.ensures.ok in
+    let ok = subst (λ (xs : List ℕ). IfOk made (Composes g.F.Fn (input_of a.module.now a.indices.now a.id a.ty (a.body.start + a.body.ops) xs a.on_instr_pos g.V.OpCheck.check (g.V.OpCheck.state a.validator)) (emit_input a.module.now a.out.now a.args.now) true)) c.operators-ops.ensures c.write_body-with_pairs.ensures.ok in
     let err = subst (λ (xs : List ℕ). IfErr made (RefusesRewriting g.F.Fn (input_of a.module.now a.indices.now a.id a.ty (a.body.start + a.body.ops) xs a.on_instr_pos g.V.OpCheck.check (g.V.OpCheck.state a.validator)) (emit_input a.module.now a.out.now a.args.now))) c.operators-ops.ensures c.write_body-with_pairs.ensures.err in
-    refused_with_map g.F.Fn (body_input a.module.now a.indices.now a.id a.ty a.body a.on_instr_pos g.V.OpCheck.check (g.V.OpCheck.state a.validator)) (emit_input a.module.now a.out.now a.args.now) true made ok err a.dst.now.items c.finish_with_map.new.dst.items c.in-Some.list.now.items c.finish_with_map.new.map.items c.finish_with_map.result c.finish_with_map.ensures.finishes
+    refused_with_map g.F.Fn (body_input a.module.now a.indices.now a.id a.ty a.body a.on_instr_pos g.V.OpCheck.check (g.V.OpCheck.state a.validator)) (emit_input a.module.now a.out.now a.args.now) true made ok err a.dst.now.items c.finish_with_map.new.dst.items c.in-Some.list.now.items c.finish_with_map.new.map.items c.finish_with_map.result (subst (λ (xs : List ℕ). FinishesBoth made xs c.finish_with_map.new.dst.items c.in-Some.list.now.items c.finish_with_map.new.map.items c.finish_with_map.result) c.list_to_write-bytes.ensures.same (subst (λ (ps : List Pair). FinishesBoth made c.list_to_write-bytes.new.list.items c.finish_with_map.new.dst.items ps c.finish_with_map.new.map.items c.finish_with_map.result) c.list_to_write-pairs.ensures.same c.finish_with_map.ensures.finishes))
 
 pub returns-in-Some-clause-each_body : goal.returns-in-Some-clause-each_body
 returns-in-Some-clause-each_body g c locations b both accepted =
     let a = c.args in
     let made = c.write_body-with_pairs.result in
-    let ok = subst (λ (xs : List ℕ). IfOk made (λ m. Composes g.F.Fn (input_of a.module.now a.indices.now a.id a.ty (a.body.start + a.body.ops) xs a.on_instr_pos g.V.OpCheck.check (g.V.OpCheck.state a.validator)) (emit_input a.module.now a.out.now a.args.now) true m.0 m.1)) c.operators-ops.ensures c.write_body-with_pairs.ensures.ok in
+    let ok = subst (λ (xs : List ℕ). IfOk made (Composes g.F.Fn (input_of a.module.now a.indices.now a.id a.ty (a.body.start + a.body.ops) xs a.on_instr_pos g.V.OpCheck.check (g.V.OpCheck.state a.validator)) (emit_input a.module.now a.out.now a.args.now) true)) c.operators-ops.ensures c.write_body-with_pairs.ensures.ok in
     let err = subst (λ (xs : List ℕ). IfErr made (RefusesRewriting g.F.Fn (input_of a.module.now a.indices.now a.id a.ty (a.body.start + a.body.ops) xs a.on_instr_pos g.V.OpCheck.check (g.V.OpCheck.state a.validator)) (emit_input a.module.now a.out.now a.args.now))) c.operators-ops.ensures c.write_body-with_pairs.ensures.err in
-    each_body g.F.Fn (body_input a.module.now a.indices.now a.id a.ty a.body a.on_instr_pos g.V.OpCheck.check (g.V.OpCheck.state a.validator)) (emit_input a.module.now a.out.now a.args.now) locations b both accepted c.finish_with_map.result (refused_with_map g.F.Fn (body_input a.module.now a.indices.now a.id a.ty a.body a.on_instr_pos g.V.OpCheck.check (g.V.OpCheck.state a.validator)) (emit_input a.module.now a.out.now a.args.now) true made ok err a.dst.now.items c.finish_with_map.new.dst.items c.in-Some.list.now.items c.finish_with_map.new.map.items c.finish_with_map.result c.finish_with_map.ensures.finishes)
+    each_body g.F.Fn (body_input a.module.now a.indices.now a.id a.ty a.body a.on_instr_pos g.V.OpCheck.check (g.V.OpCheck.state a.validator)) (emit_input a.module.now a.out.now a.args.now) locations b both accepted c.finish_with_map.result (refused_with_map g.F.Fn (body_input a.module.now a.indices.now a.id a.ty a.body a.on_instr_pos g.V.OpCheck.check (g.V.OpCheck.state a.validator)) (emit_input a.module.now a.out.now a.args.now) true made ok err a.dst.now.items c.finish_with_map.new.dst.items c.in-Some.list.now.items c.finish_with_map.new.map.items c.finish_with_map.result (subst (λ (xs : List ℕ). FinishesBoth made xs c.finish_with_map.new.dst.items c.in-Some.list.now.items c.finish_with_map.new.map.items c.finish_with_map.result) c.list_to_write-bytes.ensures.same (subst (λ (ps : List Pair). FinishesBoth made c.list_to_write-bytes.new.list.items c.finish_with_map.new.dst.items ps c.finish_with_map.new.map.items c.finish_with_map.result) c.list_to_write-pairs.ensures.same c.finish_with_map.ensures.finishes)))
 
 pub returns-in-Some-clause-each_fault : goal.returns-in-Some-clause-each_fault
 returns-in-Some-clause-each_fault g c locations f both fault =
     let a = c.args in
     let made = c.write_body-with_pairs.result in
-    let ok = subst (λ (xs : List ℕ). IfOk made (λ m. Composes g.F.Fn (input_of a.module.now a.indices.now a.id a.ty (a.body.start + a.body.ops) xs a.on_instr_pos g.V.OpCheck.check (g.V.OpCheck.state a.validator)) (emit_input a.module.now a.out.now a.args.now) true m.0 m.1)) c.operators-ops.ensures c.write_body-with_pairs.ensures.ok in
+    let ok = subst (λ (xs : List ℕ). IfOk made (Composes g.F.Fn (input_of a.module.now a.indices.now a.id a.ty (a.body.start + a.body.ops) xs a.on_instr_pos g.V.OpCheck.check (g.V.OpCheck.state a.validator)) (emit_input a.module.now a.out.now a.args.now) true)) c.operators-ops.ensures c.write_body-with_pairs.ensures.ok in
     let err = subst (λ (xs : List ℕ). IfErr made (RefusesRewriting g.F.Fn (input_of a.module.now a.indices.now a.id a.ty (a.body.start + a.body.ops) xs a.on_instr_pos g.V.OpCheck.check (g.V.OpCheck.state a.validator)) (emit_input a.module.now a.out.now a.args.now))) c.operators-ops.ensures c.write_body-with_pairs.ensures.err in
-    each_fault g.F.Fn (body_input a.module.now a.indices.now a.id a.ty a.body a.on_instr_pos g.V.OpCheck.check (g.V.OpCheck.state a.validator)) (emit_input a.module.now a.out.now a.args.now) locations f both fault c.finish_with_map.result (accepts_with_map g.F.Fn (body_input a.module.now a.indices.now a.id a.ty a.body a.on_instr_pos g.V.OpCheck.check (g.V.OpCheck.state a.validator)) (emit_input a.module.now a.out.now a.args.now) true made ok err a.dst.now.items c.finish_with_map.new.dst.items c.in-Some.list.now.items c.finish_with_map.new.map.items c.finish_with_map.result c.finish_with_map.ensures.finishes) (refused_with_map g.F.Fn (body_input a.module.now a.indices.now a.id a.ty a.body a.on_instr_pos g.V.OpCheck.check (g.V.OpCheck.state a.validator)) (emit_input a.module.now a.out.now a.args.now) true made ok err a.dst.now.items c.finish_with_map.new.dst.items c.in-Some.list.now.items c.finish_with_map.new.map.items c.finish_with_map.result c.finish_with_map.ensures.finishes)
+    each_fault g.F.Fn (body_input a.module.now a.indices.now a.id a.ty a.body a.on_instr_pos g.V.OpCheck.check (g.V.OpCheck.state a.validator)) (emit_input a.module.now a.out.now a.args.now) locations f both fault c.finish_with_map.result (accepts_with_map g.F.Fn (body_input a.module.now a.indices.now a.id a.ty a.body a.on_instr_pos g.V.OpCheck.check (g.V.OpCheck.state a.validator)) (emit_input a.module.now a.out.now a.args.now) true made ok err a.dst.now.items c.finish_with_map.new.dst.items c.in-Some.list.now.items c.finish_with_map.new.map.items c.finish_with_map.result (subst (λ (xs : List ℕ). FinishesBoth made xs c.finish_with_map.new.dst.items c.in-Some.list.now.items c.finish_with_map.new.map.items c.finish_with_map.result) c.list_to_write-bytes.ensures.same (subst (λ (ps : List Pair). FinishesBoth made c.list_to_write-bytes.new.list.items c.finish_with_map.new.dst.items ps c.finish_with_map.new.map.items c.finish_with_map.result) c.list_to_write-pairs.ensures.same c.finish_with_map.ensures.finishes))) (refused_with_map g.F.Fn (body_input a.module.now a.indices.now a.id a.ty a.body a.on_instr_pos g.V.OpCheck.check (g.V.OpCheck.state a.validator)) (emit_input a.module.now a.out.now a.args.now) true made ok err a.dst.now.items c.finish_with_map.new.dst.items c.in-Some.list.now.items c.finish_with_map.new.map.items c.finish_with_map.result (subst (λ (xs : List ℕ). FinishesBoth made xs c.finish_with_map.new.dst.items c.in-Some.list.now.items c.finish_with_map.new.map.items c.finish_with_map.result) c.list_to_write-bytes.ensures.same (subst (λ (ps : List Pair). FinishesBoth made c.list_to_write-bytes.new.list.items c.finish_with_map.new.dst.items ps c.finish_with_map.new.map.items c.finish_with_map.result) c.list_to_write-pairs.ensures.same c.finish_with_map.ensures.finishes)))
 
 pub returns-in-Some-clause-same_pairs : goal.returns-in-Some-clause-same_pairs
-returns-in-Some-clause-same_pairs g c = rw c.in-Some.is c.finish_with_map.ensures.same_pairs
+returns-in-Some-clause-same_pairs g c =
+    rw c.in-Some.is (subst (λ (ps : List Pair). OnErr c.finish_with_map.result (c.finish_with_map.new.map.items ≡ ps)) c.list_to_write-pairs.ensures.same c.finish_with_map.ensures.same_pairs)
 
 pub returns-in-None-clause-rewritten : goal.returns-in-None-clause-rewritten
 returns-in-None-clause-rewritten g c =
     let a = c.args in
     let made = c.write_body-without.result in
-    let ok = subst (λ (xs : List ℕ). IfOk made (λ m. Composes g.F.Fn (input_of a.module.now a.indices.now a.id a.ty (a.body.start + a.body.ops) xs a.on_instr_pos g.V.OpCheck.check (g.V.OpCheck.state a.validator)) (emit_input a.module.now a.out.now a.args.now) false m.0 m.1)) c.operators-ops.ensures c.write_body-without.ensures.ok in
+    let ok = subst (λ (xs : List ℕ). IfOk made (Composes g.F.Fn (input_of a.module.now a.indices.now a.id a.ty (a.body.start + a.body.ops) xs a.on_instr_pos g.V.OpCheck.check (g.V.OpCheck.state a.validator)) (emit_input a.module.now a.out.now a.args.now) false)) c.operators-ops.ensures c.write_body-without.ensures.ok in
     let err = subst (λ (xs : List ℕ). IfErr made (RefusesRewriting g.F.Fn (input_of a.module.now a.indices.now a.id a.ty (a.body.start + a.body.ops) xs a.on_instr_pos g.V.OpCheck.check (g.V.OpCheck.state a.validator)) (emit_input a.module.now a.out.now a.args.now))) c.operators-ops.ensures c.write_body-without.ensures.err in
-    rw c.in-None.is (flat_without_map g.F.Fn (body_input a.module.now a.indices.now a.id a.ty a.body a.on_instr_pos g.V.OpCheck.check (g.V.OpCheck.state a.validator)) (emit_input a.module.now a.out.now a.args.now) false made ok err a.dst.now.items c.finish.new.dst.items _ c.finish.result c.finish.ensures.finishes)
+    rw c.in-None.is (flat_without_map g.F.Fn (body_input a.module.now a.indices.now a.id a.ty a.body a.on_instr_pos g.V.OpCheck.check (g.V.OpCheck.state a.validator)) (emit_input a.module.now a.out.now a.args.now) false made ok err a.dst.now.items c.finish.new.dst.items _ c.finish.result (subst (λ (xs : List ℕ). Finishes made xs c.finish.new.dst.items c.finish.result) c.list_to_write-alone.ensures.same c.finish.ensures.finishes))
 
 pub returns-in-None-clause-refused : goal.returns-in-None-clause-refused
 returns-in-None-clause-refused g c =
     let a = c.args in
     let made = c.write_body-without.result in
-    let ok = subst (λ (xs : List ℕ). IfOk made (λ m. Composes g.F.Fn (input_of a.module.now a.indices.now a.id a.ty (a.body.start + a.body.ops) xs a.on_instr_pos g.V.OpCheck.check (g.V.OpCheck.state a.validator)) (emit_input a.module.now a.out.now a.args.now) false m.0 m.1)) c.operators-ops.ensures c.write_body-without.ensures.ok in
+    let ok = subst (λ (xs : List ℕ). IfOk made (Composes g.F.Fn (input_of a.module.now a.indices.now a.id a.ty (a.body.start + a.body.ops) xs a.on_instr_pos g.V.OpCheck.check (g.V.OpCheck.state a.validator)) (emit_input a.module.now a.out.now a.args.now) false)) c.operators-ops.ensures c.write_body-without.ensures.ok in
     let err = subst (λ (xs : List ℕ). IfErr made (RefusesRewriting g.F.Fn (input_of a.module.now a.indices.now a.id a.ty (a.body.start + a.body.ops) xs a.on_instr_pos g.V.OpCheck.check (g.V.OpCheck.state a.validator)) (emit_input a.module.now a.out.now a.args.now))) c.operators-ops.ensures c.write_body-without.ensures.err in
-    refused_without_map g.F.Fn (body_input a.module.now a.indices.now a.id a.ty a.body a.on_instr_pos g.V.OpCheck.check (g.V.OpCheck.state a.validator)) (emit_input a.module.now a.out.now a.args.now) false made ok err a.dst.now.items c.finish.new.dst.items c.finish.result c.finish.ensures.finishes
+    refused_without_map g.F.Fn (body_input a.module.now a.indices.now a.id a.ty a.body a.on_instr_pos g.V.OpCheck.check (g.V.OpCheck.state a.validator)) (emit_input a.module.now a.out.now a.args.now) false made ok err a.dst.now.items c.finish.new.dst.items c.finish.result (subst (λ (xs : List ℕ). Finishes made xs c.finish.new.dst.items c.finish.result) c.list_to_write-alone.ensures.same c.finish.ensures.finishes)
 
 pub returns-in-None-clause-each_body : goal.returns-in-None-clause-each_body
 returns-in-None-clause-each_body g c locations b both accepted =
     let a = c.args in
     let made = c.write_body-without.result in
-    let ok = subst (λ (xs : List ℕ). IfOk made (λ m. Composes g.F.Fn (input_of a.module.now a.indices.now a.id a.ty (a.body.start + a.body.ops) xs a.on_instr_pos g.V.OpCheck.check (g.V.OpCheck.state a.validator)) (emit_input a.module.now a.out.now a.args.now) false m.0 m.1)) c.operators-ops.ensures c.write_body-without.ensures.ok in
+    let ok = subst (λ (xs : List ℕ). IfOk made (Composes g.F.Fn (input_of a.module.now a.indices.now a.id a.ty (a.body.start + a.body.ops) xs a.on_instr_pos g.V.OpCheck.check (g.V.OpCheck.state a.validator)) (emit_input a.module.now a.out.now a.args.now) false)) c.operators-ops.ensures c.write_body-without.ensures.ok in
     let err = subst (λ (xs : List ℕ). IfErr made (RefusesRewriting g.F.Fn (input_of a.module.now a.indices.now a.id a.ty (a.body.start + a.body.ops) xs a.on_instr_pos g.V.OpCheck.check (g.V.OpCheck.state a.validator)) (emit_input a.module.now a.out.now a.args.now))) c.operators-ops.ensures c.write_body-without.ensures.err in
-    each_body g.F.Fn (body_input a.module.now a.indices.now a.id a.ty a.body a.on_instr_pos g.V.OpCheck.check (g.V.OpCheck.state a.validator)) (emit_input a.module.now a.out.now a.args.now) locations b both accepted c.finish.result (refused_without_map g.F.Fn (body_input a.module.now a.indices.now a.id a.ty a.body a.on_instr_pos g.V.OpCheck.check (g.V.OpCheck.state a.validator)) (emit_input a.module.now a.out.now a.args.now) false made ok err a.dst.now.items c.finish.new.dst.items c.finish.result c.finish.ensures.finishes)
+    each_body g.F.Fn (body_input a.module.now a.indices.now a.id a.ty a.body a.on_instr_pos g.V.OpCheck.check (g.V.OpCheck.state a.validator)) (emit_input a.module.now a.out.now a.args.now) locations b both accepted c.finish.result (refused_without_map g.F.Fn (body_input a.module.now a.indices.now a.id a.ty a.body a.on_instr_pos g.V.OpCheck.check (g.V.OpCheck.state a.validator)) (emit_input a.module.now a.out.now a.args.now) false made ok err a.dst.now.items c.finish.new.dst.items c.finish.result (subst (λ (xs : List ℕ). Finishes made xs c.finish.new.dst.items c.finish.result) c.list_to_write-alone.ensures.same c.finish.ensures.finishes))
 
 pub returns-in-None-clause-each_fault : goal.returns-in-None-clause-each_fault
 returns-in-None-clause-each_fault g c locations f both fault =
     let a = c.args in
     let made = c.write_body-without.result in
-    let ok = subst (λ (xs : List ℕ). IfOk made (λ m. Composes g.F.Fn (input_of a.module.now a.indices.now a.id a.ty (a.body.start + a.body.ops) xs a.on_instr_pos g.V.OpCheck.check (g.V.OpCheck.state a.validator)) (emit_input a.module.now a.out.now a.args.now) false m.0 m.1)) c.operators-ops.ensures c.write_body-without.ensures.ok in
+    let ok = subst (λ (xs : List ℕ). IfOk made (Composes g.F.Fn (input_of a.module.now a.indices.now a.id a.ty (a.body.start + a.body.ops) xs a.on_instr_pos g.V.OpCheck.check (g.V.OpCheck.state a.validator)) (emit_input a.module.now a.out.now a.args.now) false)) c.operators-ops.ensures c.write_body-without.ensures.ok in
     let err = subst (λ (xs : List ℕ). IfErr made (RefusesRewriting g.F.Fn (input_of a.module.now a.indices.now a.id a.ty (a.body.start + a.body.ops) xs a.on_instr_pos g.V.OpCheck.check (g.V.OpCheck.state a.validator)) (emit_input a.module.now a.out.now a.args.now))) c.operators-ops.ensures c.write_body-without.ensures.err in
-    each_fault g.F.Fn (body_input a.module.now a.indices.now a.id a.ty a.body a.on_instr_pos g.V.OpCheck.check (g.V.OpCheck.state a.validator)) (emit_input a.module.now a.out.now a.args.now) locations f both fault c.finish.result (accepts_without_map g.F.Fn (body_input a.module.now a.indices.now a.id a.ty a.body a.on_instr_pos g.V.OpCheck.check (g.V.OpCheck.state a.validator)) (emit_input a.module.now a.out.now a.args.now) false made ok err a.dst.now.items c.finish.new.dst.items c.finish.result c.finish.ensures.finishes) (refused_without_map g.F.Fn (body_input a.module.now a.indices.now a.id a.ty a.body a.on_instr_pos g.V.OpCheck.check (g.V.OpCheck.state a.validator)) (emit_input a.module.now a.out.now a.args.now) false made ok err a.dst.now.items c.finish.new.dst.items c.finish.result c.finish.ensures.finishes)
+    each_fault g.F.Fn (body_input a.module.now a.indices.now a.id a.ty a.body a.on_instr_pos g.V.OpCheck.check (g.V.OpCheck.state a.validator)) (emit_input a.module.now a.out.now a.args.now) locations f both fault c.finish.result (accepts_without_map g.F.Fn (body_input a.module.now a.indices.now a.id a.ty a.body a.on_instr_pos g.V.OpCheck.check (g.V.OpCheck.state a.validator)) (emit_input a.module.now a.out.now a.args.now) false made ok err a.dst.now.items c.finish.new.dst.items c.finish.result (subst (λ (xs : List ℕ). Finishes made xs c.finish.new.dst.items c.finish.result) c.list_to_write-alone.ensures.same c.finish.ensures.finishes)) (refused_without_map g.F.Fn (body_input a.module.now a.indices.now a.id a.ty a.body a.on_instr_pos g.V.OpCheck.check (g.V.OpCheck.state a.validator)) (emit_input a.module.now a.out.now a.args.now) false made ok err a.dst.now.items c.finish.new.dst.items c.finish.result (subst (λ (xs : List ℕ). Finishes made xs c.finish.new.dst.items c.finish.result) c.list_to_write-alone.ensures.same c.finish.ensures.finishes))

@@ -1,7 +1,6 @@
 use Rattle.std.proofs.Common.{◌≡◌, ◌≤◌, ◌+◌, ◌⊎◌, length, sym, subst}
 use Rattle.wasm_ops.specs.Position.{Position}
 use Rattle.wasm_body.specs.declared.error.EmitError.TheVariants.{Memory}
-use Rattle.walrus_emit_state.specs.TreeWriting.Drafts.{Drafted}
 use Rattle.walrus_maps.specs.Environments.{environment_of}
 use Rattle.walrus_numbering.specs.NumberMaps.{numbers_by}
 use Rattle.walrus_parser.specs.Locating.{MayCall}
@@ -28,8 +27,7 @@ returns-in-Ok-write_operators-clause-ok g c =
     let a = c.args in
     let to = numbers_by a.module.now.types a.out.now (entries_of a.locals.now) in
     let new = c.write_operators.new.writer.draft in
-    subst (λ (d : Drafted). WritesBody g.F.Fn (again (environment_of a.module.now a.indices.now a.function a.ty) (record { rest = a.ops.now; place = a.start }) a.module.now.code_section_offset a.on_instr_pos) to d new) c.new-draft.ensures
-    (subst (λ (p : Position). WritesBody g.F.Fn (again (environment_of a.module.now a.indices.now a.function a.ty) p a.module.now.code_section_offset a.on_instr_pos) to c.new-draft.result new) c.new-reader.ensures c.in-Ok-write_operators.ensures)
+    subst (λ (p : Position). WritesBody g.F.Fn (again (environment_of a.module.now a.indices.now a.function a.ty) p a.module.now.code_section_offset a.on_instr_pos) to a.draft new) c.new-reader.ensures c.in-Ok-write_operators.ensures
 
 pub returns-in-Err-write_operators-clause-err : goal.returns-in-Err-write_operators-clause-err
 returns-in-Err-write_operators-clause-err g c =

@@ -28,7 +28,7 @@ returns-in-Ok-write_checked-clause-ok g c =
     let i = input_of a.module.now a.indices.now a.function a.ty a.start a.ops.now a.on_instr_pos g.V.OpCheck.check (g.V.OpCheck.state a.validator) in
     let used = is_used c.check.new.scratch.used in
     let checks = subst (λ (b : Bool). ChecksAll (setting_with i) b a.ops.now used (Ok tt)) c.has_limit-limited.ensures c.in-Ok.ensures in
-    composed g.F.Fn i a.module.now a.out.now a.args.now used checks (λ t. refl) (each_byte a.ops.now (λ k. omega (arith, c.type_inv.ops k))) a.has_map c.in-Ok-write_checked.made.0 c.in-Ok-write_checked.made.1 c.in-Ok-write_checked.ensures.ok
+    composed g.F.Fn i a.module.now a.out.now a.args.now used checks (λ t. refl) (each_byte a.ops.now (λ k. omega (arith, c.type_inv.ops k))) a.has_map c.in-Ok-write_checked.draft c.in-Ok-write_checked.ensures.ok
 
 pub returns-in-Err-write_checked-clause-err : goal.returns-in-Err-write_checked-clause-err
 returns-in-Err-write_checked-clause-err g c =

@@ -1,22 +1,32 @@
-use Rattle.std.proofs.Common.{inl, inr}
+use Rattle.std.proofs.Common.{◌≡◌, List, ap, inl, inr, subst, ◌∙◌}
+use Rattle.wasm_body.specs.Pairs.{Pair}
+use Rattle.walrus_maps.specs.Environments.{environment_of}
+use Rattle.walrus_numbering.specs.NumberMaps.{numbers_by}
+use Rattle.walrus_emit_state.specs.TreeWriting.Drafts.{Drafted}
 use Rattle.walrus_flat.specs.UsedLocals.{entries_of}
-use Rattle.walrus_flat.specs.RewrittenFlat.{out_of_memory, not_begun, not_written}
+use Rattle.walrus_flat.specs.WrittenBody.{again, WritesBody}
+use Rattle.walrus_flat.specs.RewrittenFlat.{begun_draft, out_of_memory, not_begun, not_written}
 use Rattle.walrus_flat.proofs.rewriting.write_checked.Goals as goal
 
 pub returns-in-Ok-write-clause-ok : goal.returns-in-Ok-write-clause-ok
-returns-in-Ok-write-clause-ok g c = record {
-  entries = entries_of c.in-Ok.made.1;
-  begins = c.in-Ok.ensures.ok;
-  base = c.byte_len-base.result;
-  base_is = c.byte_len-base.ensures.len;
-  writes = c.in-Ok-write.ensures.ok;
-}
+returns-in-Ok-write-clause-ok g c =
+    let a = c.args in
+    let declared = c.begin_body.new.bytes.items in
+    let begun : c.new-draft.result ≡ begun_draft declared a.has_map =
+    c.new-draft.ensures ∙ ap (λ (ps : List Pair). record { base = 0; has_map = a.has_map; output = record { bytes = declared; pairs = ps } }) (c.make_room_for.ensures.pairs ∙ c.requires.no_pairs) in
+    record {
+      entries = entries_of c.in-Ok.numbers;
+      declared = declared;
+      begins = c.in-Ok.ensures.ok;
+      writes = subst (λ (d : Drafted). WritesBody g.F.Fn (again (environment_of a.module.now a.indices.now a.function a.ty) (record { rest = a.ops.now; place = a.start }) a.module.now.code_section_offset a.on_instr_pos)
+          (numbers_by a.module.now.types a.out.now (entries_of c.in-Ok.numbers)) d c.in-Ok-write.written) begun c.in-Ok-write.ensures.ok;
+    }
 
 pub returns-in-Err-clause-err : goal.returns-in-Err-clause-err
 returns-in-Err-clause-err g c = not_begun c.in-Err.ensures.err
 
-pub returns-in-Err-write-clause-err : goal.returns-in-Err-write-clause-err
-returns-in-Err-write-clause-err g c = elim c.in-Err-write.ensures.err [
+pub returns-clause-err : goal.returns-clause-err
+returns-clause-err g c = elim c.in-Err-write.ensures.err [
   | inl memory ↦ out_of_memory memory
-  | inr fault ↦ not_written c.in-Ok.made.0 (entries_of c.in-Ok.made.1) c.in-Ok.ensures.ok fault
+  | inr fault ↦ not_written c.begin_body.new.bytes.items (entries_of c.in-Ok.numbers) c.in-Ok.ensures.ok fault
 ]

@@ -1,7 +1,6 @@
 use Rattle.std.proofs.Common.{◌≡◌, ◌<◌, ◌+◌, inl, inr, length, List, arith, rules, Bool, true, false, zero, suc, Ok, Err, refl, sym, subst, ◌∙◌, ℕ}
 use Rattle.std.specs.Prelude.{◌==◌, IfOk, IfErr}
 use Rattle.std.proofs.lemmas.Result.{IfOk-at_ok, IfErr-at_err}
-use Rattle.wasm_ops.specs.CommonOperators.{listed}
 use Rattle.wasm_ops.specs.Position.{Position, IsAfter}
 use Rattle.wasm_numbers.specs.declared.fault.ReadError.{ReadError}
 use Rattle.wasm_operators.specs.Spelling.{Spells, read_operation}
@@ -47,7 +46,7 @@ loop-reader-preserved-then-write_at_once g c =
     let some = some_rest (length now.rest) c.eof.result c.eof.ensures c.loop-reader-test.true in
     let t = subst (WritesNextAtOnce now next w new location) c.if-write_at_once.true c.write_at_once.ensures in
     let located : Locates g.F.Fn a.on_instr_pos now.place location = subst (λ p. Locates g.F.Fn a.on_instr_pos p location) c.original_position-at.ensures c.in-Some.ensures in
-    goes_on g.F.Fn i a.writer.now w now.place now.rest so some (meaning (listed t.0)) next.rest t.2.0 t.1 t.2.1 location new (same_env a.writer.now w so.same) (same_numbers a.writer.now w so.same) t.4 located next.place t.3.0 t.3.1
+    goes_on g.F.Fn i a.writer.now w now.place now.rest so some (meaning t.0) next.rest t.2.0 t.1 t.2.1 location new (same_env a.writer.now w so.same) (same_numbers a.writer.now w so.same) t.4 located next.place t.3.0 t.3.1
 
 -- ---- any other
 
@@ -76,15 +75,15 @@ loop-reader-preserved g c =
     let i = again (env_at a.writer.now a.writer.now.ty) a.reader.now a.writer.now.«module».now.code_section_offset a.on_instr_pos in
     let not = subst (WritesNextAtOnce c.loop-reader.reader c.write_at_once.new.reader c.loop-reader.writer c.write_at_once.new.writer c.in-Some.location) c.if-write_at_once.false c.write_at_once.ensures in
     let now = c.loop-reader.reader in
-    let next = c.read_other-read.new.reader in
+    let next = c.read_other-read.new.self in
     let w = c.write_at_once.new.writer in
     let so = still g.F.Fn i a.writer.now c.loop-reader.writer w now.place now.rest not.1 c.loop-reader.invariant in
     let o = meaning c.in-Ok.operator in
     let some = some_rest (length now.rest) c.eof.result c.eof.ensures c.loop-reader-test.true in
-    let read : read_operation now.rest ≡ Ok (o, next.rest) = IfOk-at_ok (λ x. read_operation now.rest ≡ Ok (meaning x, next.rest)) c.in-Ok.is (subst (λ (r : Position). IfOk c.read_other-read.result (λ x. read_operation r.rest ≡ Ok (meaning x, c.read_other-read.new.reader.rest))) not.0 c.read_other-read.ensures.is_read) in
+    let read : read_operation now.rest ≡ Ok (o, next.rest) = IfOk-at_ok (λ x. read_operation now.rest ≡ Ok (meaning x, next.rest)) c.in-Ok.is (subst (λ (r : Position). IfOk c.read_other-read.result (λ x. read_operation r.rest ≡ Ok (meaning x, c.read_other-read.new.self.rest))) not.0 c.read_other-read.ensures.is_read) in
     let spelt : (text : List ℕ) × Spells o text = IfOk-at_ok (λ x. (text : List ℕ) × Spells (meaning x) text) c.in-Ok.is c.read_other-read.ensures.spelt in
     let Moves : Type 0 = (next.place + length next.rest ≡ now.place + length now.rest) × (length next.rest < length now.rest) in
-    let moves : Moves = IfOk-at_ok (λ _. Moves) c.in-Ok.is (subst (λ (r : Position). IfOk c.read_other-read.result (λ _. IsAfter r c.read_other-read.new.reader)) not.0 c.read_other-read.ensures.moves) in
+    let moves : Moves = IfOk-at_ok (λ _. Moves) c.in-Ok.is (subst (λ (r : Position). IfOk c.read_other-read.result (λ _. IsAfter r c.read_other-read.new.self)) not.0 c.read_other-read.ensures.moves) in
     let location = c.in-Some.location in
     let located : Locates g.F.Fn a.on_instr_pos now.place location = subst (λ p. Locates g.F.Fn a.on_instr_pos p location) c.original_position-at.ensures c.in-Some.ensures in
     goes_on g.F.Fn i a.writer.now w now.place now.rest so some o next.rest spelt.0 read spelt.1 location c.step.new.self (same_env a.writer.now w so.same) (same_numbers a.writer.now w so.same) c.in-Ok-step.ensures located next.place moves.0 moves.1
@@ -95,12 +94,12 @@ returns-in-Err-step g c =
     let i = again (env_at a.writer.now a.writer.now.ty) a.reader.now a.writer.now.«module».now.code_section_offset a.on_instr_pos in
     let not = subst (WritesNextAtOnce c.loop-reader.reader c.write_at_once.new.reader c.loop-reader.writer c.write_at_once.new.writer c.in-Some.location) c.if-write_at_once.false c.write_at_once.ensures in
     let now = c.loop-reader.reader in
-    let next = c.read_other-read.new.reader in
+    let next = c.read_other-read.new.self in
     let w = c.write_at_once.new.writer in
     let so = still g.F.Fn i a.writer.now c.loop-reader.writer w now.place now.rest not.1 c.loop-reader.invariant in
     let o = meaning c.in-Ok.operator in
     let some = some_rest (length now.rest) c.eof.result c.eof.ensures c.loop-reader-test.true in
-    let read : read_operation now.rest ≡ Ok (o, next.rest) = IfOk-at_ok (λ x. read_operation now.rest ≡ Ok (meaning x, next.rest)) c.in-Ok.is (subst (λ (r : Position). IfOk c.read_other-read.result (λ x. read_operation r.rest ≡ Ok (meaning x, c.read_other-read.new.reader.rest))) not.0 c.read_other-read.ensures.is_read) in
+    let read : read_operation now.rest ≡ Ok (o, next.rest) = IfOk-at_ok (λ x. read_operation now.rest ≡ Ok (meaning x, next.rest)) c.in-Ok.is (subst (λ (r : Position). IfOk c.read_other-read.result (λ x. read_operation r.rest ≡ Ok (meaning x, c.read_other-read.new.self.rest))) not.0 c.read_other-read.ensures.is_read) in
     let spelt : (text : List ℕ) × Spells o text = IfOk-at_ok (λ x. (text : List ℕ) × Spells (meaning x) text) c.in-Ok.is c.read_other-read.ensures.spelt in
     let location = c.in-Some.location in
     let env = same_env a.writer.now w so.same in

@@ -1,0 +1,196 @@
+//! The bytes and location pairs of a body while it is written.
+ghost use Rattle.std.specs.Prelude.{◌≡◌, ◌≤◌, ◌+◌, ◌++◌, ◌∷◌, [], vec_len, vec_capacity, OnOk, OnErr, IfErr};
+ghost use Rattle.std.specs.Bool.{OnTrue, OnFalse};
+ghost use Rattle.wasm_operators.specs.AccessOperations.{access_of};
+ghost use Rattle.wasm_operators.specs.Meaning.{meaning};
+ghost use Rattle.wasm_operators.specs.Shortest.{short_number, short_integer, short_access, short_bits};
+ghost use Rattle.wasm_encode.specs.Writable.{IsWritable};
+ghost use Rattle.wasm_body.specs.Translation.{at_location};
+ghost use Rattle.wasm_body.specs.declared.error.EmitError.TheVariants.{Memory};
+ghost use Rattle.walrus_emit_state.specs.Emission.{pairs_after};
+ghost use Rattle.walrus_emit_state.specs.TreeWriting.Drafts.{with_written, with_bytes};
+
+use crate::putting::{put_bits, put_byte, put_integer, put_memarg, put_number};
+use std::marker::Model;
+use walrus_ir::InstrLocId;
+use walrus_maps::make_room;
+use wasm_body::EmitError;
+use wasm_encode::{OutOp, write_op};
+use wasm_operators::RawMemArg;
+
+/// How many bytes an operator takes at most that is an opcode of one byte and a number, an integer
+/// or a memory argument.
+const ROOM: usize = 31;
+
+/// Reserves room for such an operator, and appends its pair if pairs are kept. Returns whether it
+/// did. Otherwise both lists are unchanged.
+#[inline(always)]
+fn begin(
+    bytes: &mut Vec<u8>,
+    pairs: &mut Vec<(InstrLocId, usize)>,
+    has_map: bool,
+    location: InstrLocId,
+) -> bool
+    ensures bytes { bytes.new.items ≡ bytes.old.items }
+    ensures room { OnTrue result (vec_len bytes.new + 31 ≤ vec_capacity bytes.new) }
+    ensures pair { OnTrue result (pairs.new.items ≡ pairs_after has_map 0
+        (record { bytes = bytes.old.items; pairs = pairs.old.items }) location) }
+    ensures unchanged { OnFalse result (pairs.new.items ≡ pairs.old.items) }
+{
+    if bytes.capacity() - bytes.len() < ROOM && !make_room(bytes, ROOM) {
+        return false;
+    }
+    if !has_map {
+        return true;
+    }
+    if pairs.len() == pairs.capacity() && !make_room(pairs, 1) {
+        return false;
+    }
+    let place = bytes.len();
+    pairs.push_reserved((location, place));
+    true
+}
+
+/// A body from its first byte on: its declarations and the operators that are written, and for each
+/// of these its location and its place, where these are asked for. A contract sees both lists.
+#[derive(Drop)]
+pub(crate) struct Draft {
+    has_map: bool,
+    bytes: Vec<u8>,
+    pairs: Vec<(InstrLocId, usize)>,
+}
+
+impl Model for Draft {
+    ghost use Rattle.walrus_emit_state.specs.TreeWriting.Drafts.{Drafted};
+
+    ghost Value = { Drafted };
+
+    ghost view = { λ d. record {
+      base = 0;
+      has_map = d.has_map;
+      output = record { bytes = d.bytes.items; pairs = d.pairs.items };
+    } };
+}
+
+impl Draft {
+    /// A body of which these bytes are written, and these pairs.
+    pub fn new(bytes: Vec<u8>, pairs: Vec<(InstrLocId, usize)>, has_map: bool) -> Draft
+        ensures { result ≡ record {
+          base = 0;
+          has_map = has_map;
+          output = record { bytes = bytes.items; pairs = pairs.items };
+        } }
+    {
+        Draft {
+            has_map,
+            bytes,
+            pairs,
+        }
+    }
+
+    /// Writes an operator that is one byte, at a location. Returns whether it did; if not, memory ran
+    /// out, and the draft is unchanged.
+    #[inline(always)]
+    pub fn write_byte(&mut self, byte: u8, location: InstrLocId) -> bool
+        ensures done { OnTrue result (self.new ≡ with_bytes self.old (byte ∷ []) location) }
+        ensures unchanged { OnFalse result (self.new ≡ self.old) }
+    {
+        if !begin(&mut self.bytes, &mut self.pairs, self.has_map, location) {
+            return false;
+        }
+        put_byte(&mut self.bytes, byte);
+        true
+    }
+
+    /// Writes an operator that is a byte and a number, as `write_byte`.
+    #[inline(always)]
+    #[tactic(auto, using(std::proofs::Common::append_assoc))]
+    pub fn write_number(&mut self, byte: u8, number: u32, location: InstrLocId) -> bool
+        ensures done { OnTrue result
+            (self.new ≡ with_bytes self.old (byte ∷ short_number number) location) }
+        ensures unchanged { OnFalse result (self.new ≡ self.old) }
+    {
+        if !begin(&mut self.bytes, &mut self.pairs, self.has_map, location) {
+            return false;
+        }
+        put_byte(&mut self.bytes, byte);
+        put_number(&mut self.bytes, number as u64);
+        true
+    }
+
+    /// Writes an operator that is a byte and an integer, as `write_byte`.
+    #[inline(always)]
+    #[tactic(auto, using(std::proofs::Common::append_assoc))]
+    pub fn write_integer(&mut self, byte: u8, value: i64, location: InstrLocId) -> bool
+        ensures done { OnTrue result
+            (self.new ≡ with_bytes self.old (byte ∷ short_integer value) location) }
+        ensures unchanged { OnFalse result (self.new ≡ self.old) }
+    {
+        if !begin(&mut self.bytes, &mut self.pairs, self.has_map, location) {
+            return false;
+        }
+        put_byte(&mut self.bytes, byte);
+        put_integer(&mut self.bytes, value);
+        true
+    }
+
+    /// Writes an operator that is a byte and a memory argument, as `write_byte`.
+    #[inline(always)]
+    #[tactic(auto, using(std::proofs::Common::append_assoc))]
+    pub fn write_access(&mut self, byte: u8, memarg: RawMemArg, location: InstrLocId) -> bool
+        ensures done { OnTrue result
+            (self.new ≡ with_bytes self.old (byte ∷ short_access (access_of memarg)) location) }
+        ensures unchanged { OnFalse result (self.new ≡ self.old) }
+    {
+        if !begin(&mut self.bytes, &mut self.pairs, self.has_map, location) {
+            return false;
+        }
+        put_byte(&mut self.bytes, byte);
+        put_memarg(&mut self.bytes, memarg);
+        true
+    }
+
+    /// Writes an operator that is a byte and at most eight bytes of bits, as `write_byte`.
+    #[tactic(auto, using(std::proofs::Common::append_assoc))]
+    pub fn write_bits(&mut self, byte: u8, count: u32, bits: u64, location: InstrLocId) -> bool
+        requires { count ≤ 8 }
+        ensures done { OnTrue result
+            (self.new ≡ with_bytes self.old (byte ∷ short_bits count bits) location) }
+        ensures unchanged { OnFalse result (self.new ≡ self.old) }
+    {
+        if !begin(&mut self.bytes, &mut self.pairs, self.has_map, location) {
+            return false;
+        }
+        put_byte(&mut self.bytes, byte);
+        put_bits(&mut self.bytes, count, bits);
+        true
+    }
+
+    /// Writes an operator of any kind, at a location. Where memory runs out all is as before.
+    #[inline(never)]
+    pub fn write_any(&mut self, op: &OutOp, location: InstrLocId) -> Result<(), EmitError>
+        requires { IsWritable (meaning op.now) }
+        ensures ok { OnOk result
+            (self.new ≡ with_written self.old (at_location (meaning op.now) location)) }
+        ensures err { IfErr result (λ e. e ≡ Memory) }
+        ensures unchanged { OnErr result (self.new ≡ self.old) }
+    {
+        if !self.has_map {
+            write_op(op, &mut self.bytes)?;
+            return Ok(());
+        }
+        let place = self.bytes.len();
+        self.pairs.reserve(1)?;
+        write_op(op, &mut self.bytes)?;
+        self.pairs.push((location, place)).unwrap();
+        Ok(())
+    }
+
+    /// The bytes and the pairs.
+    pub fn into_lists(self) -> (Vec<u8>, Vec<(InstrLocId, usize)>)
+        ensures bytes { result.0.items ≡ self.output.bytes }
+        ensures pairs { result.1.items ≡ self.output.pairs }
+    {
+        (self.bytes, self.pairs)
+    }
+}
