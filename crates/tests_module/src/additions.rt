@@ -8,7 +8,7 @@ use walrus_ir::{
     AbstractHeapType, FunctionId, GlobalId, HeapType, MemoryId, RefType, TableId, TagId, TypeId,
     ValType, Value,
 };
-use wasm_module::{Changes, ModuleError, ParsedModule};
+use wasm_module::{Changes, ModuleError, ParsedModule, SectionKind};
 
 /// An item of a module: the first function, table, memory, global or tag.
 #[derive(Clone, Copy)]
@@ -388,4 +388,48 @@ fn imports_leave_other_indices(rt: HostRuntime) -> Result<(), Fail> {
         050502 00010001 0d0502 00000000 060b02 7f0041000b7f0041000b 090702 010000010000 0c0102 \
         0a1601 14 00 23011a fc10011a 3f011a fc0d01 fc0901 0801 0b 0b0502 01000100",
     )
+}
+
+// Adds globals of type i32 with the values 0, 1 and so on, below 64.
+fn add_globals(
+    parsed: &mut ParsedModule<'_>,
+    changes: &mut Changes,
+    count: i32,
+) -> Result<(), ModuleError> {
+    for value in 0..count {
+        parsed.add_value_global(changes, Value::I32(value % 64), false)?;
+    }
+    Ok(())
+}
+
+// The contents of a global section with these globals, whose number takes two bytes.
+fn contents_of_globals(alloc: Global, count: i32, number: [u8; 2]) -> Result<Vec<u8>, Fail> {
+    let mut contents = Vec::from_slice(alloc, &number)?;
+    for value in 0..count {
+        let byte = u8::try_from(value % 64).unwrap_or(0);
+        contents.extend_from_slice(&[0x7f, 0, 0x41, byte, 0x0b])?;
+    }
+    Ok(contents)
+}
+
+// Whether the global section has these globals after they were added to a module without any.
+fn has_globals(alloc: Global, parsed: &mut ParsedModule<'_>, count: i32) -> Result<bool, Fail> {
+    let expected = contents_of_globals(alloc, count, [0x82, 0x01])?;
+    let mut changes = Changes::new(alloc);
+    if add_globals(parsed, &mut changes, count).is_err() {
+        return Ok(false);
+    }
+    Ok(changes.contents_of(SectionKind::Global) == Some(expected.as_slice()))
+}
+
+/// 130 globals: with the 128th, the number of globals takes a second byte.
+#[test]
+fn adds_many_globals(rt: HostRuntime) -> Result<(), Fail> {
+    let bytes = bytes_of(rt.alloc(), "0061736d01000000")?;
+    let has_globals = match ParsedModule::read(rt.alloc(), &bytes) {
+        Ok(mut parsed) => has_globals(rt.alloc(), &mut parsed, 130)?,
+        Err(_) => false,
+    };
+    assert!(rt; has_globals);
+    Ok(())
 }

@@ -36,15 +36,25 @@ pub record HasOneMore (contents item new : List ℕ) : Type 0 where
   pub contents_are : u32 contents ≡ Ok (count, items)
   pub new_is : new ≡ short_number (count + 1) ++ (items ++ item)
 
--- the contents that are given for a section, or those of the section of the source, or an empty vector
-abbrev pub contents_or : (given : Option (List ℕ)) → (source : Option SectionAt) → List ℕ
-contents_or (Some contents) source = contents
-contents_or None (Some section) = section.contents
-contents_or None None = 0 ∷ []
+-- the contents that are given, or else these
+abbrev pub given_or : (given : Option (List ℕ)) → (others : List ℕ) → List ℕ
+given_or (Some contents) others = contents
+given_or None others = others
+
+-- the contents of a section of the source, or else an empty vector
+abbrev pub source_contents : Option SectionAt → List ℕ
+source_contents (Some section) = section.contents
+source_contents None = 0 ∷ []
 
 -- the contents of the section with this id in a module of these sections, with these changes
 abbrev pub contents_with : (all : List SectionAt) → Changes → (id : ℕ) → List ℕ
-contents_with all changes id = contents_or (contents_in changes.given.items id) (first_with id all)
+contents_with all changes id = given_or (contents_in changes.given.items id) (source_contents (first_with id all))
+
+-- An item is added after those that are given for the section with this id, or else after these.
+pub record AddsAfter (old new : Changes) (id : ℕ) (others item : List ℕ) : Type 0 where
+  pub contents : List ℕ
+  pub has_one_more : HasOneMore (given_or (contents_in old.given.items id) others) item contents
+  pub sets : SetsContents old new id contents
 
 -- An item is added after those of the section with this id.
 pub record AddsItem (all : List SectionAt) (old new : Changes) (id : ℕ) (item : List ℕ) : Type 0 where

@@ -1,10 +1,11 @@
 //! New contents of the sections of a module.
 
 ghost use Rattle.std.specs.Prelude.{◌≡◌, ◌<◌, ◌≤◌, [], length, take, Some, None, IfSome, IfNone, IfOk, IfErr, OnOk, OnErr};
-ghost use Rattle.wasm_module.specs.Additions.{AreUnchanged, IsGivenAt, SetsContents};
+ghost use Rattle.wasm_module.specs.Additions.{AddsAfter, AreUnchanged, IsGivenAt, SetsContents};
 ghost use Rattle.wasm_module.specs.Sections.{id_of};
 ghost use Rattle.wasm_module.specs.WrittenModules.{contents_in};
 
+use crate::adding::{append_item, check_len, with_item};
 use crate::fault::{ModuleError, ModuleFault};
 use crate::sections::SectionKind;
 use std::alloc::Global;
@@ -44,6 +45,20 @@ impl Changes {
         }
     }
 
+    /// The position of the section of this kind in the list, if contents are given for it.
+    fn given_at(&self, kind: SectionKind) -> Option<usize>
+        ensures within { IfSome result (λ at. at < length self.now.given.items) }
+        ensures found { IfSome result (IsGivenAt self.now.given.items (id_of kind)) }
+        ensures none { IfNone result (contents_in self.now.given.items (id_of kind) ≡ None) }
+    {
+        'given: for (at, given) in self.given.iter().enumerate() {
+            if given.kind.id() == kind.id() {
+                return Some(at);
+            }
+        }
+        None
+    }
+
     /// The position of the section of this kind in the list; or the one where it has to be put.
     fn place_of(&self, kind: SectionKind) -> Result<usize, usize>
         ensures within { IfOk result (λ at. at < length self.now.given.items) }
@@ -80,6 +95,30 @@ impl Changes {
                 Ok(()) => Ok(()),
                 Err(failed) => Err(ModuleError::from(failed)),
             },
+        }
+    }
+
+    /// Adds an item after those that are given for the section of this kind, or else after these.
+    ///
+    /// # Errors
+    ///
+    /// `TooGreat` if the number of bytes or of items doesn't fit 32 bits; or `Memory`.
+    pub(crate) fn add_after(
+        &mut self,
+        kind: SectionKind,
+        others: &[u8],
+        item: &[u8],
+    ) -> Result<(), ModuleError>
+        ensures ok { OnOk result (AddsAfter self.old self.new (id_of kind) others.now item.now) }
+        ensures err { OnErr result (AreUnchanged self.old self.new) }
+    {
+        match self.given_at(kind) {
+            Some(at) => append_item(&mut self.given[at].contents, item),
+            None => {
+                let contents = with_item(*self.given.allocator(), others, item, 0)?;
+                check_len(contents.len())?;
+                self.put(NewContents { kind, contents })
+            }
         }
     }
 

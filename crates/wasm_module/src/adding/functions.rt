@@ -6,15 +6,13 @@ ghost use Rattle.wasm_operators.specs.declared.types.Space.TheVariants.{Types};
 ghost use Rattle.walrus_maps.specs.IndexMaps.{number_of};
 ghost use Rattle.walrus_rewrite.specs.RawBodies.{IsRawBodyOf};
 ghost use Rattle.wasm_module.specs.AddedFunctions.{input_with, AddsBody, AddsRawFunction, AddsFunction, HasOneFunctionMore};
-ghost use Rattle.wasm_module.specs.Additions.{HasOneMore};
 ghost use Rattle.wasm_module.specs.CodeSections.{entry};
 ghost use Rattle.wasm_module.specs.Declarations.{parameters_of};
 ghost use Rattle.wasm_module.specs.Sections.{SectionAt, IsModule};
 ghost use Rattle.wasm_module.specs.WrittenModules.{added_bodies};
 
-use crate::adding::with_item;
 use crate::bodies::Scratch;
-use crate::changes::{Changes, NewContents};
+use crate::changes::Changes;
 use crate::fault::{ModuleError, ModuleFault};
 use crate::input::Input;
 use crate::locals::{Locals, MAX_LOCALS};
@@ -49,22 +47,6 @@ impl Changes {
         }
     }
 
-    /// The contents of a code section with the bodies that are added, and this raw body after them.
-    fn with_body(&self, alloc: Global, raw: &[u8]) -> Result<Vec<u8>, ModuleError>
-        ensures { IfOk result (λ made. HasOneMore (added_bodies self.now) (entry raw.now)
-            made.items) }
-    {
-        let mut item = Vec::new(alloc);
-        match write_bytes(&mut item, raw) {
-            Ok(()) => {}
-            Err(error) => return Err(error),
-        }
-        match with_item(alloc, self.added_code(), &item) {
-            Ok(made) => Ok(made),
-            Err(error) => Err(error),
-        }
-    }
-
     /// Adds this raw body to the code section, after those that were added before.
     ///
     /// # Errors
@@ -73,18 +55,12 @@ impl Changes {
     fn add_body(&mut self, alloc: Global, raw: &[u8]) -> Result<(), ModuleError>
         ensures { OnOk result (AddsBody self.old self.new raw.now) }
     {
-        let contents = match self.with_body(alloc, raw) {
-            Ok(contents) => contents,
+        let mut item = Vec::new(alloc);
+        match write_bytes(&mut item, raw) {
+            Ok(()) => {}
             Err(error) => return Err(error),
-        };
-        if contents.len() > u32::MAX as usize {
-            return Err(ModuleError {
-                fault: ModuleFault::TooGreat,
-                at: 0,
-            });
         }
-        let kind = SectionKind::Code;
-        match self.put(NewContents { kind, contents }) {
+        match self.add_after(SectionKind::Code, &[0], &item) {
             Ok(()) => Ok(()),
             Err(error) => Err(error),
         }

@@ -9,6 +9,6 @@ returns c = record {
   items = c.number.new.self.rest.now;
   contents_are = cc (c.in_ok-count.ensures.value);
   new_is =
-      from_empty _ _ _ c.new-made.ensures.items c.in_ok-write_items.ensures
+      from_empty _ _ _ (c.reserve.ensures.items ∙ c.new-made.ensures.items) c.in_ok-write_items.ensures
       ∙ ap (λ (l : List ℕ). short_number (c.in_ok-count.count + 1) ++ (l ++ c.args.item.now)) c.rest.ensures;
 }
