@@ -3,9 +3,10 @@ use crate::cases::{bytes_of, fault_text};
 use crate::whole_modules::{EVERY_SECTION, FOLLOWED};
 use std::alloc::Global;
 use std::test::Fail;
+use walrus_body::LocalFunction;
 use wasm_module::{
-    Exports, Function, Globals, Imports, Limits, Memories, ModuleError, NamedFunctions,
-    ParsedModule, Section, SectionKind, Sections, Tables, Tags,
+    Exports, Function, Globals, Imports, Limits, Memories, ModuleError, ModuleFault,
+    NamedFunctions, ParsedModule, Section, SectionKind, Sections, Tables, Tags,
 };
 
 // Appends the exports, each with its place.
@@ -328,5 +329,87 @@ fn views_storage(rt: HostRuntime) -> Result<(), Fail> {
         global of Ref(RefType { nullable: true, heap_type: Concrete(2) }): 208 2 11 true at 151; \
         global of I64: 66 0 11 true at 157; ";
     assert_eq!(rt; found.as_str(), expected);
+    Ok(())
+}
+
+// Appends the functions that a module names outside of bodies.
+fn push_references(text: &mut String, parsed: &ParsedModule<'_>) -> Result<(), ModuleError> {
+    for function in parsed.referenced_functions()? {
+        write!(text, "{} ", function.index())?;
+    }
+    Ok(())
+}
+
+fn references_of(alloc: Global, parsed: &ParsedModule<'_>) -> Result<String, Fail> {
+    let mut text = String::new(alloc);
+    match push_references(&mut text, parsed) {
+        Ok(()) => Ok(text),
+        Err(error) => fault_text(alloc, error),
+    }
+}
+
+fn referenced(alloc: Global, module: &str) -> Result<String, Fail> {
+    let bytes = bytes_of(alloc, module)?;
+    match ParsedModule::read(alloc, &bytes) {
+        Ok(parsed) => references_of(alloc, &parsed),
+        Err(error) => fault_text(alloc, error),
+    }
+}
+
+/// Seven functions: `ref.func 1` in a table, `ref.func 2` in a global, 3 exported, as is a global, 4
+/// called at the start, and 5 twice, `ref.null`, `ref.func 6` and 0 in three element segments.
+#[test]
+fn finds_referenced_functions(rt: HostRuntime) -> Result<(), Fail> {
+    let module = "0061736d01000000 010401600000 03080700000000000000 \
+        0409014000700001d2010b 0606017000d2020b 0709020166000301670300 080104 \
+        0919030041000b020505077002d0700bd2060b020041000b000100 \
+        0a160702000b02000b02000b02000b02000b02000b02000b";
+    let found = referenced(rt.alloc(), module)?;
+    assert_eq!(rt; found.as_str(), "1 2 3 4 5 5 6 0 ");
+    let found = referenced(rt.alloc(), "0061736d01000000")?;
+    assert_eq!(rt; found.as_str(), "");
+    Ok(())
+}
+
+// The functions that are visited, each with the number of its sequences, up to the one with this
+// index, which is refused; and the first error.
+fn visited_text(alloc: Global, parsed: &mut ParsedModule<'_>, last: usize) -> Result<String, Fail> {
+    let mut text = String::new(alloc);
+    let visited = parsed.for_each_function(|index: usize, function: &LocalFunction| {
+        write!(text, "{index} has {}; ", function.builder().count())?;
+        if index == last {
+            let fault = ModuleFault::TooGreat;
+            return Err(ModuleError { fault, at: 7 });
+        }
+        Ok(())
+    });
+    if let Err(error) = visited {
+        write!(text, "{error}")?;
+    }
+    Ok(text)
+}
+
+fn visited(alloc: Global, module: &str, last: usize) -> Result<String, Fail> {
+    let bytes = bytes_of(alloc, module)?;
+    match ParsedModule::read(alloc, &bytes) {
+        Ok(mut parsed) => visited_text(alloc, &mut parsed, last),
+        Err(error) => fault_text(alloc, error),
+    }
+}
+
+/// An imported function, one without instructions, one with a block, and one with `br 1` at 43, where
+/// only the label 0 is open.
+#[test]
+fn visits_each_function(rt: HostRuntime) -> Result<(), Fail> {
+    let module = "0061736d01000000 010401600000 020701016d01660000 030403000000 \
+        0a0f0302000b05000240 0b0b04000c010b";
+    let found = visited(rt.alloc(), module, 9)?;
+    let expected = "1 has 1; 2 has 2; 0x2b: a label is not open (NoSuchLabel)";
+    assert_eq!(rt; found.as_str(), expected);
+    let found = visited(rt.alloc(), module, 1)?;
+    assert_eq!(rt;
+        found.as_str(),
+        "1 has 1; 0x7: a count is too great (TooGreat)"
+    );
     Ok(())
 }

@@ -28,6 +28,7 @@ mod missing;
 mod names;
 mod output;
 mod parsed;
+mod references;
 mod rewriting;
 mod sections;
 mod segments;

@@ -74,7 +74,7 @@ impl<'a> ParsedModule<'a> {
     }
 
     /// The items of the section of this kind; none if there is no such section.
-    fn items(&self, kind: SectionKind) -> Result<Items<'a>, ModuleError>
+    pub(crate) fn items(&self, kind: SectionKind) -> Result<Items<'a>, ModuleError>
         ensures { (all : List SectionAt) → IsModule self.now.bytes.now all
             → IfOk result (λ items. HasItems (first_with (id_of kind) all) items) }
     {
