@@ -1,64 +1,113 @@
 //! `wgc`: takes away the bodies of functions that nothing reaches.
 //!
-//! It is run as `wgc IN.wasm >OUT.wasm`. It writes `unreachable` in
-//! the place of each body that can't be run, so that all indices stay. Reached are the functions that
-//! are exported, the one that is called at the start, those that tables, globals and element segments
-//! name, and those that are called or named by a function that is reached.
+//! It is run as `wgc IN.wasm >OUT.wasm`. It writes `unreachable` in the place of each body that can't
+//! be run, so that all indices stay. Reached are the functions that are exported, the one that is
+//! called at the start, those that tables, globals and element segments name, and those that a
+//! function which is reached calls or names.
 #![tactic(auto)]
 
-mod elements;
-mod reaching;
-
-use anyhow::{Error, Result, bail};
-use module_tools::snip;
-use reaching::unreached;
+use module_tools::{Snipping, Tool, filter};
 use std::alloc::Global;
-use std::io::{BufWriter, Write};
-use std::rt::{Env, Files};
-use std::{env, fs, io};
-use wasm_module::{KeptBodies, ModuleError, ParsedModule, RewrittenModule, WriteError};
+use std::process::ExitCode;
+use walrus_body::LocalFunction;
+use walrus_ir::{FunctionId, IdHashMap, IdHashSet, Instr, InstrLocId, dfs_in_order};
+use walrus_walks::{Listener, Listening};
+use wasm_module::{Changes, ModuleError, ParsedModule};
 
-/// The module without the bodies that aren't reached.
-fn collected<'a>(
+/// The functions that a function calls or names.
+#[derive(Drop)]
+struct Callees(Vec<FunctionId>);
+
+impl Listener for Callees {
+    type Fault = ModuleError;
+
+    fn visit_instr(&mut self, instr: &Instr, _loc: &InstrLocId) -> Result<(), ModuleError> {
+        match instr {
+            Instr::Call(call) => self.0.push(call.func)?,
+            Instr::ReturnCall(call) => self.0.push(call.func)?,
+            Instr::RefFunc(named) => self.0.push(named.func)?,
+            _ => {}
+        }
+        Ok(())
+    }
+}
+
+/// Those of this function.
+fn callees_of(function: &LocalFunction) -> Result<Vec<FunctionId>, ModuleError> {
+    let builder = function.builder();
+    let mut callees = Listening(Callees(Vec::new(builder.allocator())));
+    if let Some(entry) = builder.entry() {
+        dfs_in_order(&mut callees, builder, entry)?;
+    }
+    Ok(callees.0.0)
+}
+
+/// Those of each function with a body.
+fn all_callees(
     alloc: Global,
-    parsed: &mut ParsedModule<'a>,
-) -> Result<RewrittenModule<'a, KeptBodies<'a>>, ModuleError> {
-    match unreached(alloc, parsed) {
-        Ok(functions) => snip(alloc, parsed, functions),
-        Err(error) => Err(error),
+    parsed: &mut ParsedModule<'_>,
+) -> Result<IdHashMap<FunctionId, Vec<FunctionId>>, ModuleError> {
+    let mut all = IdHashMap::new(alloc);
+    parsed.for_each_function(|index: usize, function: &LocalFunction| {
+        all.insert(FunctionId::new(index), callees_of(function)?)?;
+        Ok(())
+    })?;
+    Ok(all)
+}
+
+/// Takes away what is reached: the functions that are pending, and those that they call or name.
+fn remove_reached(
+    all: &IdHashMap<FunctionId, Vec<FunctionId>>,
+    pending: &mut Vec<FunctionId>,
+    functions: &mut IdHashSet<FunctionId>,
+) -> Result<(), ModuleError> {
+    // Each is taken away once, so this ends long before its last number.
+    for _ in 0..u64::MAX {
+        let Some(next) = pending.pop() else {
+            break;
+        };
+        if functions.remove(&next) {
+            if let Some(callees) = all.get(&next) {
+                pending.extend_from_slice(callees)?;
+            }
+        }
+    }
+    Ok(())
+}
+
+/// The functions with a body.
+fn with_body(
+    alloc: Global,
+    parsed: &ParsedModule<'_>,
+) -> Result<IdHashSet<FunctionId>, ModuleError> {
+    let mut functions = IdHashSet::new(alloc);
+    for body in parsed.bodies() {
+        functions.insert(body.id())?;
+    }
+    Ok(functions)
+}
+
+/// Takes away bodies that nothing reaches.
+#[derive(Clone, Copy)]
+struct Collecting;
+
+impl Tool for Collecting {
+    type Change = Snipping;
+
+    fn changes(
+        &self,
+        alloc: Global,
+        parsed: &mut ParsedModule<'_>,
+        _functions: IdHashSet<FunctionId>,
+    ) -> Result<(Option<Snipping>, Changes), ModuleError> {
+        let all = all_callees(alloc, parsed)?;
+        let mut functions = with_body(alloc, parsed)?;
+        let mut pending = parsed.referenced_functions()?;
+        remove_reached(&all, &mut pending, &mut functions)?;
+        Ok((Some(Snipping::new(functions)), Changes::new(alloc)))
     }
 }
 
-/// Prints a module that was made of one.
-fn print_made<'a>(
-    rt: &(impl Print + AllocGlobal),
-    parsed: &mut ParsedModule<'a>,
-    module: &RewrittenModule<'a, KeptBodies<'a>>,
-) -> Result<()> {
-    let mut out = BufWriter::new(rt.alloc(), io::writer(rt))?;
-    match parsed.write_module(module, &mut out) {
-        Ok(()) => Ok(out.flush()?),
-        Err(WriteError::Module(error)) => Err(Error::from(error)),
-        Err(WriteError::Io(error)) => Err(Error::from(error)),
-    }
-}
-
-/// Makes it of a module, and prints it.
-fn print(rt: &(impl Print + AllocGlobal), parsed: &mut ParsedModule<'_>) -> Result<()> {
-    let module = collected(rt.alloc(), parsed)?;
-    print_made(rt, parsed, &module)
-}
-
-/// Reads a module, and writes what is made of it to standard output.
-fn run(rt: &(impl Env + Files + Print + AllocGlobal)) -> Result<()> {
-    let Some(path) = env::args(rt)?.nth(1) else {
-        bail!("usage: wgc IN.wasm >OUT.wasm");
-    };
-    let bytes = fs::read(rt, path.as_str())?;
-    let mut parsed = ParsedModule::read(rt.alloc(), &bytes)?;
-    print(rt, &mut parsed)
-}
-
-fn main(rt: HostRuntime) -> Result<()> {
-    run(&rt)
+fn main(rt: HostRuntime) -> ExitCode {
+    filter(&rt, &Collecting, "wgc")
 }

@@ -6,31 +6,23 @@
 //! body, these have other indices in OUT.wasm, and all that names them follows.
 #![tactic(auto)]
 
-use anyhow::{Error, Result, bail};
+use module_tools::{Tool, filter};
 use std::alloc::{AllocError, Global};
-use std::io::{BufWriter, Write};
-use std::rt::{Env, Files};
-use std::{env, fs, io};
+use std::process::ExitCode;
 use walrus_body::LocalFunction;
 use walrus_ir::{
-    Call, Const, FunctionId, Instr, InstrLocId, InstrSeq, ModuleLocals, ValType, Value,
+    Call, Const, FunctionId, IdHashSet, Instr, InstrLocId, InstrSeq, ModuleLocals, ValType, Value,
 };
-use wasm_module::{
-    ChangeFunction, Changes, KeptBodies, ModuleError, ModuleFault, ParsedModule, RewrittenModule,
-    WriteError,
-};
+use wasm_module::{ChangeFunction, Changes, ModuleError, ModuleFault, ParsedModule};
 
 /// Calls a function with a number before all else. The new instructions come from no place of the
 /// source, so that they have the default location.
 fn add_call(block: &mut InstrSeq, func: FunctionId, number: i32) -> Result<(), AllocError> {
     let nowhere = InstrLocId::default();
     let value = Value::I32(number);
-    block
-        .instrs
-        .insert(0, (Instr::Call(Call { func }), nowhere))?;
-    block
-        .instrs
-        .insert(0, (Instr::Const(Const { value }), nowhere))?;
+    let instrs = &mut block.instrs;
+    instrs.insert(0, (Instr::Call(Call { func }), nowhere))?;
+    instrs.insert(0, (Instr::Const(Const { value }), nowhere))?;
     Ok(())
 }
 
@@ -53,10 +45,8 @@ impl ChangeFunction for Trace {
         _locals: &mut ModuleLocals,
     ) -> Result<(), ModuleError> {
         let Ok(number) = i32::try_from(index) else {
-            return Err(ModuleError {
-                fault: ModuleFault::TooGreat,
-                at: 0,
-            });
+            let fault = ModuleFault::TooGreat;
+            return Err(ModuleError { fault, at: 0 });
         };
         if function.has_entry() {
             let entry = function.entry_block();
@@ -77,48 +67,27 @@ fn import_trace(
     }
 }
 
-/// The module with each call traced.
-fn traced<'a>(
-    alloc: Global,
-    parsed: &mut ParsedModule<'a>,
-) -> Result<RewrittenModule<'a, KeptBodies<'a>>, ModuleError> {
-    let mut changes = Changes::new(alloc);
-    match import_trace(parsed, &mut changes) {
-        Ok(func) => parsed.change_all(&mut Trace(func), changes),
-        Err(error) => Err(error),
+/// Traces the calls of a module.
+#[derive(Clone, Copy)]
+struct Tracing;
+
+impl Tool for Tracing {
+    type Change = Trace;
+
+    fn changes(
+        &self,
+        alloc: Global,
+        parsed: &mut ParsedModule<'_>,
+        _functions: IdHashSet<FunctionId>,
+    ) -> Result<(Option<Trace>, Changes), ModuleError> {
+        let mut changes = Changes::new(alloc);
+        match import_trace(parsed, &mut changes) {
+            Ok(func) => Ok((Some(Trace(func)), changes)),
+            Err(error) => Err(error),
+        }
     }
 }
 
-/// Prints a module that was made of one.
-fn print_made<'a>(
-    rt: &(impl Print + AllocGlobal),
-    parsed: &mut ParsedModule<'a>,
-    module: &RewrittenModule<'a, KeptBodies<'a>>,
-) -> Result<()> {
-    let mut out = BufWriter::new(rt.alloc(), io::writer(rt))?;
-    match parsed.write_module(module, &mut out) {
-        Ok(()) => Ok(out.flush()?),
-        Err(WriteError::Module(error)) => Err(Error::from(error)),
-        Err(WriteError::Io(error)) => Err(Error::from(error)),
-    }
-}
-
-/// Makes it of a module, and prints it.
-fn print(rt: &(impl Print + AllocGlobal), parsed: &mut ParsedModule<'_>) -> Result<()> {
-    let module = traced(rt.alloc(), parsed)?;
-    print_made(rt, parsed, &module)
-}
-
-/// Reads a module, and writes what is made of it to standard output.
-fn run(rt: &(impl Env + Files + Print + AllocGlobal)) -> Result<()> {
-    let Some(path) = env::args(rt)?.nth(1) else {
-        bail!("usage: wtrace IN.wasm >OUT.wasm");
-    };
-    let bytes = fs::read(rt, path.as_str())?;
-    let mut parsed = ParsedModule::read(rt.alloc(), &bytes)?;
-    print(rt, &mut parsed)
-}
-
-fn main(rt: HostRuntime) -> Result<()> {
-    run(&rt)
+fn main(rt: HostRuntime) -> ExitCode {
+    filter(&rt, &Tracing, "wtrace")
 }
