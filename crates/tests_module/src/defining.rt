@@ -127,11 +127,15 @@ fn make(
     step: Step,
 ) -> Result<(), ModuleError> {
     match step {
-        Step::Import => parsed
-            .import_function(changes, "t", "r", TypeId::new(0))
-            .map(|_| ()),
+        Step::Import => match parsed.import_function(changes, "t", "r", TypeId::new(0)) {
+            Ok(_) => Ok(()),
+            Err(error) => Err(error),
+        },
         Step::Export(id) => parsed.export_function(changes, "h", FunctionId::new(id)),
-        step => add(alloc, parsed, changes, step).map(|_| ()),
+        step => match add(alloc, parsed, changes, step) {
+            Ok(_) => Ok(()),
+            Err(error) => Err(error),
+        },
     }
 }
 
