@@ -397,7 +397,10 @@ fn add_globals(
     count: i32,
 ) -> Result<(), ModuleError> {
     for value in 0..count {
-        parsed.add_value_global(changes, Value::I32(value % 64), false)?;
+        match parsed.add_value_global(changes, Value::I32(value % 64), false) {
+            Ok(_) => {}
+            Err(error) => return Err(error),
+        }
     }
     Ok(())
 }
