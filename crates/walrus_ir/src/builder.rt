@@ -40,6 +40,20 @@ impl FunctionBuilder {
         }
     }
 
+    /// Makes room for so many more sequences, unless there isn't so much memory.
+    pub fn make_room(&mut self, more: usize)
+        ensures { self.new ≡ self.old }
+    {
+        let _made = self.seqs.reserve_exact(more).is_ok();
+    }
+
+    /// Gives back the memory that no sequence takes.
+    pub fn shrink_to_fit(&mut self)
+        ensures { self.new ≡ self.old }
+    {
+        self.seqs.shrink_to_fit();
+    }
+
     /// The type of the function.
     pub fn ty(&self) -> TypeId
         ensures { result ≡ self.now.type }
@@ -53,6 +67,7 @@ impl FunctionBuilder {
     /// # Errors
     ///
     /// Out of memory; the builder is unchanged.
+    #[inline(always)]
     pub fn alloc(&mut self, ty: InstrSeqType) -> Result<InstrSeqId, AllocError>
         ensures id { IfOk result (λ id. id ≡ length self.old.sequences) }
         ensures ok { IfOk result (λ _. self.new ≡ with_new_sequence self.old ty) }
@@ -60,12 +75,15 @@ impl FunctionBuilder {
     {
         let id = InstrSeqId::new(self.seqs.len());
         let alloc = self.allocator();
-        self.seqs.push(InstrSeq {
+        if self.seqs.len() == self.seqs.capacity() {
+            self.seqs.reserve(1)?;
+        }
+        self.seqs.push_reserved(InstrSeq {
             id,
             ty,
             instrs: Vec::new(alloc),
             end: InstrLocId::default(),
-        })?;
+        });
         Ok(id)
     }
 
@@ -101,6 +119,7 @@ impl FunctionBuilder {
     }
 
     /// The sequence at this slot, to be changed. The other sequences stay unchanged.
+    #[inline(always)]
     pub fn seq_mut(&mut self, id: InstrSeqId) -> &mut InstrSeq
         requires { id < length self.old.sequences }
         ensures* writes_back { sem 𝓛 (LendsSequence self.entry id result) }
@@ -111,6 +130,7 @@ impl FunctionBuilder {
     }
 
     /// The number of sequences.
+    #[inline(always)]
     pub fn count(&self) -> usize
         ensures { result ≡ length self.now.sequences }
     {
@@ -118,6 +138,7 @@ impl FunctionBuilder {
     }
 
     /// The allocator of the sequences.
+    #[inline(always)]
     pub fn allocator(&self) -> Global {
         *self.seqs.allocator()
     }
