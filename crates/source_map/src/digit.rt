@@ -1,7 +1,6 @@
 //! Digits of base64 (RFC 4648, section 4).
 
-ghost use Rattle.std.specs.Prelude.{◌≡◌, ◌<◌, Some, IfOk};
-ghost use Rattle.source_map.specs.Vlq.{digit_value};
+ghost use Rattle.std.specs.Prelude.{◌≡◌, ◌<◌, IfOk};
 ghost use Rattle.source_map.specs.Shortest.{digit};
 ghost use Rattle.source_map.specs.Reading.{Gives, digit_at};
 

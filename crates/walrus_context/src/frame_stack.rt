@@ -1,5 +1,5 @@
 //! The open frames, with the instructions of all of them in one list.
-ghost use Rattle.std.specs.Prelude.{reverse, ◌≡◌, ◌⊎◌, ◌≤◌, ◌<◌, ◌+◌, ◌^◌, ℕ, ◌∷◌, ◌++◌, [], List, length, take, drop, MatchOption, IfOk, IfErr, OnOk, OnErr, IsSome, None, Some, Ok, Err, true, false};
+ghost use Rattle.std.specs.Prelude.{reverse, ◌≡◌, ◌⊎◌, ◌≤◌, ◌<◌, ◌+◌, ◌^◌, ℕ, ◌∷◌, ◌++◌, [], List, length, take, drop, MatchOption, IfOk, IfErr, OnOk, OnErr, None, Some, Ok, Err, true, false};
 ghost use Rattle.wasm_body.specs.declared.error.ParseError.{ParseError as Fault};
 ghost use Rattle.walrus_context.specs.OpenFrames.{OpenFrame, AreShown, ShowsAt, frame_with, new_frame, marked_dead, with_instr, ChangesAt, HasNoFrame, HasNoFrameAt, InnerAreEmpty, with_clause_in, with_clause_around};
 ghost use Rattle.walrus_context.specs.FrameStacks.{moved_from, StartFrom};

@@ -10,13 +10,14 @@ ghost use Rattle.wasm_body.specs.declared.error.EmitError.TheVariants.{Memory};
 ghost use Rattle.walrus_emit_state.specs.Emission.{pairs_after};
 ghost use Rattle.walrus_emit_state.specs.TreeWriting.Drafts.{with_written, with_bytes};
 
-use crate::putting::{put_byte, put_integer, put_memarg, put_number};
 use std::alloc::{AllocError, Global};
 use std::marker::Model;
 use walrus_ir::InstrLocId;
 use walrus_maps::{list_with_room, make_room};
 use wasm_body::EmitError;
-use wasm_encode::{FunctionEncoder, OutOp, write_op};
+use wasm_encode::{
+    FunctionEncoder, OutOp, put_byte, put_integer, put_memarg, put_number, write_op,
+};
 use wasm_operators::RawMemArg;
 
 /// How many bytes an operator takes at most that is an opcode of one byte and a number, an integer

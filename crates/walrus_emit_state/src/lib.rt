@@ -8,7 +8,6 @@ mod closing;
 mod draft;
 mod labels;
 mod open_scopes;
-mod putting;
 mod try_tables;
 
 pub use announcing::announce;

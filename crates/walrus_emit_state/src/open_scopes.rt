@@ -1,5 +1,5 @@
 //! The sequences that are to come and those that are open, while a tree is written.
-ghost use Rattle.std.specs.Prelude.{◌≡◌, ◌<◌, ◌⊎◌, ◌∷◌, ◌++◌, [], List, length, drop, OnOk, OnErr, IfOk, IfErr, MatchOption};
+ghost use Rattle.std.specs.Prelude.{◌≡◌, ◌<◌, ◌⊎◌, ◌∷◌, ◌++◌, [], List, length, OnOk, OnErr, IfOk, IfErr, MatchOption};
 ghost use Rattle.wasm_body.specs.declared.error.EmitError.TheVariants as emit;
 ghost use Rattle.wasm_body.specs.Bytes.{in_32_bits};
 ghost use Rattle.walrus_emit_state.specs.TreeWriting.Closers.{places_of};

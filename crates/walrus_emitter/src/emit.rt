@@ -6,7 +6,7 @@ ghost use Rattle.walrus_ir.specs.declared.instr.Instr.TheVariants as instruction
 ghost use Rattle.walrus_ir.specs.Unfolding.{slots_in};
 ghost use Rattle.wasm_operators.specs.declared.types.Opcode.TheVariants as opcodes;
 ghost use Rattle.wasm_operators.specs.declared.types.Space.TheVariants.{Funcs, Globals};
-ghost use Rattle.wasm_operators.specs.Operations.{operation, index as index_immediate, local as local_immediate, label as label_immediate, access as access_immediate, i32 as i32_immediate, i64 as i64_immediate};
+ghost use Rattle.wasm_operators.specs.Operations.{operation, index as index_immediate, local as local_immediate, label as label_immediate, access as access_immediate};
 ghost use Rattle.walrus_emit_state.specs.Emission.{first_type_at};
 ghost use Rattle.wasm_body.specs.Bytes.{Numbers};
 ghost use Rattle.wasm_body.specs.InstructionTable.{operation_of, access_at, block_immediate, clauses_of_try};

@@ -1,10 +1,7 @@
 //! The first pass: a body is checked, and the locals that its live operators name are gathered.
-ghost use Rattle.std.specs.Prelude.{◌≡◌, ◌≢◌, ◌+◌, ◌<◌, ℕ, [], List, length, IfOk, IfErr, OnOk, Ok, Err, true, false};
-ghost use Rattle.wasm_operators.specs.Spelling.{Spells, read_operation};
+ghost use Rattle.std.specs.Prelude.{◌≢◌, ◌<◌, [], IfErr, OnOk, Ok, Err, true, false};
 ghost use Rattle.wasm_operators.specs.Meaning.{meaning};
-ghost use Rattle.wasm_encode.specs.Writable.{IsWritable};
 ghost use Rattle.wasm_ops.specs.CommonOperators.{listed};
-ghost use Rattle.wasm_ops.specs.Position.{IsAfter};
 ghost use Rattle.walrus_parser.specs.Checking.{Checks, placed_at};
 ghost use Rattle.walrus_flat.specs.Controls.{control_listed};
 ghost use Rattle.walrus_flat.specs.Checked.{env_of};

@@ -1,5 +1,5 @@
 //! The operators of a body, checked one by one.
-ghost use Rattle.std.specs.Prelude.{◌≡◌, ◌≢◌, ◌⊎◌, ◌++◌, ◌-◌, slice_get, [], ◌∷◌, List, length, Option, Some, None, nat_lt, reverse, Ok, Err, OnOk, IfOk, IfErr, IfSome, MatchOption, true, false};
+ghost use Rattle.std.specs.Prelude.{◌≡◌, ◌≢◌, ◌⊎◌, ◌++◌, ◌-◌, slice_get, [], ◌∷◌, length, Option, Some, None, nat_lt, reverse, Ok, Err, OnOk, IfErr, IfSome, MatchOption, true, false};
 ghost use Rattle.walrus_ir.specs.Types.{Signature, signature, signature_of_type};
 ghost use Rattle.wasm_operators.specs.Meaning.{meaning};
 ghost use Rattle.wasm_encode.specs.Writable.{IsWritable};

@@ -1,5 +1,5 @@
 //! The bytes and location pairs of a body while it is written.
-ghost use Rattle.std.specs.Prelude.{◌≡◌, ◌≤◌, ◌+◌, ◌++◌, ◌∷◌, [], vec_len, vec_capacity, OnOk, OnErr, IfErr};
+ghost use Rattle.std.specs.Prelude.{◌≡◌, ◌≤◌, ◌+◌, ◌∷◌, [], vec_len, vec_capacity, OnOk, OnErr, IfErr};
 ghost use Rattle.std.specs.Bool.{OnTrue, OnFalse};
 ghost use Rattle.wasm_operators.specs.AccessOperations.{access_of};
 ghost use Rattle.wasm_operators.specs.Meaning.{meaning};
@@ -10,12 +10,11 @@ ghost use Rattle.wasm_body.specs.declared.error.EmitError.TheVariants.{Memory};
 ghost use Rattle.walrus_emit_state.specs.Emission.{pairs_after};
 ghost use Rattle.walrus_emit_state.specs.TreeWriting.Drafts.{with_written, with_bytes};
 
-use crate::putting::{put_bits, put_byte, put_integer, put_memarg, put_number};
 use std::marker::Model;
 use walrus_ir::InstrLocId;
 use walrus_maps::make_room;
 use wasm_body::EmitError;
-use wasm_encode::{OutOp, write_op};
+use wasm_encode::{OutOp, put_bits, put_byte, put_integer, put_memarg, put_number, write_op};
 use wasm_operators::RawMemArg;
 
 /// How many bytes an operator takes at most that is an opcode of one byte and a number, an integer

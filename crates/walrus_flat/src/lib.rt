@@ -13,7 +13,6 @@ mod laws;
 mod local_numbers;
 mod open_sequence;
 mod place_limit;
-mod putting;
 mod renumbering;
 mod rewriting;
 mod scratch;

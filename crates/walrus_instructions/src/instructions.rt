@@ -1,5 +1,5 @@
 //! The instructions of operators. Old indices are looked up in the order in which they are written.
-ghost use Rattle.std.specs.Prelude.{◌≡◌, ◌⊎◌, ◌<◌, ◌^◌, List, [], true, IfOk, IfErr, Ok, Err};
+ghost use Rattle.std.specs.Prelude.{◌≡◌, ◌⊎◌, ◌<◌, ◌^◌, [], true, IfOk, IfErr, Ok, Err};
 ghost use Rattle.walrus_ir.specs.declared.instr.Instr.TheVariants as instr;
 ghost use Rattle.walrus_ir.specs.Unfolding.{slots_in};
 ghost use Rattle.walrus_ir.specs.Results.{each};

@@ -1,11 +1,10 @@
 //! The operators of instructions. Ids are looked up in the order in which their numbers are
 //! written.
-ghost use Rattle.std.specs.Prelude.{◌≡◌, ℕ, List, true, IfOk};
+ghost use Rattle.std.specs.Prelude.{◌≡◌, IfOk};
 ghost use Rattle.walrus_ir.specs.Results.{Gives};
 ghost use Rattle.wasm_operators.specs.Meaning.{meaning};
 ghost use Rattle.wasm_encode.specs.Writable.{IsWritable};
 ghost use Rattle.wasm_body.specs.InstructionTable.{wait_kind};
-ghost use Rattle.walrus_ir.specs.declared.val_type.InstrSeqType.{InstrSeqType as SequenceType};
 ghost use Rattle.walrus_emit_state.specs.TreeWriting.Closers.{places_of};
 ghost use Rattle.walrus_numbering.specs.NumberMaps.{numbers_of};
 ghost use Rattle.walrus_operators.specs.TreeWriting.Operators.{IsOperatorOf, numbered_closer};

@@ -1,11 +1,10 @@
 //! How a body is parsed: each operator advances the state of the open sequences.
-ghost use Rattle.std.specs.Prelude.{IsTrue, ◌↔◌, reverse, ◌≡◌, ◌≢◌, ◌⊎◌, ◌<◌, ◌≤◌, length, IfOk, IfErr, OnOk, Some, [], ◌∷◌, Ok, Err, slice_get, IsSome, IsSomeAnd, None, true, false};
+ghost use Rattle.std.specs.Prelude.{IsTrue, ◌↔◌, reverse, ◌≡◌, ◌⊎◌, ◌<◌, ◌≤◌, length, IfOk, IfErr, OnOk, Some, [], ◌∷◌, Ok, Err, IsSomeAnd, None, true};
 ghost use Rattle.walrus_ir.specs.Types.{existing};
 ghost use Rattle.wasm_operators.specs.declared.types.Opcode.TheVariants.{Byte};
 ghost use Rattle.wasm_operators.specs.Operations.{operation, block};
 ghost use Rattle.wasm_operators.specs.declared.operator.Op.TheVariants as op;
 ghost use Rattle.wasm_operators.specs.Meaning.{meaning};
-ghost use Rattle.wasm_ops.specs.CommonOperators.{listed};
 ghost use Rattle.wasm_encode.specs.Writable.{IsWritable};
 ghost use Rattle.walrus_instructions.specs.OperatorKinds.{is_instruction};
 ghost use Rattle.walrus_parser.specs.OperatorKinds.{is_diverging};
@@ -24,12 +23,12 @@ use std::mem;
 use walrus_context::{IfElseState, ValidationContext, push_or_fail};
 use walrus_instructions::instruction;
 use walrus_ir::{
-    Block, BlockKind, FunctionBuilder, FunctionId, IfElse, Instr, InstrLocId, InstrSeqId,
-    InstrSeqType, Loop, Module, TypeId, ValType,
+    Block, BlockKind, FunctionBuilder, FunctionId, IfElse, Instr, InstrLocId, InstrSeqId, Loop,
+    Module, TypeId, ValType,
 };
 use walrus_maps::IndicesToIds;
 use wasm_body::ParseError;
-use wasm_ops::{BlockType, CommonOperator, Operator};
+use wasm_ops::{BlockType, Operator};
 
 /// The state while a body is parsed.
 #[derive(Drop)]
@@ -60,6 +59,7 @@ impl<'a> BodyParser<'a> {
         function: FunctionId,
         ty: TypeId,
         entry: TypeId,
+        sequences: usize,
         lent: &mut Vec<(Instr, InstrLocId)>,
     ) -> Result<BodyParser<'a>, ParseError>
         requires { entry_type_of (environment_of «module».now indices.now function ty) ≡ Ok entry }
@@ -70,6 +70,7 @@ impl<'a> BodyParser<'a> {
     {
         let mut builder = FunctionBuilder::without_entry(alloc, ty);
         builder.set_entry(InstrSeqId::new(0));
+        builder.make_room(sequences);
         let controls = Vec::new(alloc);
         let instrs = cleared(alloc, lent);
         let mut context = ValidationContext::new(
@@ -333,7 +334,8 @@ impl BodyParser<'_> {
             Err(error) => return Err(error),
         };
         self.context.end_sequence(block, location);
-        let (builder, _controls, instrs) = self.context.into_parts();
+        let (mut builder, _controls, instrs) = self.context.into_parts();
+        builder.shrink_to_fit();
         *lent = instrs;
         Ok(builder)
     }

@@ -1,5 +1,5 @@
 //! The next operator, its location, and whether the validator accepts it.
-ghost use Rattle.std.specs.Prelude.{◌≡◌, ◌⊎◌, ◌+◌, ◌<◌, ℕ, List, length, IfOk, IfErr, IfSome, MatchOption, Ok, Err};
+ghost use Rattle.std.specs.Prelude.{◌≡◌, ◌⊎◌, ◌+◌, ◌<◌, IfOk, IfErr, IfSome, MatchOption, Ok, Err};
 ghost use Rattle.wasm_operators.specs.Spelling.{read_operation};
 ghost use Rattle.wasm_operators.specs.Meaning.{meaning};
 ghost use Rattle.wasm_encode.specs.Writable.{IsWritable};

@@ -1,8 +1,5 @@
 //! Parsing the operators of a body.
 ghost use Rattle.std.specs.Prelude.{◌≡◌, ◌≤◌, ◌<◌, ◌+◌, ◌^◌, [], length, Some, IfOk, IfErr, Ok};
-ghost use Rattle.wasm_body.specs.SourceTree.{Empty};
-ghost use Rattle.wasm_body.specs.Naming.{entry_type_id as entry_type_of};
-ghost use Rattle.walrus_maps.specs.Environments.{environment_of};
 ghost use Rattle.walrus_parser.specs.Locating.{MayCall, end_of};
 ghost use Rattle.walrus_context.specs.OpenTrees.{env_of};
 ghost use Rattle.walrus_parser.specs.BodyParsers.{Begins};
@@ -52,6 +49,12 @@ impl ParsedOperators {
 /// bytes, since an operator takes some two bytes.
 const MOST_ROOM: usize = 1 << 14;
 
+/// Room is made for a sequence in so many bytes at first.
+const BYTES_OF_SEQUENCE: usize = 12;
+
+/// For how many sequences room is made at most before the first operator is read.
+const MOST_SEQUENCES: usize = 1 << 12;
+
 /// What became of the next operator.
 pub(crate) enum Attempt {
     /// It was taken.
@@ -80,11 +83,11 @@ fn parse_at_once<V: OpCheck, F: Fn(&usize) -> InstrLocId>(
         (V.state validator.new) at code_offset reader.old reader.new parser.old parser.new
         mapping.old.items mapping.new.items result }
 {
-    let Some((common, rest)) = reader.peek_common() else {
-        return Ok(Attempt::Left(None));
-    };
     let Some(location) = location_at(on_instr_pos, at) else {
         return Ok(Attempt::Left(None));
+    };
+    let Some((common, rest)) = reader.peek_common() else {
+        return Ok(Attempt::Left(Some(location)));
     };
     if !parser.take_common(common, location) {
         return Ok(Attempt::Left(Some(location)));
@@ -199,7 +202,8 @@ pub fn parse_function<V: OpCheck, F: Fn(&usize) -> InstrLocId>(
     let Some(entry) = types.find_for_function_entry(types.results(ty)) else {
         return Err(failure(ParseError::EntryTypeMissing, start));
     };
-    match BodyParser::new(alloc, module, indices, function, ty, entry, lent) {
+    let sequences = (ops.len() / BYTES_OF_SEQUENCE).min(MOST_SEQUENCES) + 1;
+    match BodyParser::new(alloc, module, indices, function, ty, entry, sequences, lent) {
         Ok(parser) => parse_operators(
             alloc,
             parser,

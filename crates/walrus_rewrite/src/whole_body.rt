@@ -1,5 +1,5 @@
 //! Rewriting whole bodies, and writing those of functions.
-ghost use Rattle.std.specs.Prelude.{◌≡◌, ◌⊎◌, ◌++◌, ◌≤◌, ◌<◌, ◌+◌, ◌^◌, ℕ, [], length, Some, None, Ok, OnOk, OnErr, IfOk, IfErr, IsErr};
+ghost use Rattle.std.specs.Prelude.{◌≡◌, ◌⊎◌, ◌++◌, ◌≤◌, ◌<◌, ◌+◌, ◌^◌, [], length, Some, None, Ok, OnOk, OnErr, IfOk, IfErr, IsErr};
 ghost use Rattle.walrus_parser.specs.Ranges.{range_of};
 ghost use Rattle.walrus_body.specs.LocalFunctions.{HasEntry};
 ghost use Rattle.walrus_parser.specs.Bodies.{body_input, IfAccepted, IfFirstFault};

@@ -3,7 +3,7 @@ ghost use Rattle.std.specs.Prelude.{◌≡◌, [], ◌∷◌, None, IfOk, IfErr,
 ghost use Rattle.std.specs.FinMap as map;
 ghost use Rattle.wasm_body.specs.declared.error.IndexError.TheVariants.{Memory};
 ghost use Rattle.wasm_operators.specs.declared.types.Space.TheVariants.{Tables, Types, Funcs, Globals, Memories, Elements, Data, Tags};
-ghost use Rattle.walrus_maps.specs.IndexMaps.{no_ids, ids_in, with_ids_in, with_locals, numbers_in, with_numbers};
+ghost use Rattle.walrus_maps.specs.IndexMaps.{ids_in, with_ids_in, with_locals, numbers_in, with_numbers};
 ghost use Rattle.walrus_maps.specs.Numbering.{pushed};
 ghost use Rattle.walrus_numbering.specs.NumberMaps.{numbers_by};
 ghost use Rattle.walrus_run.specs.Demo.{demo_module, demo_types, demo_items, demo_indices, demo_numbers};

@@ -9,7 +9,7 @@ use crate::trace_words::{outcomes, turns};
 use std::alloc::{AllocError, Global};
 use std::io::Write;
 use thiserror::Error;
-use walrus_body::{FunctionBody, ParseError, ParseFailure};
+use walrus_body::{FunctionBody, ParseError};
 use walrus_ir::{FunctionId, TypeId};
 use walrus_rewrite::RewriteError;
 

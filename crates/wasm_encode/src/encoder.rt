@@ -1,6 +1,6 @@
 //! The bytes of a function's body that is written.
 
-ghost use Rattle.std.specs.Prelude.{◌≡◌, ◌++◌, ◌≤◌, OnOk, take, length};
+ghost use Rattle.std.specs.Prelude.{◌≡◌, ◌++◌, OnOk, take, length};
 ghost use Rattle.std.specs.List.{flat_map};
 ghost use Rattle.wasm_encode.specs.Declarations.{short_declaration};
 

@@ -7,6 +7,7 @@ mod law;
 mod number;
 mod operation;
 mod out_operator;
+mod putting;
 mod type_writer;
 
 pub use encoder::FunctionEncoder;
@@ -14,4 +15,5 @@ pub use law::law_written;
 pub use number::write_number;
 pub use operation::write_op;
 pub use out_operator::{OutClauses, OutOp, OutTable};
+pub use putting::{put_bits, put_byte, put_integer, put_memarg, put_number};
 pub use type_writer::write_value_type;

@@ -52,6 +52,7 @@ pub fn write_number(out: &mut Vec<u8>, n: u64) -> Result<(), AllocError>
 }
 
 /// The distance of a negative number from -1.
+#[inline(always)]
 fn flip(z: i64) -> u64
     requires { z <ℤ pos 0 }
     ensures flipped { z ≡ negsuc result }
@@ -61,6 +62,7 @@ fn flip(z: i64) -> u64
 }
 
 /// The number at this distance below -1.
+#[inline(always)]
 fn below(n: u64) -> i64
     requires { n < 2 ^ 63 }
     ensures { result ≡ negsuc n }
@@ -69,7 +71,8 @@ fn below(n: u64) -> i64
 }
 
 /// The low seven bits of a number, and the number of the other bits.
-fn split_digit(z: i64) -> (u8, i64)
+#[inline(always)]
+pub(crate) fn split_digit(z: i64) -> (u8, i64)
     ensures low { result.0 ≡ low_bits z }
     ensures bits { result.0 < 128 }
     ensures high { result.1 ≡ high_bits z }

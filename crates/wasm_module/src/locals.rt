@@ -211,6 +211,16 @@ impl OpCheck for LocalsBelow {
             Operator::Br { .. } => Ok(()),
             Operator::BrIf { .. } => Ok(()),
             Operator::Drop => Ok(()),
+            Operator::Block { .. } => Ok(()),
+            Operator::Loop { .. } => Ok(()),
+            Operator::If { .. } => Ok(()),
+            Operator::Else => Ok(()),
+            Operator::End => Ok(()),
+            Operator::Unreachable => Ok(()),
+            Operator::Return => Ok(()),
+            Operator::Select => Ok(()),
+            Operator::F32Const { .. } => Ok(()),
+            Operator::F64Const { .. } => Ok(()),
             _ => self.check_any(op),
         }
     }

@@ -1,9 +1,8 @@
 //! Where the source map of a module is: a custom section `sourceMappingURL` (WebAssembly tool
 //! conventions, source maps).
 
-ghost use Rattle.std.specs.Prelude.{◌≡◌, ◌++◌, IfOk, OnOk, codes};
+ghost use Rattle.std.specs.Prelude.{◌≡◌, IfOk, OnOk};
 ghost use Rattle.std.specs.Io.KnownBytes.{Appends};
-ghost use Rattle.wasm_module.specs.CodeSections.{entry};
 ghost use Rattle.wasm_module.specs.Sections.{section as whole_section};
 ghost use Rattle.wasm_module.specs.WrittenModules.{url_contents};
 

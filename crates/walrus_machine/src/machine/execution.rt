@@ -1,5 +1,5 @@
 //! Runs of the machine.
-ghost use Rattle.std.specs.Prelude.{◌≡◌, List, length, map, IfOk};
+ghost use Rattle.std.specs.Prelude.{◌≡◌, length, map, IfOk};
 ghost use Rattle.wasm_body.specs.Machine as M;
 ghost use Rattle.wasm_body.specs.Places.{run_by_place};
 ghost use Rattle.wasm_body.specs.Control.{control_of};

@@ -1,5 +1,5 @@
 //! The response of a construct to an exception that leaves it.
-ghost use Rattle.std.specs.Prelude.{◌≡◌, ◌+◌, ℕ, List, map};
+ghost use Rattle.std.specs.Prelude.{◌≡◌, ◌+◌, List, map};
 ghost use Rattle.wasm_body.specs.Control.{Control as Meaning};
 ghost use Rattle.wasm_body.specs.Machine as M;
 ghost use Rattle.walrus_machine.specs.Controls.{clause_meaning};

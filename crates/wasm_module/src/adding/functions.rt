@@ -6,7 +6,6 @@ ghost use Rattle.wasm_operators.specs.declared.types.Space.TheVariants.{Types};
 ghost use Rattle.walrus_maps.specs.IndexMaps.{number_of};
 ghost use Rattle.walrus_rewrite.specs.RawBodies.{IsRawBodyOf};
 ghost use Rattle.wasm_module.specs.AddedFunctions.{input_with, AddsBody, AddsRawFunction, AddsFunction, HasOneFunctionMore};
-ghost use Rattle.wasm_module.specs.CodeSections.{entry};
 ghost use Rattle.wasm_module.specs.Declarations.{parameters_of};
 ghost use Rattle.wasm_module.specs.Sections.{SectionAt, IsModule};
 ghost use Rattle.wasm_module.specs.WrittenModules.{added_bodies};

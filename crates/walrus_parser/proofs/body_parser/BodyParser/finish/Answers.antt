@@ -12,7 +12,7 @@ returns-clause-ok c =
     let mid = c.pop_control.new.self in
     let end = c.end_sequence.new.self in
     let closes = c.in-Ok.ensures.ok.closes in
-    let built = c.into_parts-builder.ensures.function in
+    let built = c.shrink_to_fit.ensures ∙ c.into_parts-builder.ensures.function in
     record {
       type = ap (λ (b : Function). b.type) built ∙ ap (λ (t : OpenTrees). t.builder.type) c.end_sequence.ensures.is ∙ ap (λ (t : OpenTrees). t.builder.type) closes.is;
       entry = ap (λ (b : Function). b.entry) built ∙ ap (λ (t : OpenTrees). t.builder.entry) c.end_sequence.ensures.is ∙ ap (λ (t : OpenTrees). t.builder.entry) closes.is;

@@ -13,9 +13,9 @@ returns-in-Ok-clause-ok c =
     let t = c.new-context.result in
     let is = c.new-context.ensures in
     let first : t.builder ≡ record c.without_entry-builder.result { entry = Some 0 } =
-    ap (λ (z : OpenTrees). z.builder) is ∙ c.set_entry.ensures ∙ ap (λ n. record c.without_entry-builder.result { entry = Some n }) c.new.ensures in
+    ap (λ (z : OpenTrees). z.builder) is ∙ c.make_room.ensures ∙ c.set_entry.ensures ∙ ap (λ n. record c.without_entry-builder.result { entry = Some n }) c.new.ensures in
     let fresh = first ∙ ap (λ (f : Function). record f { entry = Some 0 }) c.without_entry-builder.ensures in
-    let env = ap env_of is ∙ ap (λ (f : Function). environment_of a.module.now a.indices.now a.function f.type) (c.set_entry.ensures ∙ ap (λ (f : Function). record f { entry = Some c.new.result }) c.without_entry-builder.ensures) in
+    let env = ap env_of is ∙ ap (λ (f : Function). environment_of a.module.now a.indices.now a.function f.type) (c.make_room.ensures ∙ c.set_entry.ensures ∙ ap (λ (f : Function). record f { entry = Some c.new.result }) c.without_entry-builder.ensures) in
     let made = begun_as t a.ty a.entry c.push_control_with_ty.new.self c.in-Ok._entry c.new-in-Ok.result.items (signature_of t.module.types a.entry) (ap (λ (z : OpenTrees). z.frames) is) fresh (ap entry_type_id env ∙ c.requires) c.new-in-Ok.ensures.items
     c.in-Ok.ensures.ok in
     record { keeps = made.0; entry = made.1 }

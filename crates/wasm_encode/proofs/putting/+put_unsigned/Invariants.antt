@@ -1,4 +1,4 @@
-use Rattle.walrus_flat.proofs.putting.+put_unsigned.Given as goal
+use Rattle.wasm_encode.proofs.putting.+put_unsigned.Given as goal
 
 abbrev pub decreases-put_unsigned : goal.decreases-put_unsigned
 decreases-put_unsigned l = l.more

@@ -1,9 +1,10 @@
 //! Appending bytes to a list that has room for them: integers in LEB128 (WebAssembly core
 //! specification 3.0, binary format, values), with as few bytes as possible.
-ghost use Rattle.std.specs.Prelude.{◌≡◌, ◌<◌, ◌≤◌, ◌+◌, ◌^◌, ◌++◌, ◌∷◌, [], vec_len, vec_capacity, ◌<ℤ◌, pos, negsuc};
+ghost use Rattle.std.specs.Prelude.{◌≡◌, ◌<◌, ◌≤◌, ◌+◌, ◌++◌, ◌∷◌, [], vec_len, vec_capacity};
 ghost use Rattle.wasm_operators.specs.AccessOperations.{access_of};
-ghost use Rattle.wasm_operators.specs.Shortest.{short_unsigned, short_number, low_bits, high_bits, short_signed, short_integer, short_access, short_bits};
+ghost use Rattle.wasm_operators.specs.Shortest.{short_unsigned, short_number, short_signed, short_integer, short_access, short_bits};
 
+use crate::number::split_digit;
 use wasm_operators::RawMemArg;
 
 /// Appends a byte. Requires room for it.
@@ -19,7 +20,7 @@ pub fn put_byte(out: &mut Vec<u8>, byte: u8)
 
 /// Appends the shortest spelling of a number, with at most `more` bytes before the last. Requires
 /// room for them.
-#[tactic(auto, using(wasm_encode::proofs::Appending::appending), unfolding(wasm_operators::specs::Shortest::short_unsigned))]
+#[tactic(auto, using(crate::proofs::Appending::appending), unfolding(wasm_operators::specs::Shortest::short_unsigned))]
 fn put_unsigned(out: &mut Vec<u8>, more: u32, n: u64)
     requires { vec_len out.old + more < vec_capacity out.old }
     ensures items { out.new.items ≡ out.old.items ++ short_unsigned more n }
@@ -52,47 +53,16 @@ pub fn put_number(out: &mut Vec<u8>, n: u64)
     put_unsigned(out, 9, n)
 }
 
-/// The distance of a negative number from -1.
-fn flip(z: i64) -> u64
-    requires { z <ℤ pos 0 }
-    ensures flipped { z ≡ negsuc result }
-    ensures small { result < 2 ^ 63 }
-{
-    (-(z + 1)) as u64
-}
-
-/// The number at this distance below -1.
-fn below(n: u64) -> i64
-    requires { n < 2 ^ 63 }
-    ensures { result ≡ negsuc n }
-{
-    -(n as i64) - 1
-}
-
-/// The low seven bits of a number, and the number of the other bits.
-fn parted(z: i64) -> (u8, i64)
-    ensures low { result.0 ≡ low_bits z }
-    ensures bits { result.0 < 128 }
-    ensures high { result.1 ≡ high_bits z }
-{
-    if z >= 0 {
-        ((z % 128) as u8, z / 128)
-    } else {
-        let flipped = flip(z);
-        (127 - (flipped % 128) as u8, below(flipped / 128))
-    }
-}
-
 /// Appends the shortest spelling of a signed number, with at most `more` bytes before the last.
 /// Requires room for them.
-#[tactic(auto, using(wasm_encode::proofs::Appending::appending), unfolding(wasm_operators::specs::Shortest::short_signed))]
+#[tactic(auto, using(crate::proofs::Appending::appending), unfolding(wasm_operators::specs::Shortest::short_signed))]
 fn put_signed(out: &mut Vec<u8>, more: u32, z: i64)
     requires { vec_len out.old + more < vec_capacity out.old }
     ensures items { out.new.items ≡ out.old.items ++ short_signed more z }
     ensures len { vec_len out.new ≤ vec_len out.old + more + 1 }
     ensures capacity { vec_capacity out.new ≡ vec_capacity out.old }
 {
-    let (low, high) = parted(z);
+    let (low, high) = split_digit(z);
     if more == 0 {
         return put_byte(out, low);
     }
@@ -106,7 +76,7 @@ fn put_signed(out: &mut Vec<u8>, more: u32, z: i64)
 /// Appends the shortest spelling of a signed number in LEB128 (WebAssembly core specification 3.0,
 /// binary format, values). Requires room for ten bytes.
 #[inline(always)]
-#[tactic(auto, using(wasm_encode::proofs::Appending::appending), unfolding(wasm_operators::specs::Shortest::short_signed))]
+#[tactic(auto, using(crate::proofs::Appending::appending), unfolding(wasm_operators::specs::Shortest::short_signed))]
 pub fn put_integer(out: &mut Vec<u8>, z: i64)
     requires { vec_len out.old + 10 ≤ vec_capacity out.old }
     ensures items { out.new.items ≡ out.old.items ++ short_integer z }
@@ -114,7 +84,7 @@ pub fn put_integer(out: &mut Vec<u8>, z: i64)
     ensures capacity { vec_capacity out.new ≡ vec_capacity out.old }
 {
     if z >= -64 && z < 64 {
-        let (low, _high) = parted(z);
+        let (low, _high) = split_digit(z);
         return put_byte(out, low);
     }
     put_signed(out, 9, z)
@@ -122,7 +92,7 @@ pub fn put_integer(out: &mut Vec<u8>, z: i64)
 
 /// Appends a memory argument. Memory 0 has the short form of the flags. Requires room for 30 bytes.
 #[inline(always)]
-#[tactic(auto, using(wasm_encode::proofs::Appending::appending), unfolding(wasm_operators::specs::Shortest::short_access))]
+#[tactic(auto, using(crate::proofs::Appending::appending), unfolding(wasm_operators::specs::Shortest::short_access))]
 pub fn put_memarg(out: &mut Vec<u8>, memarg: RawMemArg)
     requires { vec_len out.old + 30 ≤ vec_capacity out.old }
     ensures items { out.new.items ≡ out.old.items ++ short_access (access_of memarg) }
@@ -139,7 +109,7 @@ pub fn put_memarg(out: &mut Vec<u8>, memarg: RawMemArg)
 }
 
 /// Appends a number as `count` bytes, the least significant first. Requires room for them.
-#[tactic(auto, using(wasm_encode::proofs::Appending::appending))]
+#[tactic(auto, using(crate::proofs::Appending::appending))]
 pub fn put_bits(out: &mut Vec<u8>, count: u32, bits: u64)
     requires { vec_len out.old + count ≤ vec_capacity out.old }
     ensures items { out.new.items ≡ out.old.items ++ short_bits count bits }
