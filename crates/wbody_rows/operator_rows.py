@@ -41,6 +41,6 @@ for line in open(sys.argv[1]).read().splitlines()[1:]:
     first, number, name, immediates = line.split("\t")[:4]
     operator = first + (unsigned(int(number)) if number else "")
     operator += "".join(IMMEDIATES[kind] for kind in immediates.split())
-    before, behind = AROUND.get(name, ("", ""))
-    body = before + operator + behind + ("" if name == "end" else "0b")
+    before, after = AROUND.get(name, ("", ""))
+    body = before + operator + after + ("" if name == "end" else "0b")
     print(f"rewrite {body}\t0\t{'0b' if name == 'nop' else body}\t")

@@ -243,8 +243,12 @@ fn begin_body(
     }
 }
 
-/// Makes room for a body that is read from so many bytes, if there is memory for it. Most operators
-/// take two bytes or more.
+/// Room for more bytes than are read, so that the list of a body that stays as it is doesn't grow: its
+/// declarations, and the room that is made before each operator is written.
+const SPARE: usize = 64;
+
+/// Makes room for a body that is read from so many bytes, if there is memory for it. Eight bytes of
+/// code contain at most five operators as a rule.
 fn make_room_for(
     bytes: &mut Vec<u8>,
     pairs: &mut Vec<(InstrLocId, usize)>,
@@ -254,10 +258,11 @@ fn make_room_for(
     ensures bytes { bytes.new.items ≡ bytes.old.items }
     ensures pairs { pairs.new.items ≡ pairs.old.items }
 {
-    if bytes.capacity() < len {
-        let _ = make_room(bytes, len);
+    let room = len.saturating_add(SPARE);
+    if bytes.capacity() < room {
+        let _ = make_room(bytes, room);
     }
-    let operators = len / 2;
+    let operators = len / 8 * 5;
     if has_map && pairs.capacity() < operators {
         let _ = make_room(pairs, operators);
     }
