@@ -83,11 +83,11 @@ fn parse_at_once<V: OpCheck, F: Fn(&usize) -> InstrLocId>(
         (V.state validator.new) at code_offset reader.old reader.new parser.old parser.new
         mapping.old.items mapping.new.items result }
 {
-    let Some(location) = location_at(on_instr_pos, at) else {
+    let Some((common, rest)) = reader.peek_common() else {
         return Ok(Attempt::Left(None));
     };
-    let Some((common, rest)) = reader.peek_common() else {
-        return Ok(Attempt::Left(Some(location)));
+    let Some(location) = location_at(on_instr_pos, at) else {
+        return Ok(Attempt::Left(None));
     };
     if !parser.take_common(common, location) {
         return Ok(Attempt::Left(Some(location)));
