@@ -3,7 +3,7 @@
 //! names.
 #![tactic(auto)]
 
-ghost use Rattle.std.specs.Prelude.{◌≤◌, IfOk};
+ghost use Rattle.std.specs.Prelude.{◌≡◌, ◌≤◌, [], IfOk};
 ghost use Rattle.std.specs.Process.{exit_status};
 
 mod counting;
@@ -18,6 +18,7 @@ use module_tools::{Failure, Terminals, UsageError, VERSION, exit_code, run, word
 use naming::{Chosen, asked};
 use rewriting::RewriteAll;
 use snipping::Snip;
+use std::alloc::{AllocError, Global};
 use std::io;
 use std::io::IsTerminal;
 use std::process::ExitCode;
@@ -103,7 +104,30 @@ fn run_asked<R: Files + Input + Env + Clock + Print + Eprint + AllocGlobal + Dro
     }
 }
 
+/// The largest list that is taken from the heap, in bytes.
+const LARGEST: usize = 1 << 20;
+
+/// A list with room for so many bytes. It isn't inlined, so that the compiler doesn't leave it out.
+///
+/// # Errors
+///
+/// Out of memory.
+#[inline(never)]
+fn list_with_room(alloc: Global, len: usize) -> Result<Vec<u8>, AllocError>
+    ensures { IfOk result (λ list. list.items ≡ []) }
+{
+    Vec::with_capacity(alloc, len)
+}
+
+/// Makes a large list and drops it. The C library maps each large request for memory by itself until
+/// one of its size has been given back, and takes such requests from its heap from then on, whose
+/// pages stay. Otherwise each block of a type with very long lists would map its lists anew.
+fn prepare_heap(alloc: Global) {
+    let _list = list_with_room(alloc, LARGEST);
+}
+
 fn main(rt: HostRuntime) -> io::Result<ExitCode> {
+    prepare_heap(rt.alloc());
     let terminals = Terminals {
         output: rt.stdout().is_terminal(),
         errors: rt.stderr().is_terminal(),
