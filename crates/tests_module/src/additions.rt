@@ -1,6 +1,6 @@
 //! Items that are added to modules, and exports of them.
-use crate::cases::{bytes_of, fault_text, without_spaces};
 use crate::importing::written_with;
+use crate::texts::{bytes_of, fault_text, without_spaces};
 use std::alloc::Global;
 use std::process::Abort;
 use std::test::Fail;

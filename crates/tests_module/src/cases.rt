@@ -3,12 +3,13 @@
 use crate::importing::{forgotten_text, imported_text, late_text, traced_text};
 use crate::new_locals::with_locals_text;
 use crate::numbering::{numbered_map, numbered_other, numbered_text};
-use crate::tools::{bodies_text, counted_text, snipped_text};
+use crate::texts::{bytes_of, fault_text, without_spaces};
+use crate::views::bodies_text;
 use crate::whole_modules::{map_or_faults, notes_of, rewritten_text};
 use std::alloc::Global;
 use std::process::Abort;
 use std::test::Fail;
-use wasm_module::{ModuleError, ParsedModule};
+use wasm_module::ParsedModule;
 
 /// What is checked about a module.
 #[derive(Clone, Copy)]
@@ -23,8 +24,6 @@ pub(crate) enum Query<'i> {
     Notes,
     /// The bodies that are refused; if there are none, its location map.
     MapOrFaults,
-    /// The module where each function counts its calls, in hexadecimal.
-    Counted,
     /// The module where each function begins with its number, in hexadecimal.
     Numbered,
     /// The location map of that module.
@@ -33,8 +32,6 @@ pub(crate) enum Query<'i> {
     NumberedOther(&'i str),
     /// The module where each function gets two locals more, in hexadecimal.
     WithLocals,
-    /// The module without the bodies of these functions, in hexadecimal.
-    Snipped(&'i [usize]),
     /// The module with this number of imported functions more, in hexadecimal.
     Imported(usize),
     /// The module where each function calls an imported one first, in hexadecimal.
@@ -43,27 +40,6 @@ pub(crate) enum Query<'i> {
     Forgotten,
     /// The module that was rewritten before a function is imported.
     Late,
-}
-
-/// The bytes of a module.
-pub(crate) fn bytes_of(alloc: Global, module: &str) -> Result<Vec<u8>, Fail> {
-    let mut bytes = Vec::new(alloc);
-    for part in module.split(' ') {
-        bytes.extend_from_slice(&hex::decode(alloc, part)?)?;
-    }
-    Ok(bytes)
-}
-
-/// The module without the spaces between its sections.
-pub(crate) fn without_spaces(alloc: Global, module: &str) -> Result<String, Fail> {
-    let bytes = bytes_of(alloc, module)?;
-    Ok(hex::encode(alloc, bytes)?)
-}
-
-/// A fault's name, and its place.
-pub(crate) fn fault_text(alloc: Global, error: ModuleError) -> Result<String, Fail> {
-    let name = error.fault.name();
-    Ok(format!(in alloc; "{name} at {}", error.at)?)
 }
 
 // The result for a module that was read.
@@ -78,12 +54,10 @@ fn returned(
         Query::Rewritten => rewritten_text(alloc, parsed),
         Query::Notes => notes_of(alloc, parsed),
         Query::MapOrFaults => map_or_faults(alloc, parsed),
-        Query::Counted => counted_text(alloc, parsed),
         Query::Numbered => numbered_text(alloc, parsed),
         Query::NumberedMap => numbered_map(alloc, parsed),
         Query::NumberedOther(other) => numbered_other(alloc, parsed, other),
         Query::WithLocals => with_locals_text(alloc, parsed),
-        Query::Snipped(functions) => snipped_text(alloc, parsed, functions),
         Query::Imported(count) => imported_text(alloc, parsed, count),
         Query::Traced => traced_text(alloc, parsed),
         Query::Forgotten => forgotten_text(alloc, parsed),

@@ -1,6 +1,6 @@
 //! Functions with a body that are added to modules.
-use crate::cases::{bytes_of, fault_text, without_spaces};
-use crate::whole_modules::{rewritten_text, written_text};
+use crate::texts::{bytes_of, fault_text, without_spaces, written_text};
+use crate::whole_modules::rewritten_text;
 use std::alloc::{AllocError, Global};
 use std::process::Abort;
 use std::test::Fail;

@@ -1,5 +1,6 @@
 //! A module with a function for each operator.
-use crate::cases::{Query, bytes_of, found};
+use crate::cases::{Query, found};
+use crate::texts::bytes_of;
 use std::alloc::{AllocError, Global};
 use std::test::Fail;
 

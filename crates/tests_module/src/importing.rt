@@ -1,6 +1,7 @@
 //! Functions that are imported besides those of a module: everything that names a function follows.
-use crate::cases::{Query, check, check_modules, fault_text};
-use crate::whole_modules::{rewritten_text, written_text};
+use crate::cases::{Query, check, check_modules};
+use crate::texts::{fault_text, written_text};
+use crate::whole_modules::rewritten_text;
 use std::alloc::Global;
 use std::test::Fail;
 use walrus_body::LocalFunction;

@@ -1,5 +1,4 @@
-//! Tests of whole modules: the modules that are written, their faults, and the tools that change
-//! them. A function here owns one large value and lends it to the next: one that owns several over
+//! Tests of whole modules: the modules that are written, and their faults. A function here owns one large value and lends it to the next: one that owns several over
 //! calls that may fail takes minutes to prove.
 #![tactic(auto)]
 
@@ -14,16 +13,11 @@ mod every_operator;
 #[cfg(test)]
 mod importing;
 #[cfg(test)]
-mod mappings;
-#[cfg(test)]
 mod new_locals;
 #[cfg(test)]
 mod numbering;
-#[cfg(test)]
-mod tools;
+pub mod texts;
 #[cfg(test)]
 mod views;
 #[cfg(test)]
 mod whole_modules;
-#[cfg(test)]
-mod words;

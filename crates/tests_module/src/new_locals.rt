@@ -1,6 +1,6 @@
 //! A change that adds locals.
-use crate::cases::{Query, check_modules, fault_text};
-use crate::whole_modules::{FOLLOWED, written_text};
+use crate::cases::{Query, check_modules};
+use crate::texts::{FOLLOWED, fault_text, written_text};
 use std::alloc::{AllocError, Global};
 use std::test::Fail;
 use walrus_body::LocalFunction;

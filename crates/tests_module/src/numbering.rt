@@ -1,6 +1,7 @@
 //! A change with a state, which is asked once for each function: it numbers them.
-use crate::cases::{Query, bytes_of, check, check_modules, fault_text};
-use crate::whole_modules::{FOLLOWED, push_map_with, written_text};
+use crate::cases::{Query, check, check_modules};
+use crate::texts::{FOLLOWED, bytes_of, fault_text, written_text};
+use crate::whole_modules::push_map_with;
 use std::alloc::Global;
 use std::test::Fail;
 use walrus_body::LocalFunction;

@@ -1,6 +1,7 @@
 //! Views of a module: what is in its sections.
-use crate::cases::{bytes_of, fault_text};
-use crate::whole_modules::{EVERY_SECTION, FOLLOWED};
+use crate::cases::{Query, check};
+use crate::texts::{FOLLOWED, bytes_of, fault_text};
+use crate::whole_modules::EVERY_SECTION;
 use std::alloc::Global;
 use std::test::Fail;
 use walrus_body::LocalFunction;
@@ -412,4 +413,21 @@ fn visits_each_function(rt: HostRuntime) -> Result<(), Fail> {
         "1 has 1; 0x7: a count is too great (TooGreat)"
     );
     Ok(())
+}
+
+/// Whether each index up to 3 is that of a function with a body.
+pub(crate) fn bodies_text(alloc: Global, parsed: &ParsedModule<'_>) -> Result<String, Fail> {
+    let mut text = String::new(alloc);
+    for index in 0..4 {
+        let has = parsed.has_body(index);
+        write!(text, "{has} ")?;
+    }
+    Ok(text)
+}
+
+/// Imported functions have no body.
+#[test]
+fn tells_functions_with_bodies(rt: HostRuntime) -> Result<(), Fail> {
+    let cases = [(FOLLOWED, "false true true false ")];
+    check(&rt, rt.alloc(), Query::Bodies, &cases)
 }

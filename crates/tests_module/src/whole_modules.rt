@@ -1,9 +1,10 @@
 //! Whole modules: their sections, and the custom sections that are changed along with their code.
-use crate::cases::{Query, bytes_of, check, check_modules, fault_text, found};
+use crate::cases::{Query, check, check_modules, found};
+use crate::texts::{FOLLOWED, FOLLOWED_REWRITTEN, bytes_of, fault_text, written_text};
 use std::alloc::Global;
 use std::io::Write;
 use std::test::Fail;
-use wasm_module::{BodyWriter, Note, ParsedModule, RewrittenModule, Scratch, Sections, WriteError};
+use wasm_module::{BodyWriter, Note, ParsedModule, RewrittenModule, Scratch, Sections};
 
 /// A section of each kind, in order, with custom sections between them, and bodies that are written
 /// unchanged. The types are: from nothing to nothing; from an i32 to an i32; a group of two
@@ -20,32 +21,6 @@ pub(crate) const EVERY_SECTION: &str = "0061736d01000000 0007056669727374ff \
     077000 0c0103 0a1902040020000b1200410041004100fc080000fc0900fc0d030b 0003016200 \
     0b13030041000b0268690103010203020142000b00 0007046c6173740102";
 
-/// Two functions after an imported one, with names and branch hints. The functions have the names
-/// f, g and h. The locals have the names imp in f; p, a, unused and b in g; y in h. The labels of g
-/// have the names outer, cond, dead and last. The hints are at 12, 17 and 28, counted from the
-/// first byte of g's body. It declares an i64, an f32 and an i32, and is: nop, block [ local.get 0,
-/// br_if 0, nop, local.get 0, if [ unreachable, block [ nop ] ] ], local.get 0, if [ i64.const 1,
-/// local.set 1 ], local.get 3.
-pub(crate) const FOLLOWED: &str =
-    "0061736d01000000 01090260017f017f600000 020701016d01660001 0303020001 07050101670001 \
-    0026196d657461646174612e636f64652e6272616e63685f68696e740101030c01011101001c0101 \
-    0a31022603017e017d017f01024020000d000120000440000240010b0b0b20000440420121010b20030b080101\
-    7f0120001a0b \
-    005d046e616d650004036d6f64010a0300016601016702016802200300010003696d7001040001700101610206\
-    756e757365640301620201000179031c01010400056f757465720104636f6e6402046465616403046c61737404\
-    0401010176 001710736f757263654d617070696e6755524c05782e6d6170";
-
-/// The same, rewritten: the i32 is declared before the i64, the f32 isn't declared, and the block
-/// after `unreachable` is dropped. So b is the local 1, and a is 2; last is the label 2; and the
-/// hints are at 9, 13 and 20.
-pub(crate) const FOLLOWED_REWRITTEN: &str =
-    "0061736d01000000 01090260017f017f600000 020701016d01660001 0303020001 07050101670001 \
-    0026196d657461646174612e636f64652e6272616e63685f68696e740101030901010d0100140101 \
-    0a28021e02017f017e024020000d0020000440000b0b20000440420121020b20010b0701017f20001a0b \
-    004f046e616d650004036d6f64010a0300016601016702016802180300010003696d7001030001700101620201\
-    610201000179031601010300056f757465720104636f6e6402046c617374040401010176 \
-    001710736f757263654d617070696e6755524c05782e6d6170";
-
 /// Handlers of a legacy `try` with a result: that of the `catch` takes an i32 and returns one, and
 /// no type of the module does.
 const HANDLERS: &str =
@@ -56,21 +31,6 @@ const HANDLERS: &str =
 const HANDLERS_REWRITTEN: &str =
     "0061736d01000000 010c0360000060017f006000017f 0303020202 0d03010001 0709020167000001680001 \
     0a1d020e00067f4107080007000b41016a0b0c00067f410308001941090b0b";
-
-/// The module that is written, in hexadecimal; or the fault of a change that isn't the same both
-/// times.
-pub(crate) fn written_text<B: BodyWriter>(
-    alloc: Global,
-    parsed: &mut ParsedModule<'_>,
-    rewritten: &RewrittenModule<'_, B>,
-) -> Result<String, Fail> {
-    let mut out = Vec::new(alloc);
-    match parsed.write_module(rewritten, &mut out) {
-        Ok(()) => Ok(hex::encode(alloc, out)?),
-        Err(WriteError::Module(error)) => fault_text(alloc, error),
-        Err(WriteError::Io(error)) => Err(Fail::from(error)),
-    }
-}
 
 /// The module that is written for this one, in hexadecimal; or the first fault of its bodies.
 pub(crate) fn rewritten_text(alloc: Global, parsed: &mut ParsedModule<'_>) -> Result<String, Fail> {

@@ -1,11 +1,22 @@
 //! Tools that change whole modules.
-use crate::cases::{Query, check, check_modules, fault_text};
-use crate::whole_modules::{FOLLOWED, FOLLOWED_REWRITTEN, written_text};
 use module_tools::{count_calls, snip};
 use std::alloc::Global;
+use std::process::Abort;
 use std::test::Fail;
+use tests_module::texts::{
+    FOLLOWED, FOLLOWED_REWRITTEN, bytes_of, fault_text, without_spaces, written_text,
+};
 use walrus_ir::{FunctionId, IdHashSet};
 use wasm_module::ParsedModule;
+
+/// What is done to a module.
+#[derive(Clone, Copy)]
+enum Change<'i> {
+    /// Each function counts its calls.
+    Count,
+    /// The bodies of these functions are taken out.
+    Snip(&'i [usize]),
+}
 
 /// The function `fib`, which calls itself twice: local.get 0, i32.const 2, i32.lt_u, if (result
 /// i32), local.get 0, else, local.get 0, i32.const 1, i32.sub, call 0, and so on.
@@ -40,7 +51,7 @@ const FOLLOWED_SNIPPED: &str =
     001710736f757263654d617070696e6755524c05782e6d6170";
 
 /// The module where each function counts its calls, in hexadecimal; or its first fault.
-pub(crate) fn counted_text(alloc: Global, parsed: &mut ParsedModule<'_>) -> Result<String, Fail> {
+fn counted_text(alloc: Global, parsed: &mut ParsedModule<'_>) -> Result<String, Fail> {
     match count_calls(alloc, parsed) {
         Ok(module) => written_text(alloc, parsed, &module),
         Err(error) => fault_text(alloc, error),
@@ -57,7 +68,7 @@ fn functions(alloc: Global, indices: &[usize]) -> Result<IdHashSet<FunctionId>, 
 }
 
 /// The module without the bodies of these functions, in hexadecimal; or its first fault.
-pub(crate) fn snipped_text(
+fn snipped_text(
     alloc: Global,
     parsed: &mut ParsedModule<'_>,
     indices: &[usize],
@@ -67,6 +78,55 @@ pub(crate) fn snipped_text(
         Ok(module) => written_text(alloc, parsed, &module),
         Err(error) => fault_text(alloc, error),
     }
+}
+
+// The module that is written after a change, in hexadecimal; or its first fault.
+fn changed_text(
+    alloc: Global,
+    change: Change<'_>,
+    parsed: &mut ParsedModule<'_>,
+) -> Result<String, Fail> {
+    match change {
+        Change::Count => counted_text(alloc, parsed),
+        Change::Snip(functions) => snipped_text(alloc, parsed, functions),
+    }
+}
+
+// The same of the module with these bytes.
+fn changed_bytes(alloc: Global, change: Change<'_>, bytes: &[u8]) -> Result<String, Fail> {
+    match ParsedModule::read(alloc, bytes) {
+        Ok(mut parsed) => changed_text(alloc, change, &mut parsed),
+        Err(error) => fault_text(alloc, error),
+    }
+}
+
+/// Checks modules, each of which comes before the text that is expected.
+fn check(
+    rt: &impl Abort,
+    alloc: Global,
+    change: Change<'_>,
+    cases: &[(&str, &str)],
+) -> Result<(), Fail> {
+    for (module, expected) in cases {
+        let bytes = bytes_of(alloc, module)?;
+        let found = changed_bytes(alloc, change, &bytes)?;
+        assert_eq!(rt; found.as_str(), *expected, "of {module}");
+    }
+    Ok(())
+}
+
+/// The same if what is expected is a module.
+fn check_modules(
+    rt: &impl Abort,
+    alloc: Global,
+    change: Change<'_>,
+    cases: &[(&str, &str)],
+) -> Result<(), Fail> {
+    for (module, expected) in cases {
+        let expected = without_spaces(alloc, expected)?;
+        check(rt, alloc, change, &[(module, expected.as_str())])?;
+    }
+    Ok(())
 }
 
 /// A global and its export are added to their sections, or to new ones, and the global's index is
@@ -103,7 +163,7 @@ fn counts_calls(rt: HostRuntime) -> Result<(), Fail> {
             "0061736d01000000 0606017e0142000b 0709010563616c6c730300",
         ),
     ];
-    check_modules(&rt, rt.alloc(), Query::Counted, &cases)
+    check_modules(&rt, rt.alloc(), Change::Count, &cases)
 }
 
 /// An export already has the name of the global, and the fault has its place; a body is refused.
@@ -116,7 +176,7 @@ fn names_faults_of_changes(rt: HostRuntime) -> Result<(), Fail> {
             "NoSuchLabel at 23",
         ),
     ];
-    check(&rt, rt.alloc(), Query::Counted, &cases)
+    check(&rt, rt.alloc(), Change::Count, &cases)
 }
 
 /// The bodies are `unreachable`, and everything about their code is dropped. All other bodies are
@@ -135,26 +195,9 @@ fn snips_bodies(rt: HostRuntime) -> Result<(), Fail> {
         check_modules(
             &rt,
             rt.alloc(),
-            Query::Snipped(functions),
+            Change::Snip(functions),
             &[(module, expected)],
         )?;
     }
     Ok(())
-}
-
-/// Whether each index up to 3 is that of a function with a body.
-pub(crate) fn bodies_text(alloc: Global, parsed: &ParsedModule<'_>) -> Result<String, Fail> {
-    let mut text = String::new(alloc);
-    for index in 0..4 {
-        let has = parsed.has_body(index);
-        write!(text, "{has} ")?;
-    }
-    Ok(text)
-}
-
-/// Imported functions have no body.
-#[test]
-fn tells_functions_with_bodies(rt: HostRuntime) -> Result<(), Fail> {
-    let cases = [(FOLLOWED, "false true true false ")];
-    check(&rt, rt.alloc(), Query::Bodies, &cases)
 }
