@@ -114,8 +114,9 @@ fn filter_words<R: Files + Input + Print + Eprint + AllocGlobal, T: Tool>(
     }
 }
 
-/// Runs a tool as a program with this name and one word, `NAME IN.wasm >OUT.wasm`: reads the module
-/// whose path is the word (`-` is standard input), and prints what the tool makes of it, where no
+/// Runs a tool as a program with this name and one word, `NAME IN.wasm >OUT.wasm`, which is the
+/// argument at `first` (1, or 2 if another one names the tool): reads the module whose path is the
+/// word (`-` is standard input), and prints what the tool makes of it, where no
 /// functions are asked for. The first error is printed to standard error, after the name, and
 /// nothing is printed if the module, a body or a change is refused. Returns the status: 0 if the
 /// module was printed, 1 if not, 2 for wrong use.
@@ -125,8 +126,9 @@ pub fn filter<R: Files + Input + Env + Print + Eprint + AllocGlobal, T: Tool>(
     rt: &R,
     tool: &T,
     name: &str,
+    first: usize,
 ) -> ExitCode {
-    match words(rt, 1) {
+    match words(rt, first) {
         Ok(words) => filter_words(rt, tool, name, &words),
         Err(failure) => exit_code(rt, name, failure),
     }

@@ -1,14 +1,11 @@
 //! `wtrace`: lets the functions of a module tell their host of each call.
 //!
-//! It is run as `wtrace IN.wasm >OUT.wasm`. The module that it writes imports one function more,
+//! It is run as `examples wtrace IN.wasm >OUT.wasm`. The module that it writes imports one function more,
 //! `host.trace`, which takes an i32 and returns nothing. Each function with a body calls it before
 //! all else, with its own index in IN.wasm. Since an imported function comes before those with a
 //! body, these have other indices in OUT.wasm, and all that names them follows.
-#![tactic(auto)]
-
-use module_tools::{Tool, filter};
+use module_tools::Tool;
 use std::alloc::{AllocError, Global};
-use std::process::ExitCode;
 use walrus_body::LocalFunction;
 use walrus_ir::{
     Call, Const, FunctionId, IdHashSet, Instr, InstrLocId, InstrSeq, ModuleLocals, ValType, Value,
@@ -69,7 +66,7 @@ fn import_trace(
 
 /// Traces the calls of a module.
 #[derive(Clone, Copy)]
-struct Tracing;
+pub(crate) struct Tracing;
 
 impl Tool for Tracing {
     type Change = Trace;
@@ -86,8 +83,4 @@ impl Tool for Tracing {
             Err(error) => Err(error),
         }
     }
-}
-
-fn main(rt: HostRuntime) -> ExitCode {
-    filter(&rt, &Tracing, "wtrace")
 }

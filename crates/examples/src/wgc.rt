@@ -1,14 +1,11 @@
 //! `wgc`: takes away the bodies of functions that nothing reaches.
 //!
-//! It is run as `wgc IN.wasm >OUT.wasm`. It writes `unreachable` in the place of each body that can't
+//! It is run as `examples wgc IN.wasm >OUT.wasm`. It writes `unreachable` in the place of each body that can't
 //! be run, so that all indices stay. Reached are the functions that are exported, the one that is
 //! called at the start, those that tables, globals and element segments name, and those that a
 //! function which is reached calls or names.
-#![tactic(auto)]
-
-use module_tools::{Snipping, Tool, filter};
+use module_tools::{Snipping, Tool};
 use std::alloc::Global;
-use std::process::ExitCode;
 use walrus_body::LocalFunction;
 use walrus_ir::{FunctionId, IdHashMap, IdHashSet, Instr, InstrLocId, dfs_in_order};
 use walrus_walks::{Listener, Listening};
@@ -89,7 +86,7 @@ fn with_body(
 
 /// Takes away bodies that nothing reaches.
 #[derive(Clone, Copy)]
-struct Collecting;
+pub(crate) struct Collecting;
 
 impl Tool for Collecting {
     type Change = Snipping;
@@ -106,8 +103,4 @@ impl Tool for Collecting {
         remove_reached(&all, &mut pending, &mut functions)?;
         Ok((Some(Snipping::new(functions)), Changes::new(alloc)))
     }
-}
-
-fn main(rt: HostRuntime) -> ExitCode {
-    filter(&rt, &Collecting, "wgc")
 }

@@ -1,5 +1,5 @@
 #!/usr/bin/env python3
-"""Writes loops.wasm, a module with three loops, and ../stdout, which is what wloops has to write of it: each loop has a global, and
+"""Writes loops.wasm, a module with three loops, and loops.wloops.wasm, which is what wloops has to write of it: each loop has a global, and
 begins with the four operators that count."""
 import os
 
@@ -70,5 +70,5 @@ def module(counts, new_globals, new_exports):
 
 with open(f"{HERE}/loops.wasm", "wb") as file:
     file.write(module([b""] * 3, 0, 0))
-with open(f"{HERE}/../stdout", "wb") as file:
+with open(f"{HERE}/loops.wloops.wasm", "wb") as file:
     file.write(module([count(1), count(2), count(3)], 3, 3))

@@ -1,5 +1,5 @@
 #!/usr/bin/env python3
-"""Writes garbage.wasm, a module with functions that nothing reaches, and ../stdout, which is what wgc has to write of it: the bodies
+"""Writes garbage.wasm, a module with functions that nothing reaches, and garbage.wgc.wasm, which is what wgc has to write of it: the bodies
 of the functions 8, 9 and 10 are `unreachable`, and all else is the same."""
 import os
 
@@ -71,5 +71,5 @@ def module(bodies):
 bodies = [body(operators) for _, operators in FUNCTIONS]
 with open(f"{HERE}/garbage.wasm", "wb") as file:
     file.write(module(bodies))
-with open(f"{HERE}/../stdout", "wb") as file:
+with open(f"{HERE}/garbage.wgc.wasm", "wb") as file:
     file.write(module(bodies[:7] + [body(b"\0")] * 3))

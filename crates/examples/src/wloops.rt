@@ -1,13 +1,10 @@
 //! `wloops`: lets a module count the turns of each of its loops.
 //!
-//! It is run as `wloops IN.wasm >OUT.wasm`. The loops are numbered over the whole module, from 0 on,
+//! It is run as `examples wloops IN.wasm >OUT.wasm`. The loops are numbered over the whole module, from 0 on,
 //! in the order of the bodies and then of the `loop` operators. Each gets a global of type i64, which
 //! is exported as `loop_0`, `loop_1` and so on, and to which it adds 1 before all else that it does.
-#![tactic(auto)]
-
-use module_tools::{Tool, filter};
+use module_tools::Tool;
 use std::alloc::{AllocError, Global};
-use std::process::ExitCode;
 use walrus_body::LocalFunction;
 use walrus_ir::{
     BinaryOp, Binop, Const, FunctionId, GlobalGet, GlobalId, GlobalSet, IdHashSet, Instr,
@@ -86,7 +83,7 @@ impl ChangeFunction for CountTurns {
 
 /// Counts the turns of loops.
 #[derive(Clone, Copy)]
-struct Counting;
+pub(crate) struct Counting;
 
 impl Tool for Counting {
     type Change = CountTurns;
@@ -112,8 +109,4 @@ impl Tool for Counting {
         }
         Ok((Some(CountTurns(first)), changes))
     }
-}
-
-fn main(rt: HostRuntime) -> ExitCode {
-    filter(&rt, &Counting, "wloops")
 }

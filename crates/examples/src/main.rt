@@ -1,0 +1,42 @@
+//! `examples`: three tools to learn from. They are one program, since each program that is built
+//! links the libraries anew.
+//!
+//! It is run as `examples TOOL IN.wasm >OUT.wasm`, where TOOL is `wgc`, `wloops` or `wtrace`.
+#![tactic(auto)]
+
+mod wgc;
+mod wloops;
+mod wtrace;
+
+use module_tools::{exit_code, filter, words};
+use std::process::ExitCode;
+use wgc::Collecting;
+use wloops::Counting;
+use wtrace::Tracing;
+
+/// Says how the program is used.
+fn wrong_use(rt: &impl Eprint) -> ExitCode {
+    // Where standard error can't be written, the status is all that is left.
+    let _ = eprintln!(rt; "usage: examples wgc|wloops|wtrace IN.wasm >OUT.wasm");
+    ExitCode::from(2)
+}
+
+/// Runs the tool that the first word names on the words after it.
+fn run_named(rt: &HostRuntime, words: &[String]) -> ExitCode {
+    let Some(name) = words.first() else {
+        return wrong_use(rt);
+    };
+    match name.as_str() {
+        "wgc" => filter(rt, &Collecting, "wgc", 2),
+        "wloops" => filter(rt, &Counting, "wloops", 2),
+        "wtrace" => filter(rt, &Tracing, "wtrace", 2),
+        _ => wrong_use(rt),
+    }
+}
+
+fn main(rt: HostRuntime) -> ExitCode {
+    match words(&rt, 1) {
+        Ok(words) => run_named(&rt, &words),
+        Err(failure) => exit_code(&rt, "examples", failure),
+    }
+}
