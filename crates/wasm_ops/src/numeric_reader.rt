@@ -196,6 +196,17 @@ pub(crate) fn numeric(byte: u8) -> CommonOperator
     }
 }
 
+/// As `numeric`. It is inlined, so that room for the result is made where it is called, and not on the
+/// way of each operator.
+#[inline(always)]
+pub(crate) fn numeric_here(byte: u8) -> CommonOperator
+    requires low { 0x45 ≤ byte }
+    requires high { byte ≤ 0xc4 }
+    ensures { meaning (listed result) ≡ operation (Opcode.Byte byte) [] }
+{
+    numeric(byte)
+}
+
 /// The operator with 0xfc and a number up to 7: a saturating conversion.
 pub(crate) fn saturating_conversion(number: u32) -> Operator<'static>
     requires { number ≤ 7 }

@@ -10,12 +10,14 @@ use crate::access_reader::{load_kind, read_short_memarg, store_kind};
 use crate::atomic_reader::read_after_fe;
 use crate::byte_reader::read_after_byte;
 use crate::common::CommonOperator;
-use crate::numeric_reader::numeric;
+use crate::numeric_reader::numeric_here;
 use crate::prefix_reader::{read_after_fc, read_after_fd};
 use crate::reference_reader::read_after_fb;
 use crate::type_reader::read_empty_block_type;
 use std::marker::Model;
-use wasm_numbers::{ReadError, ReadFault, read_u32, s32_at_front, s64_at_front, u32_at_front};
+use wasm_numbers::{
+    ReadError, ReadFault, read_f32, read_f64, read_u32, s32_at_front, s64_at_front, u32_at_front,
+};
 use wasm_operators::Operator;
 
 /// Reads the operator at the front. Returns it and the bytes that follow.
@@ -82,6 +84,15 @@ macro_rules! return_opened {
     ($reader:expr, $rest:expr, $name:ident) => {
         if let Some((ty, rest)) = read_empty_block_type($rest) {
             return_operator!($reader, Operator::$name { ty }, rest)
+        }
+    };
+}
+
+/// Returns the operator that is made from the immediate that was read, if it was, and moves past it.
+macro_rules! return_read {
+    ($reader:expr, $read:expr, $part:pat => $operator:expr) => {
+        if let Ok(($part, rest)) = $read {
+            return_operator!($reader, $operator, rest)
         }
     };
 }
@@ -241,7 +252,7 @@ impl<'a> Reader<'a> {
             }
             0x41 => return_made!(s32_at_front(rest), value => CommonOperator::I32Const { value }),
             0x42 => return_made!(s64_at_front(rest), value => CommonOperator::I64Const { value }),
-            0x45..=0xc4 => return Some((numeric(byte), rest)),
+            0x45..=0xc4 => return Some((numeric_here(byte), rest)),
             0x28..=0x35 => return_made!(
                 read_short_memarg(rest),
                 memarg => CommonOperator::Load { kind: load_kind(byte), memarg }
@@ -322,6 +333,8 @@ impl<'a> Reader<'a> {
                 0x0b => return_operator!(self, Operator::End, rest),
                 0x0f => return_operator!(self, Operator::Return, rest),
                 0x1b => return_operator!(self, Operator::Select, rest),
+                0x43 => return_read!(self, read_f32(rest), bits => Operator::F32Const { bits }),
+                0x44 => return_read!(self, read_f64(rest), bits => Operator::F64Const { bits }),
                 _ => {}
             }
         }
