@@ -19,9 +19,6 @@ use wasm_operators::{RawCast, ReferenceOp, reference_rows};
 
 /// An immediate, from a field of the instruction.
 macro_rules! part {
-    ($numbers:ident $scopes:ident Number $number:expr) => {
-        $number
-    };
     ($numbers:ident $scopes:ident Null $ty:expr) => {
         heap_type($numbers, $ty.heap_type)?
     };
@@ -30,6 +27,28 @@ macro_rules! part {
     };
     ($numbers:ident $scopes:ident $space:ident $id:expr) => {
         index!($numbers $space $id)
+    };
+}
+
+/// The operator with the immediates of a row. A number is read before an id is looked up.
+macro_rules! from_row {
+    (
+        $numbers:ident $scopes:ident $x:ident $name:ident
+        $field:ident $key:ident $space:ident, $number:ident $number_key:ident Number
+    ) => {{
+        let $number = $x.$number_key;
+        Ok(ReferenceOp::$name {
+            $field: index!($numbers $space $x.$key),
+            $number,
+        })
+    }};
+    (
+        $numbers:ident $scopes:ident $x:ident $name:ident
+        $($field:ident $key:ident $kind:ident),*
+    ) => {
+        Ok(ReferenceOp::$name {
+            $($field: part!($numbers $scopes $kind $x.$key)),*
+        })
     };
 }
 
@@ -58,9 +77,9 @@ macro_rules! operator_row {
                     target: heap_type($numbers, x.to_heap_type)?,
                 },
             }),)*
-            $($(Instr::$name(x) => Ok(ReferenceOp::$name {
-                $($field: part!($numbers $scopes $kind x.$key)),*
-            }),)*
+            $($(Instr::$name(x) => from_row!(
+                $numbers $scopes x $name $($field $key $kind),*
+            ),)*
             $(Instr::$plain => Ok(ReferenceOp::$plain),)*)*
             _ => unreachable!(),
         }

@@ -466,10 +466,10 @@ kinds_of_atomic (atomic.Rmw op width) = kinds_of_rmw op width
 kinds_of_atomic (atomic.Cmpxchg width) = kinds_of_cmpxchg width
 kinds_of_atomic _ = refl
 
--- the immediates of two numbers of which one is for null
+-- an opcode with a second number, if null passes
 kinds_by_null : (nullable : Bool) (m n : ℕ) (ks : Option (List Kind)) → kinds_of (Prefixed 0xfb m) ≡ ks → kinds_of (Prefixed 0xfb n) ≡ ks → kinds_of (by_null nullable m n) ≡ ks
-kinds_by_null false m n ks low high = low
-kinds_by_null true m n ks low high = high
+kinds_by_null false m n ks without with_null = without
+kinds_by_null true m n ks without with_null = with_null
 
 kinds_of_reference : (op : ReferenceOp) → kinds_of (reference_opcode op) ≡ Some (map kind_of (reference_immediates op))
 unfolding kinds_of_byte kinds_after
