@@ -9,32 +9,9 @@ ghost use Rattle.walrus_instructions.specs.Placed.{cast_by, placed_by};
 
 use crate::instructions::{branch_target, id};
 use walrus_context::{ValidationContext, heap_type_of};
-use walrus_ir::{
-    BrOnCast, BrOnCastFail, BrOnNonNull, BrOnNull, HeapType, Instr, InstrSeqId, RefCast, RefFunc,
-    RefNull, RefTest, RefType,
-};
+use walrus_ir::{HeapType, Instr, InstrSeqId, RefType};
 use wasm_body::ParseError;
-use wasm_operators::{RawCast, ReferenceOp, aggregate_rows};
-
-/// The instruction of an operator: the rows, and those of the other operators.
-macro_rules! instruction_row {
-    (
-        ($indices:ident $op:ident, $($others:tt)*)
-        { $($row:literal $name:ident { $($field:ident $id:ident $space:ident),* })* }
-        { $($numbered:literal $with:ident { $index:ident $key:ident $kind:ident, $number:ident })* }
-    ) => {
-        match *$op {
-            $($others)*
-            $(ReferenceOp::$name { $($field),* } => Ok(Instr::$name(walrus_ir::$name {
-                $($id: id!($indices $space $field)),*
-            })),)*
-            $(ReferenceOp::$with { $index, $number } => Ok(Instr::$with(walrus_ir::$with {
-                $key: id!($indices $kind $index),
-                $number,
-            })),)*
-        }
-    };
-}
+use wasm_operators::{RawCast, ReferenceOp, reference_rows};
 
 /// The immediates of a branch on a cast: first the sequence of its label, then both types.
 fn placed_cast(
@@ -64,6 +41,59 @@ fn placed_cast(
     }
 }
 
+/// A field of an instruction, from an immediate.
+macro_rules! part {
+    ($context:ident $indices:ident Number $number:ident) => {
+        $number
+    };
+    ($context:ident $indices:ident Null $heap_type:ident) => {
+        RefType {
+            nullable: true,
+            heap_type: heap_type_of($indices, $heap_type)?,
+        }
+    };
+    ($context:ident $indices:ident Label $label:ident) => {
+        branch_target($context, $label)?
+    };
+    ($context:ident $indices:ident $space:ident $index:ident) => {
+        id!($indices $space $index)
+    };
+}
+
+/// The instruction of an operator, from its row.
+macro_rules! instruction_row {
+    (
+        ($context:ident $indices:ident $op:ident)
+        { $($low:literal $high:literal $test:ident)* }
+        { $($number:literal $cast:ident)* }
+        $($form:tt
+            { $($row:literal $name:ident { $($field:ident $key:ident $kind:ident),* })* }
+            { $($plain_row:literal $plain:ident)* }
+        )*
+    ) => {
+        match *$op {
+            $(ReferenceOp::$test { nullable, heap_type } => Ok(Instr::$test(walrus_ir::$test {
+                nullable,
+                heap_type: heap_type_of($indices, heap_type)?,
+            })),)*
+            $(ReferenceOp::$cast { cast } => {
+                let (block, from_heap_type, to_heap_type) = placed_cast($context, cast)?;
+                Ok(Instr::$cast(walrus_ir::$cast {
+                    block,
+                    from_nullable: cast.from_nullable,
+                    from_heap_type,
+                    to_nullable: cast.to_nullable,
+                    to_heap_type,
+                }))
+            })*
+            $($(ReferenceOp::$name { $($field),* } => Ok(Instr::$name(walrus_ir::$name {
+                $($key: part!($context $indices $kind $field)),*
+            })),)*
+            $(ReferenceOp::$plain => Ok(Instr::$plain),)*)*
+        }
+    };
+}
+
 /// The instruction of an operator on references, structs or arrays.
 pub(crate) fn reference(
     context: &ValidationContext<'_>,
@@ -74,65 +104,5 @@ pub(crate) fn reference(
     ensures plain { IfOk result (λ i. (slots_in i ≡ []) × (clauses_of_try i ≡ [])) }
 {
     let indices = context.indices();
-    aggregate_rows!(
-        instruction_row, indices operator,
-        ReferenceOp::RefNull { heap_type } => Ok(Instr::RefNull(RefNull {
-            ty: RefType {
-                nullable: true,
-                heap_type: heap_type_of(indices, heap_type)?,
-            },
-        })),
-        ReferenceOp::RefIsNull => Ok(Instr::RefIsNull),
-        ReferenceOp::RefFunc { func } => Ok(Instr::RefFunc(RefFunc {
-            func: indices.get_func(func)?,
-        })),
-        ReferenceOp::RefEq => Ok(Instr::RefEq),
-        ReferenceOp::RefAsNonNull => Ok(Instr::RefAsNonNull),
-        ReferenceOp::BrOnNull { label } => Ok(Instr::BrOnNull(BrOnNull {
-            block: branch_target(context, label)?,
-        })),
-        ReferenceOp::BrOnNonNull { label } => Ok(Instr::BrOnNonNull(BrOnNonNull {
-            block: branch_target(context, label)?,
-        })),
-        ReferenceOp::ArrayLen => Ok(Instr::ArrayLen),
-        ReferenceOp::RefTest {
-            nullable,
-            heap_type,
-        } => Ok(Instr::RefTest(RefTest {
-            nullable,
-            heap_type: heap_type_of(indices, heap_type)?,
-        })),
-        ReferenceOp::RefCast {
-            nullable,
-            heap_type,
-        } => Ok(Instr::RefCast(RefCast {
-            nullable,
-            heap_type: heap_type_of(indices, heap_type)?,
-        })),
-        ReferenceOp::AnyConvertExtern => Ok(Instr::AnyConvertExtern),
-        ReferenceOp::ExternConvertAny => Ok(Instr::ExternConvertAny),
-        ReferenceOp::RefI31 => Ok(Instr::RefI31),
-        ReferenceOp::I31GetS => Ok(Instr::I31GetS),
-        ReferenceOp::I31GetU => Ok(Instr::I31GetU),
-        ReferenceOp::BrOnCast { cast } => {
-            let (block, from_heap_type, to_heap_type) = placed_cast(context, cast)?;
-            Ok(Instr::BrOnCast(BrOnCast {
-                block,
-                from_nullable: cast.from_nullable,
-                from_heap_type,
-                to_nullable: cast.to_nullable,
-                to_heap_type,
-            }))
-        }
-        ReferenceOp::BrOnCastFail { cast } => {
-            let (block, from_heap_type, to_heap_type) = placed_cast(context, cast)?;
-            Ok(Instr::BrOnCastFail(BrOnCastFail {
-                block,
-                from_nullable: cast.from_nullable,
-                from_heap_type,
-                to_nullable: cast.to_nullable,
-                to_heap_type,
-            }))
-        }
-    )
+    reference_rows!(instruction_row, context indices operator)
 }

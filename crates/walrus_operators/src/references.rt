@@ -15,27 +15,73 @@ use walrus_emit_state::Scopes;
 use walrus_ir::Instr;
 use walrus_numbering::{NumberMaps, heap_type};
 use wasm_body::EmitError;
-use wasm_operators::{RawCast, ReferenceOp, aggregate_rows};
+use wasm_operators::{RawCast, ReferenceOp, reference_rows};
 
-/// The operator of an instruction: the rows, and those of the other instructions.
+/// An immediate, from a field of the instruction.
+macro_rules! part {
+    ($numbers:ident $scopes:ident Null $ty:expr) => {
+        heap_type($numbers, $ty.heap_type)?
+    };
+    ($numbers:ident $scopes:ident Label $block:expr) => {
+        $scopes.depth($block)?
+    };
+    ($numbers:ident $scopes:ident $space:ident $id:expr) => {
+        index!($numbers $space $id)
+    };
+}
+
+/// The operator with the immediates of a row. A number is read before an id is looked up.
+macro_rules! from_row {
+    (
+        $numbers:ident $scopes:ident $x:ident $name:ident
+        $field:ident $key:ident $space:ident, $number:ident $number_key:ident Number
+    ) => {{
+        let $number = $x.$number_key;
+        Ok(ReferenceOp::$name {
+            $field: index!($numbers $space $x.$key),
+            $number,
+        })
+    }};
+    (
+        $numbers:ident $scopes:ident $x:ident $name:ident
+        $($field:ident $key:ident $kind:ident),*
+    ) => {
+        Ok(ReferenceOp::$name {
+            $($field: part!($numbers $scopes $kind $x.$key)),*
+        })
+    };
+}
+
+/// The operator of an instruction, from its row.
 macro_rules! operator_row {
     (
-        ($numbers:ident $instr:ident, $($others:tt)*)
-        { $($row:literal $name:ident { $($field:ident $id:ident $space:ident),* })* }
-        { $($numbered:literal $with:ident { $index:ident $key:ident $kind:ident, $number:ident })* }
+        ($numbers:ident $scopes:ident $instr:ident)
+        { $($low:literal $high:literal $test:ident)* }
+        { $($number:literal $cast:ident)* }
+        $($form:tt
+            { $($row:literal $name:ident { $($field:ident $key:ident $kind:ident),* })* }
+            { $($plain_row:literal $plain:ident)* }
+        )*
     ) => {
         match $instr {
-            $(Instr::$name(x) => Ok(ReferenceOp::$name {
-                $($field: index!($numbers $space x.$id)),*
+            $(Instr::$test(x) => Ok(ReferenceOp::$test {
+                nullable: x.nullable,
+                heap_type: heap_type($numbers, x.heap_type)?,
             }),)*
-            $(Instr::$with(x) => {
-                let $number = x.$number;
-                Ok(ReferenceOp::$with {
-                    $index: index!($numbers $kind x.$key),
-                    $number,
-                })
-            })*
-            $($others)*
+            $(Instr::$cast(x) => Ok(ReferenceOp::$cast {
+                cast: RawCast {
+                    from_nullable: x.from_nullable,
+                    to_nullable: x.to_nullable,
+                    label: $scopes.depth(x.block)?,
+                    source: heap_type($numbers, x.from_heap_type)?,
+                    target: heap_type($numbers, x.to_heap_type)?,
+                },
+            }),)*
+            $($(Instr::$name(x) => from_row!(
+                $numbers $scopes x $name $($field $key $kind),*
+            ),)*
+            $(Instr::$plain => Ok(ReferenceOp::$plain),)*)*
+            _ => unreachable!(),
         }
     };
 }
@@ -52,55 +98,5 @@ pub(crate) fn reference_operator(
         (numbered_operator (numbers_of numbers.now) (places_of scopes.now.open_scopes)
         ty instr.now) }
 {
-    aggregate_rows!(
-        operator_row, numbers instr,
-        Instr::RefNull(x) => Ok(ReferenceOp::RefNull {
-            heap_type: heap_type(numbers, x.ty.heap_type)?,
-        }),
-        Instr::RefIsNull => Ok(ReferenceOp::RefIsNull),
-        Instr::RefFunc(x) => Ok(ReferenceOp::RefFunc {
-            func: numbers.ids.get_func_index(x.func)?,
-        }),
-        Instr::RefEq => Ok(ReferenceOp::RefEq),
-        Instr::RefAsNonNull => Ok(ReferenceOp::RefAsNonNull),
-        Instr::BrOnNull(x) => Ok(ReferenceOp::BrOnNull {
-            label: scopes.depth(x.block)?,
-        }),
-        Instr::BrOnNonNull(x) => Ok(ReferenceOp::BrOnNonNull {
-            label: scopes.depth(x.block)?,
-        }),
-        Instr::ArrayLen => Ok(ReferenceOp::ArrayLen),
-        Instr::RefTest(x) => Ok(ReferenceOp::RefTest {
-            nullable: x.nullable,
-            heap_type: heap_type(numbers, x.heap_type)?,
-        }),
-        Instr::RefCast(x) => Ok(ReferenceOp::RefCast {
-            nullable: x.nullable,
-            heap_type: heap_type(numbers, x.heap_type)?,
-        }),
-        Instr::AnyConvertExtern => Ok(ReferenceOp::AnyConvertExtern),
-        Instr::ExternConvertAny => Ok(ReferenceOp::ExternConvertAny),
-        Instr::RefI31 => Ok(ReferenceOp::RefI31),
-        Instr::I31GetS => Ok(ReferenceOp::I31GetS),
-        Instr::I31GetU => Ok(ReferenceOp::I31GetU),
-        Instr::BrOnCast(x) => Ok(ReferenceOp::BrOnCast {
-            cast: RawCast {
-                from_nullable: x.from_nullable,
-                to_nullable: x.to_nullable,
-                label: scopes.depth(x.block)?,
-                source: heap_type(numbers, x.from_heap_type)?,
-                target: heap_type(numbers, x.to_heap_type)?,
-            },
-        }),
-        Instr::BrOnCastFail(x) => Ok(ReferenceOp::BrOnCastFail {
-            cast: RawCast {
-                from_nullable: x.from_nullable,
-                to_nullable: x.to_nullable,
-                label: scopes.depth(x.block)?,
-                source: heap_type(numbers, x.from_heap_type)?,
-                target: heap_type(numbers, x.to_heap_type)?,
-            },
-        }),
-        _ => unreachable!(),
-    )
+    reference_rows!(operator_row, numbers scopes instr)
 }

@@ -20,6 +20,8 @@ use Rattle.wasm_operators.specs.declared.operator.Op.TheVariants as operator
 use Rattle.wasm_operators.specs.declared.reference_operator.ReferenceOp.{ReferenceOp}
 use Rattle.wasm_operators.specs.declared.reference_operator.ReferenceOp.TheVariants as reference
 use Rattle.wasm_operators.specs.declared.types.BlockType.{BlockType}
+use Rattle.wasm_operators.specs.declared.types.Opcode.{Opcode}
+use Rattle.wasm_operators.specs.declared.types.Opcode.TheVariants.{Prefixed}
 use Rattle.wasm_operators.specs.Operations.{CatchClause, Immediate, branch_table}
 use Rattle.wasm_operators.specs.Meaning.{Listed, meaning}
 use Rattle.wasm_operators.specs.UnaryOperations.{unary_opcode}
@@ -27,7 +29,7 @@ use Rattle.wasm_operators.specs.BinaryOperations.{binary_opcode}
 use Rattle.wasm_operators.specs.TernaryOperations.{ternary_opcode}
 use Rattle.wasm_operators.specs.AccessOperations.{load_opcode, store_opcode}
 use Rattle.wasm_operators.specs.AtomicOpcodes.{atomic_opcode}
-use Rattle.wasm_operators.specs.ReferenceOperations.{reference_opcode}
+use Rattle.wasm_operators.specs.ReferenceOperations.{by_null, reference_opcode}
 use Rattle.wasm_operators.specs.VectorAccessOpcodes.{vector_access_opcode}
 use Rattle.wasm_body.specs.Control.{Role, an_unreachable, a_branch, a_conditional_branch, a_table_branch, a_return, a_tail_call, a_throw, a_rethrow, a_throw_ref, a_plain, role_of, Action, Plain, Return, Unreachable, Branch, ConditionalBranch, Throw, Rethrow, ThrowRef, TailCall, Control, Does, control_by, first_index, first_depth, first_label, branches}
 use Rattle.wasm_body.specs.NormalForm.{Fate, Stays, Diverges, fate}
@@ -119,13 +121,18 @@ abbrev pub fate_by : Bool → Fate
 fate_by true = Diverges
 fate_by false = Stays
 
+abbrev StaysAt : Opcode → Type 0
+StaysAt o = fate_of_role (role_of o) ≡ Some Stays
+
+-- an opcode with a second number, if null passes
+stays_by_null : (nullable : Bool) (m n : ℕ) → StaysAt (Prefixed 0xfb m) → StaysAt (Prefixed 0xfb n) → StaysAt (by_null nullable m n)
+stays_by_null false m n without with_null = without
+stays_by_null true m n without with_null = with_null
+
 -- an operator on references, structs or arrays
-stays_reference : (op : ReferenceOp) → fate_of_role (role_of (reference_opcode op)) ≡ Some Stays
-stays_reference (reference.RefTest true type) = refl
-stays_reference (reference.RefTest false type) = refl
-stays_reference (reference.RefCast true type) = refl
-stays_reference (reference.RefCast false type) = refl
-stays_reference _ = refl
+stays_reference : (op : ReferenceOp) → StaysAt (reference_opcode op)
+stays_reference reference.RefEq = refl
+stays_reference _ = search stays_by_null
 
 pub fate_of_operator : (op : Listed) → is_instruction op ≡ true → fate_of_role (role_of (meaning op).opcode) ≡ Some (fate_by (is_diverging op))
 fate_of_operator operator.Nop i = absurd cc

@@ -42,7 +42,7 @@ use Rattle.wasm_operators.specs.TernaryOperations.{ternary_opcode}
 use Rattle.wasm_operators.specs.AccessOperations.{access_of, load_opcode, store_opcode}
 use Rattle.wasm_operators.specs.VectorAccessOpcodes.{vector_access_opcode, access_lane}
 use Rattle.wasm_operators.specs.AtomicOpcodes.{rmw_opcode, cmpxchg_opcode, atomic_opcode}
-use Rattle.wasm_operators.specs.ReferenceOperations.{reference_opcode, reference_immediates}
+use Rattle.wasm_operators.specs.ReferenceOperations.{by_null, reference_opcode, reference_immediates}
 use Rattle.wasm_numbers.specs.Reading.{Many}
 use Rattle.wasm_numbers.specs.Numbers.{IsU32, IsU64, IsS32, IsS33, IsS64, IsByte, joined, AreBits}
 use Rattle.wasm_operators.specs.Types.{row_at, is_listed, listed, heap_at, IsHeapType, value_at, nullable_at, IsValueType, IsBlockType}
@@ -466,13 +466,15 @@ kinds_of_atomic (atomic.Rmw op width) = kinds_of_rmw op width
 kinds_of_atomic (atomic.Cmpxchg width) = kinds_of_cmpxchg width
 kinds_of_atomic _ = refl
 
+-- an opcode with a second number, if null passes
+kinds_by_null : (nullable : Bool) (m n : ℕ) (ks : Option (List Kind)) → kinds_of (Prefixed 0xfb m) ≡ ks → kinds_of (Prefixed 0xfb n) ≡ ks → kinds_of (by_null nullable m n) ≡ ks
+kinds_by_null false m n ks without with_null = without
+kinds_by_null true m n ks without with_null = with_null
+
 kinds_of_reference : (op : ReferenceOp) → kinds_of (reference_opcode op) ≡ Some (map kind_of (reference_immediates op))
 unfolding kinds_of_byte kinds_after
-kinds_of_reference (reference.RefTest true type) = refl
-kinds_of_reference (reference.RefTest false type) = refl
-kinds_of_reference (reference.RefCast true type) = refl
-kinds_of_reference (reference.RefCast false type) = refl
-kinds_of_reference _ = refl
+kinds_of_reference reference.RefEq = refl
+kinds_of_reference _ = search kinds_by_null
 
 -- the immediates after an opcode are those of its row
 kinds_right : (op : Listed) → kinds_of (meaning op).opcode ≡ Some (map kind_of (meaning op).immediates)

@@ -44,20 +44,46 @@ macro_rules! index_rows {
     };
 }
 
-/// Passes the operators on structs and arrays with indices of types and segments to the macro
-/// `$with`, after its other arguments: first those with indices alone, then those with an index and
-/// a number. A row has the number after 0xfb, the name of the operator and of its instruction, and
-/// each index: its name in the operator, its name in the instruction, and its space.
+/// Passes the operators on references, structs and arrays to the macro `$with`, after its other
+/// arguments. First come those that have a second opcode if null passes, with both numbers after
+/// 0xfb; then the branches on a cast, with the number after 0xfb; and then all others in groups, as
+/// in `index_rows`, of which each has those without immediates last. A row has the number, the name
+/// of the operator and of its instruction, and each immediate: its name in the operator, its name
+/// in the instruction, and what it is: an index of a space, a `Number`, a `Label`, or the heap type
+/// of a `Null`.
 #[macro_export]
-macro_rules! aggregate_rows {
+macro_rules! reference_rows {
     ($with:ident, $($context:tt)*) => {
         $with! {
             ($($context)*)
             {
+                20 21 RefTest
+                22 23 RefCast
+            }
+            {
+                24 BrOnCast
+                25 BrOnCastFail
+            }
+            (Byte) {
+                0xd0 RefNull { heap_type ty Null }
+                0xd2 RefFunc { func func Funcs }
+                0xd5 BrOnNull { label block Label }
+                0xd6 BrOnNonNull { label block Label }
+            } {
+                0xd1 RefIsNull
+                0xd3 RefEq
+                0xd4 RefAsNonNull
+            }
+            (Prefixed 0xfb) {
                 0 StructNew { ty ty Types }
                 1 StructNewDefault { ty ty Types }
+                2 StructGet { ty ty Types, field field Number }
+                3 StructGetS { ty ty Types, field field Number }
+                4 StructGetU { ty ty Types, field field Number }
+                5 StructSet { ty ty Types, field field Number }
                 6 ArrayNew { ty ty Types }
                 7 ArrayNewDefault { ty ty Types }
+                8 ArrayNewFixed { ty ty Types, len len Number }
                 9 ArrayNewData { ty ty Types, data data_id Data }
                 10 ArrayNewElem { ty ty Types, element elem Elements }
                 11 ArrayGet { ty ty Types }
@@ -68,13 +94,13 @@ macro_rules! aggregate_rows {
                 17 ArrayCopy { target dst_ty Types, source src_ty Types }
                 18 ArrayInitData { ty ty Types, data data_id Data }
                 19 ArrayInitElem { ty ty Types, element elem Elements }
-            }
-            {
-                2 StructGet { ty ty Types, field }
-                3 StructGetS { ty ty Types, field }
-                4 StructGetU { ty ty Types, field }
-                5 StructSet { ty ty Types, field }
-                8 ArrayNewFixed { ty ty Types, len }
+            } {
+                15 ArrayLen
+                26 AnyConvertExtern
+                27 ExternConvertAny
+                28 RefI31
+                29 I31GetS
+                30 I31GetU
             }
         }
     };

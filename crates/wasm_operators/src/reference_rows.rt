@@ -7,14 +7,14 @@ ghost use Rattle.wasm_operators.specs.ReferenceOperations.{by_null as the_opcode
 ghost use Rattle.wasm_operators.specs.ReferenceOperations.{reference_opcode as the_reference_opcode};
 ghost use Rattle.wasm_operators.specs.ReferenceOperations.{reference_immediates as the_immediates};
 
-use crate::aggregate_rows;
 use crate::immediates::ReferenceImmediates;
 use crate::immediates::ReferenceImmediates::{
     Cast, Heap, Index, IndexNumber, Label, Nothing, Pair,
 };
 use crate::reference_operator::ReferenceOp;
-use crate::types::Opcode::{Byte, Prefixed};
+use crate::types::Opcode::Prefixed;
 use crate::types::{Opcode, Space};
+use crate::{opcode_at, reference_rows};
 
 /// The opcode of a test or cast: it has the second number if the reference may be null.
 fn by_null(nullable: bool, number: u32, nullable_number: u32) -> Opcode
@@ -27,44 +27,61 @@ fn by_null(nullable: bool, number: u32, nullable_number: u32) -> Opcode
     }
 }
 
-/// The opcode of an operator: the rows that are passed, and those of the other operators.
+/// The opcode of an operator.
 macro_rules! opcode_row {
     (
-        ($op:ident, $($others:tt)*)
-        { $($row:literal $name:ident { $($field:ident $id:ident $space:ident),* })* }
-        { $($numbered:literal $with:ident { $index:ident $key:ident $kind:ident, $number:ident })* }
+        ($op:ident)
+        { $($low:literal $high:literal $test:ident)* }
+        { $($number:literal $cast:ident)* }
+        $($form:tt
+            { $($row:literal $name:ident { $($field:ident $key:ident $kind:ident),* })* }
+            { $($plain_row:literal $plain:ident)* }
+        )*
     ) => {
         match $op {
-            $($others)*
-            $(ReferenceOp::$name { .. } => Prefixed(0xfb, $row),)*
-            $(ReferenceOp::$with { .. } => Prefixed(0xfb, $numbered),)*
+            $(ReferenceOp::$test { nullable, .. } => by_null(nullable, $low, $high),)*
+            $(ReferenceOp::$cast { .. } => Prefixed(0xfb, $number),)*
+            $($(ReferenceOp::$name { .. } => opcode_at!($form $row),)*
+            $(ReferenceOp::$plain => opcode_at!($form $plain_row),)*)*
         }
     };
 }
 
-/// The immediates of an operator with one index or two.
-macro_rules! indices_of {
+/// The immediates of an operator, from those of its row.
+macro_rules! immediates_of {
+    (Null $heap_type:ident) => {
+        Heap($heap_type)
+    };
+    (Label $label:ident) => {
+        Label($label)
+    };
     ($space:ident $index:ident) => {
         Index(Space::$space, $index)
+    };
+    ($space:ident $index:ident Number $number:ident) => {
+        IndexNumber(Space::$space, $index, $number)
     };
     ($first:ident $one:ident $second:ident $two:ident) => {
         Pair(Space::$first, $one, Space::$second, $two)
     };
 }
 
-/// The immediates of an operator: the rows that are passed, and those of the other operators.
+/// The immediates of an operator.
 macro_rules! immediates_row {
     (
-        ($op:ident, $($others:tt)*)
-        { $($row:literal $name:ident { $($field:ident $id:ident $space:ident),* })* }
-        { $($numbered:literal $with:ident { $index:ident $key:ident $kind:ident, $number:ident })* }
+        ($op:ident)
+        { $($low:literal $high:literal $test:ident)* }
+        { $($number:literal $cast:ident)* }
+        $($form:tt
+            { $($row:literal $name:ident { $($field:ident $key:ident $kind:ident),* })* }
+            { $($plain_row:literal $plain:ident)* }
+        )*
     ) => {
         match $op {
-            $($others)*
-            $(ReferenceOp::$name { $($field),* } => indices_of!($($space $field)*),)*
-            $(ReferenceOp::$with { $index, $number } => {
-                IndexNumber(Space::$kind, $index, $number)
-            })*
+            $(ReferenceOp::$test { heap_type, .. } => Heap(heap_type),)*
+            $(ReferenceOp::$cast { cast } => Cast(cast),)*
+            $($(ReferenceOp::$name { $($field),* } => immediates_of!($($kind $field)*),)*
+            $(ReferenceOp::$plain => Nothing,)*)*
         }
     };
 }
@@ -74,50 +91,12 @@ macro_rules! immediates_row {
 pub fn reference_opcode(op: ReferenceOp) -> Opcode
     ensures { result ≡ the_reference_opcode op }
 {
-    aggregate_rows!(
-        opcode_row, op,
-        ReferenceOp::RefNull { .. } => Byte(0xd0),
-        ReferenceOp::RefIsNull => Byte(0xd1),
-        ReferenceOp::RefFunc { .. } => Byte(0xd2),
-        ReferenceOp::RefEq => Byte(0xd3),
-        ReferenceOp::RefAsNonNull => Byte(0xd4),
-        ReferenceOp::BrOnNull { .. } => Byte(0xd5),
-        ReferenceOp::BrOnNonNull { .. } => Byte(0xd6),
-        ReferenceOp::ArrayLen => Prefixed(0xfb, 15),
-        ReferenceOp::RefTest { nullable, .. } => by_null(nullable, 20, 21),
-        ReferenceOp::RefCast { nullable, .. } => by_null(nullable, 22, 23),
-        ReferenceOp::BrOnCast { .. } => Prefixed(0xfb, 24),
-        ReferenceOp::BrOnCastFail { .. } => Prefixed(0xfb, 25),
-        ReferenceOp::AnyConvertExtern => Prefixed(0xfb, 26),
-        ReferenceOp::ExternConvertAny => Prefixed(0xfb, 27),
-        ReferenceOp::RefI31 => Prefixed(0xfb, 28),
-        ReferenceOp::I31GetS => Prefixed(0xfb, 29),
-        ReferenceOp::I31GetU => Prefixed(0xfb, 30),
-    )
+    reference_rows!(opcode_row, op)
 }
 
 /// The immediates of an operator on references, structs or arrays.
 pub fn reference_immediates(op: ReferenceOp) -> ReferenceImmediates
     ensures { reference_parts result ≡ the_immediates op }
 {
-    aggregate_rows!(
-        immediates_row, op,
-        ReferenceOp::RefNull { heap_type } => Heap(heap_type),
-        ReferenceOp::RefIsNull => Nothing,
-        ReferenceOp::RefFunc { func } => Index(Space::Funcs, func),
-        ReferenceOp::RefEq => Nothing,
-        ReferenceOp::RefAsNonNull => Nothing,
-        ReferenceOp::BrOnNull { label } => Label(label),
-        ReferenceOp::BrOnNonNull { label } => Label(label),
-        ReferenceOp::ArrayLen => Nothing,
-        ReferenceOp::RefTest { heap_type, .. } => Heap(heap_type),
-        ReferenceOp::RefCast { heap_type, .. } => Heap(heap_type),
-        ReferenceOp::BrOnCast { cast } => Cast(cast),
-        ReferenceOp::BrOnCastFail { cast } => Cast(cast),
-        ReferenceOp::AnyConvertExtern => Nothing,
-        ReferenceOp::ExternConvertAny => Nothing,
-        ReferenceOp::RefI31 => Nothing,
-        ReferenceOp::I31GetS => Nothing,
-        ReferenceOp::I31GetU => Nothing,
-    )
+    reference_rows!(immediates_row, op)
 }

@@ -10,7 +10,7 @@ ghost use Rattle.wasm_operators.specs.Spelling.{operands};
 use crate::row::{made, read_pair};
 use crate::type_reader::read_heap_type;
 use wasm_numbers::{ReadFault, read_byte, read_u32};
-use wasm_operators::{Opcode, Operator, RawCast, ReferenceOp, aggregate_rows};
+use wasm_operators::{Opcode, Operator, RawCast, ReferenceOp, reference_rows};
 
 /// Whether the source and the target of a cast are nullable, according to the flags.
 fn cast_flags(flags: u8) -> Result<(bool, bool), ReadFault>
@@ -45,6 +45,76 @@ fn read_cast(bytes: &[u8]) -> Result<(RawCast, &[u8]), ReadFault>
     Ok((cast, rest))
 }
 
+/// Reads the operator with the immediates at the front. Returns it and the bytes that follow.
+macro_rules! read_row {
+    ($bytes:ident $name:ident Null $field:ident) => {
+        made!(
+            read_heap_type($bytes), $field => Operator::Reference(ReferenceOp::$name { $field })
+        )
+    };
+    ($bytes:ident $name:ident $kind:ident $field:ident) => {
+        made!(read_u32($bytes), $field => Operator::Reference(ReferenceOp::$name { $field }))
+    };
+    ($bytes:ident $name:ident $first:ident $one:ident $second:ident $two:ident) => {
+        made!(
+            read_pair($bytes), ($one, $two) => Operator::Reference(ReferenceOp::$name { $one, $two })
+        )
+    };
+}
+
+/// Reads the operator with this byte.
+macro_rules! read_byte_row {
+    (
+        ($byte:ident $bytes:ident)
+        $tests:tt
+        $casts:tt
+        (Byte)
+        { $($row:literal $name:ident { $($field:ident $key:ident $kind:ident),* })* }
+        { $($plain_row:literal $plain:ident)* }
+        $prefixed:tt
+        $others:tt
+        $plain_others:tt
+    ) => {
+        match $byte {
+            $($row => read_row!($bytes $name $($kind $field)*),)*
+            $($plain_row => Ok((Operator::Reference(ReferenceOp::$plain), $bytes)),)*
+            _ => unreachable!(),
+        }
+    };
+}
+
+/// Reads the operator with this number after 0xfb.
+macro_rules! read_number_row {
+    (
+        ($code:ident $bytes:ident)
+        { $($low:literal $high:literal $test:ident)* }
+        { $($number:literal $cast:ident)* }
+        (Byte)
+        $of_bytes:tt
+        $plain_of_bytes:tt
+        (Prefixed 0xfb)
+        { $($row:literal $name:ident { $($field:ident $key:ident $kind:ident),* })* }
+        { $($plain_row:literal $plain:ident)* }
+    ) => {
+        match $code {
+            $($row => read_row!($bytes $name $($kind $field)*),)*
+            $($plain_row => Ok((Operator::Reference(ReferenceOp::$plain), $bytes)),)*
+            $($low => made!(
+                read_heap_type($bytes),
+                heap_type => Operator::Reference(ReferenceOp::$test { nullable: false, heap_type })
+            ),
+            $high => made!(
+                read_heap_type($bytes),
+                heap_type => Operator::Reference(ReferenceOp::$test { nullable: true, heap_type })
+            ),)*
+            $($number => made!(
+                read_cast($bytes), cast => Operator::Reference(ReferenceOp::$cast { cast })
+            ),)*
+            _ => Err(ReadFault::UnknownOperator),
+        }
+    };
+}
+
 /// Reads the rest of an operator with an opcode from 0xd0 to 0xd6.
 #[tactic(auto, unfolding(wasm_operators::specs::Opcodes::kinds_of_byte))]
 pub(crate) fn read_reference(byte: u8, bytes: &[u8]) -> Result<(Operator<'_>, &[u8]), ReadFault>
@@ -52,91 +122,7 @@ pub(crate) fn read_reference(byte: u8, bytes: &[u8]) -> Result<(Operator<'_>, &[
     requires high { byte ≤ 0xd6 }
     ensures { Gives (λ x. (meaning x.0, x.1.now)) result (operands (Opcode.Byte byte) bytes.now) }
 {
-    match byte {
-        0xd0 => made!(
-            read_heap_type(bytes),
-            heap_type => Operator::Reference(ReferenceOp::RefNull { heap_type })
-        ),
-        0xd1 => Ok((Operator::Reference(ReferenceOp::RefIsNull), bytes)),
-        0xd2 => made!(read_u32(bytes), func => Operator::Reference(ReferenceOp::RefFunc { func })),
-        0xd3 => Ok((Operator::Reference(ReferenceOp::RefEq), bytes)),
-        0xd4 => Ok((Operator::Reference(ReferenceOp::RefAsNonNull), bytes)),
-        0xd5 => made!(
-            read_u32(bytes), label => Operator::Reference(ReferenceOp::BrOnNull { label })
-        ),
-        _ => made!(
-            read_u32(bytes), label => Operator::Reference(ReferenceOp::BrOnNonNull { label })
-        ),
-    }
-}
-
-/// Reads the rest of an operator with 0xfb and a number from 20 to 30: tests, casts and
-/// conversions.
-#[tactic(auto, unfolding(wasm_operators::specs::Opcodes::kinds_after))]
-fn read_conversion(number: u32, bytes: &[u8]) -> Result<(Operator<'_>, &[u8]), ReadFault>
-    requires low { 20 ≤ number }
-    requires high { number ≤ 30 }
-    ensures { Gives (λ x. (meaning x.0, x.1.now)) result
-        (operands (Opcode.Prefixed 0xfb number) bytes.now) }
-{
-    match number {
-        20 => made!(
-            read_heap_type(bytes),
-            heap_type => Operator::Reference(ReferenceOp::RefTest { nullable: false, heap_type })
-        ),
-        21 => made!(
-            read_heap_type(bytes),
-            heap_type => Operator::Reference(ReferenceOp::RefTest { nullable: true, heap_type })
-        ),
-        22 => made!(
-            read_heap_type(bytes),
-            heap_type => Operator::Reference(ReferenceOp::RefCast { nullable: false, heap_type })
-        ),
-        23 => made!(
-            read_heap_type(bytes),
-            heap_type => Operator::Reference(ReferenceOp::RefCast { nullable: true, heap_type })
-        ),
-        24 => made!(
-            read_cast(bytes), cast => Operator::Reference(ReferenceOp::BrOnCast { cast })
-        ),
-        25 => made!(
-            read_cast(bytes), cast => Operator::Reference(ReferenceOp::BrOnCastFail { cast })
-        ),
-        26 => Ok((Operator::Reference(ReferenceOp::AnyConvertExtern), bytes)),
-        27 => Ok((Operator::Reference(ReferenceOp::ExternConvertAny), bytes)),
-        28 => Ok((Operator::Reference(ReferenceOp::RefI31), bytes)),
-        29 => Ok((Operator::Reference(ReferenceOp::I31GetS), bytes)),
-        _ => Ok((Operator::Reference(ReferenceOp::I31GetU), bytes)),
-    }
-}
-
-/// Reads the operator with the indices at the front. Returns it and the bytes that follow.
-macro_rules! read_row {
-    ($bytes:ident $name:ident $index:ident) => {
-        made!(read_u32($bytes), $index => Operator::Reference(ReferenceOp::$name { $index }))
-    };
-    ($bytes:ident $name:ident $one:ident $two:ident) => {
-        made!(
-            read_pair($bytes), ($one, $two) => Operator::Reference(ReferenceOp::$name { $one, $two })
-        )
-    };
-}
-
-/// Reads the operator with this number after 0xfb: those of the rows, and the others.
-macro_rules! read_number {
-    (
-        ($code:ident $bytes:ident)
-        { $($row:literal $name:ident { $($field:ident $id:ident $space:ident),* })* }
-        { $($numbered:literal $with:ident { $index:ident $key:ident $kind:ident, $number:ident })* }
-    ) => {
-        match $code {
-            $($row => read_row!($bytes $name $($field)*),)*
-            $($numbered => read_row!($bytes $with $index $number),)*
-            15 => Ok((Operator::Reference(ReferenceOp::ArrayLen), $bytes)),
-            20..=30 => read_conversion($code, $bytes),
-            _ => Err(ReadFault::UnknownOperator),
-        }
-    };
+    reference_rows!(read_byte_row, byte bytes)
 }
 
 /// Reads the rest of an operator with 0xfb and a number.
@@ -145,5 +131,5 @@ pub(crate) fn read_after_fb(number: u32, bytes: &[u8]) -> Result<(Operator<'_>, 
     ensures { Gives (λ x. (meaning x.0, x.1.now)) result
         (operands (Opcode.Prefixed 0xfb number) bytes.now) }
 {
-    aggregate_rows!(read_number, number bytes)
+    reference_rows!(read_number_row, number bytes)
 }

@@ -6,7 +6,7 @@ ghost use Rattle.wasm_translate.specs.Changes.{changed, changed_cast};
 
 use crate::translate::Translate;
 use crate::types::heap_type;
-use wasm_operators::{RawCast, ReferenceOp, Space, aggregate_rows};
+use wasm_operators::{RawCast, ReferenceOp, Space, reference_rows};
 
 /// The immediates of a branch on a cast: first its label, then both types.
 fn cast_of<T: Translate>(with: &T, cast: RawCast) -> Result<RawCast, T::Fault>
@@ -32,26 +32,56 @@ fn cast_of<T: Translate>(with: &T, cast: RawCast) -> Result<RawCast, T::Fault>
     }
 }
 
-/// An operator: the rows, and the other operators.
+/// An immediate, translated.
+macro_rules! part {
+    ($with:ident Number $number:ident) => {
+        $number
+    };
+    ($with:ident Null $heap_type:ident) => {
+        match heap_type($with, $heap_type) {
+            Ok(heap_type) => heap_type,
+            Err(fault) => return Err(fault),
+        }
+    };
+    ($with:ident Label $label:ident) => {
+        match $with.label($label) {
+            Ok(label) => label,
+            Err(fault) => return Err(fault),
+        }
+    };
+    ($with:ident $space:ident $index:ident) => {
+        match $with.index(Space::$space, $index) {
+            Ok(number) => number,
+            Err(fault) => return Err(fault),
+        }
+    };
+}
+
+/// An operator, from its row.
 macro_rules! translated_row {
     (
-        ($with:ident $op:ident, $($others:tt)*)
-        { $($row:literal $name:ident { $($field:ident $id:ident $space:ident),* })* }
-        { $($numbered:literal $form:ident { $index:ident $key:ident $kind:ident, $number:ident })* }
+        ($with:ident $op:ident)
+        { $($low:literal $high:literal $test:ident)* }
+        { $($number:literal $cast:ident)* }
+        $($form:tt
+            { $($row:literal $name:ident { $($field:ident $key:ident $kind:ident),* })* }
+            { $($plain_row:literal $plain:ident)* }
+        )*
     ) => {
         match $op {
-            $($others)*
-            $(ReferenceOp::$name { $($field),* } => {
-                $(let $field = match $with.index(Space::$space, $field) {
-                    Ok(number) => number,
-                    Err(fault) => return Err(fault),
-                };)*
-                Ok(ReferenceOp::$name { $($field),* })
-            })*
-            $(ReferenceOp::$form { $index, $number } => match $with.index(Space::$kind, $index) {
-                Ok($index) => Ok(ReferenceOp::$form { $index, $number }),
+            $(ReferenceOp::$test { nullable, heap_type: ty } => match heap_type($with, ty) {
+                Ok(heap_type) => Ok(ReferenceOp::$test { nullable, heap_type }),
                 Err(fault) => Err(fault),
             },)*
+            $(ReferenceOp::$cast { cast } => match cast_of($with, cast) {
+                Ok(cast) => Ok(ReferenceOp::$cast { cast }),
+                Err(fault) => Err(fault),
+            },)*
+            $($(ReferenceOp::$name { $($field),* } => {
+                $(let $field = part!($with $kind $field);)*
+                Ok(ReferenceOp::$name { $($field),* })
+            })*
+            $(ReferenceOp::$plain => Ok(ReferenceOp::$plain),)*)*
         }
     };
 }
@@ -64,60 +94,5 @@ pub(crate) fn translated_reference<T: Translate>(
     ensures { Gives reference_operation result
         (changed (T.changes with.now) (reference_operation op)) }
 {
-    aggregate_rows!(
-        translated_row, with op,
-        ReferenceOp::RefNull { heap_type: ty } => match heap_type(with, ty) {
-            Ok(heap_type) => Ok(ReferenceOp::RefNull { heap_type }),
-            Err(fault) => Err(fault),
-        },
-        ReferenceOp::RefIsNull => Ok(ReferenceOp::RefIsNull),
-        ReferenceOp::RefFunc { func } => match with.index(Space::Funcs, func) {
-            Ok(func) => Ok(ReferenceOp::RefFunc { func }),
-            Err(fault) => Err(fault),
-        },
-        ReferenceOp::RefEq => Ok(ReferenceOp::RefEq),
-        ReferenceOp::RefAsNonNull => Ok(ReferenceOp::RefAsNonNull),
-        ReferenceOp::BrOnNull { label } => match with.label(label) {
-            Ok(label) => Ok(ReferenceOp::BrOnNull { label }),
-            Err(fault) => Err(fault),
-        },
-        ReferenceOp::BrOnNonNull { label } => match with.label(label) {
-            Ok(label) => Ok(ReferenceOp::BrOnNonNull { label }),
-            Err(fault) => Err(fault),
-        },
-        ReferenceOp::ArrayLen => Ok(ReferenceOp::ArrayLen),
-        ReferenceOp::RefTest {
-            nullable,
-            heap_type: ty,
-        } => match heap_type(with, ty) {
-            Ok(heap_type) => Ok(ReferenceOp::RefTest {
-                nullable,
-                heap_type,
-            }),
-            Err(fault) => Err(fault),
-        },
-        ReferenceOp::RefCast {
-            nullable,
-            heap_type: ty,
-        } => match heap_type(with, ty) {
-            Ok(heap_type) => Ok(ReferenceOp::RefCast {
-                nullable,
-                heap_type,
-            }),
-            Err(fault) => Err(fault),
-        },
-        ReferenceOp::AnyConvertExtern => Ok(ReferenceOp::AnyConvertExtern),
-        ReferenceOp::ExternConvertAny => Ok(ReferenceOp::ExternConvertAny),
-        ReferenceOp::RefI31 => Ok(ReferenceOp::RefI31),
-        ReferenceOp::I31GetS => Ok(ReferenceOp::I31GetS),
-        ReferenceOp::I31GetU => Ok(ReferenceOp::I31GetU),
-        ReferenceOp::BrOnCast { cast } => match cast_of(with, cast) {
-            Ok(cast) => Ok(ReferenceOp::BrOnCast { cast }),
-            Err(fault) => Err(fault),
-        },
-        ReferenceOp::BrOnCastFail { cast } => match cast_of(with, cast) {
-            Ok(cast) => Ok(ReferenceOp::BrOnCastFail { cast }),
-            Err(fault) => Err(fault),
-        },
-    )
+    reference_rows!(translated_row, with op)
 }
