@@ -55,7 +55,7 @@ fn add_count(block: &mut InstrSeq, global: GlobalId) -> Result<(), AllocError> {
 /// Lets each loop count its turns. Functions are changed in order, each once, so that the next loop
 /// has the next counter, whose id this is.
 #[derive(Drop)]
-struct CountTurns(usize);
+pub(crate) struct CountTurns(usize);
 
 impl ChangeFunction for CountTurns {
     // Nothing is said of what it does, so nothing has to be proved of it.

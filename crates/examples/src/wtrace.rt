@@ -25,7 +25,7 @@ fn add_call(block: &mut InstrSeq, func: FunctionId, number: i32) -> Result<(), A
 
 /// Lets each function call this one, with its index.
 #[derive(Clone, Copy, Drop)]
-struct Trace(FunctionId);
+pub(crate) struct Trace(FunctionId);
 
 impl ChangeFunction for Trace {
     // Nothing is said of what it does, so nothing has to be proved of it.
