@@ -131,6 +131,13 @@ pub rewritten_ok :
 rewritten_ok source a function b raw (Ok x) e p = rewritten_then source a function b raw e p
 rewritten_ok source a function b raw (Err x) e p = tt
 
+-- of bytes of which something else is known
+pub rewritten_to :
+    {E R : Type 0} (source a : ParsedModule) (function : ℕ) (b : BodyAt) (goes : List ℕ → Type 0) (r : Result R E) → Extends source a →
+    OnOk r ((raw : List ℕ) × IsRewritten a function b raw × goes raw) → OnOk r ((raw : List ℕ) × IsRewritten source function b raw × goes raw)
+rewritten_to source a function b goes (Ok x) e p = (p.0, rewritten_then source a function b p.0 e p.1, p.2)
+rewritten_to source a function b goes (Err x) e p = tt
+
 pub parsed_then :
     (source a now : ParsedModule) (function : ℕ) (b : BodyAt) (made : FunctionParts) → Extends source a → IsParsed a function b now made → IsParsed source function b now made
 parsed_then source a now function b made e p = record {

@@ -2,20 +2,11 @@
 use Rattle.std.proofs.Common.{◌≡◌, ℕ, ◌+◌, List, [], ◌∷◌, ◌++◌, length, Option, Some, None, Result, Ok, Err, IfOk, refl, sym, ap, subst, ◌∙◌, append_assoc, length-append, arith}
 use Rattle.std.proofs.lemmas.List.{append-nil}
 use Rattle.std.specs.Io.KnownBytes.{Appends}
+use Rattle.wasm_module.specs.Pieces.{appends_nothing, appends_then}
 use Rattle.wasm_module.specs.Sections.{section}
 use Rattle.wasm_module.specs.WrittenModules.{Puts}
 
 -- ---- to a writer
-
-appends_nothing : (known : Option (List ℕ)) → Appends known known []
-appends_nothing None = tt
-appends_nothing (Some xs) = sym (append-nil xs)
-
-appends_then : (a b c : Option (List ℕ)) (first second : List ℕ) → Appends a b first → Appends b c second → Appends a c (first ++ second)
-appends_then None b c first second p q = tt
-appends_then (Some xs) None c first second p q = absurd p
-appends_then (Some xs) (Some ys) None first second p q = absurd q
-appends_then (Some xs) (Some ys) (Some zs) first second p q = q ∙ ap (λ (l : List ℕ). l ++ second) p ∙ append_assoc xs first second
 
 pub puts_nothing : (known : Option (List ℕ)) (at : ℕ) → Puts known known at at []
 puts_nothing known at = record { appends = appends_nothing known; end_is = omega arith }

@@ -6,6 +6,7 @@ ghost use Rattle.wasm_module.specs.CodeSections.{place_of, bytes_of};
 
 use crate::fault::ModuleError;
 use crate::input::Input;
+use crate::large_bodies::PIECE;
 use walrus_ir::FunctionId;
 
 /// The body of a function in the source: its declarations of locals, and its operators.
@@ -30,6 +31,11 @@ impl<'a> Body<'a> {
         ensures fits { result + length (bytes_of self.now) < 2 ^ 64 }
     {
         self.input.at()
+    }
+
+    /// Whether it is written in pieces.
+    pub(crate) fn is_large(&self) -> bool {
+        self.bytes().len() > PIECE
     }
 
     /// The function's id.

@@ -15,6 +15,7 @@ use crate::body_writer::{BodyWriter, Needed};
 use crate::changes::Changes;
 use crate::code::{Bodies, Body};
 use crate::fault::{ModuleError, ModuleFault};
+use crate::large_bodies::Output;
 use crate::map_sink::{MapLines, MapSink, NoMap, WrittenBody};
 use crate::output::write_number;
 use crate::parsed::ParsedModule;
@@ -134,6 +135,54 @@ fn put_between<W: Write>(
 }
 
 impl<'a> ParsedModule<'a> {
+    /// Writes the size of a large body, and the body in pieces.
+    fn put_large_body<B: BodyWriter, T: MapSink, W: Write>(
+        &mut self,
+        bodies: &B,
+        body: Body<'a>,
+        scratch: &mut Scratch,
+        sink: &mut T,
+        at: usize,
+        out: &mut W,
+    ) -> Result<usize, WriteError>
+        ensures extends { OnOk result (Extends self.old self.new) }
+        ensures written { (source : Parsed) → Extends source self.old
+            → IfOk result (λ end. (raw : List ℕ)
+            × B.writes bodies.now source body.entry.func (body_at body.entry) raw
+            × Puts (W.contents out.old) (W.contents out.new) at end (entry raw)) }
+    {
+        let len = bodies.measure_large_body(self, body, scratch)?;
+        let start = put_number(self.alloc, len, at, out)?;
+        let old_start = body.start();
+        sink.record_body(WrittenBody {
+            old_start,
+            start,
+            pairs: &[],
+        })?;
+        let mut output = Output {
+            out,
+            len: 0,
+            error: None,
+        };
+        let written = bodies.write_large_body(self, body, scratch, &mut output);
+        let Output {
+            len: count,
+            error,
+            ..
+        } = output;
+        if let Some(error) = error {
+            return Err(WriteError::Io(error));
+        }
+        written?;
+        if count != len {
+            return Err(WriteError::from(ModuleError {
+                fault: ModuleFault::InconsistentChange,
+                at: body.start(),
+            }));
+        }
+        place_after(start, len)
+    }
+
     /// Writes the size of a body, and the body.
     fn put_body<B: BodyWriter, T: MapSink, W: Write>(
         &mut self,
@@ -150,6 +199,9 @@ impl<'a> ParsedModule<'a> {
             × B.writes bodies.now source body.entry.func (body_at body.entry) raw
             × Puts (W.contents out.old) (W.contents out.new) at end (entry raw)) }
     {
+        if body.is_large() && !sink.needs_pairs() {
+            return self.put_large_body(bodies, body, scratch, sink, at, out);
+        }
         let needed = match sink.needs_pairs() {
             true => Needed::Pairs,
             false => Needed::Nothing,
