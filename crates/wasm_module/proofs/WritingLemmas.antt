@@ -2,6 +2,8 @@
 use Rattle.std.proofs.Common.{◌≡◌, ℕ, ◌+◌, List, [], ◌∷◌, ◌++◌, length, Option, Some, None, Result, Ok, Err, IfOk, refl, sym, ap, subst, ◌∙◌, append_assoc, length-append, arith}
 use Rattle.std.proofs.lemmas.List.{append-nil}
 use Rattle.std.specs.Io.KnownBytes.{Appends}
+use Rattle.wasm_operators.specs.Shortest.{short_number}
+use Rattle.wasm_module.specs.CodeSections.{entry}
 use Rattle.wasm_module.specs.Pieces.{appends_nothing, appends_then}
 use Rattle.wasm_module.specs.Sections.{section}
 use Rattle.wasm_module.specs.WrittenModules.{Puts}
@@ -21,6 +23,16 @@ puts_then a b c at middle end first second p q = record {
 
 pub puts_same : (a b : Option (List ℕ)) (at end : ℕ) (bytes others : List ℕ) → bytes ≡ others → Puts a b at end bytes → Puts a b at end others
 puts_same a b at end bytes others e p = subst (λ (l : List ℕ). Puts a b at end l) e p
+
+-- a size, which was counted before, and a body of this size
+pub puts_entry :
+    (a b c : Option (List ℕ)) (at start end len : ℕ) (raw : List ℕ) → Puts a b at start (short_number len) → len ≡ length raw → Appends b c raw → end ≡ start + len →
+    Puts a c at end (entry raw)
+puts_entry a b c at start end len raw sized count body is =
+    puts_then a b c at start end (short_number (length raw)) raw (puts_same a b at start (short_number len) (short_number (length raw)) (ap short_number count) sized) (record {
+      appends = body;
+      end_is = is ∙ ap (λ (n : ℕ). start + n) count;
+    })
 
 -- a section of these contents
 pub appends_section :

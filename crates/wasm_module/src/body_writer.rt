@@ -1,6 +1,6 @@
 //! How bodies are written, and how a caller changes their functions.
 
-ghost use Rattle.std.specs.Prelude.{ℕ, List, OnOk};
+ghost use Rattle.std.specs.Prelude.{◌≡◌, ℕ, List, length, OnOk, IfOk};
 ghost use Rattle.walrus_ir.specs.declared.val_type.ValType.{ValType as ValueType};
 ghost use Rattle.walrus_body.specs.FunctionParts.{FunctionParts};
 ghost use Rattle.wasm_module.specs.declared.parsed.ParsedModule.{ParsedModule as Parsed};
@@ -63,7 +63,11 @@ pub trait BodyWriter {
         body: Body<'a>,
         scratch: &mut Scratch,
     ) -> Result<usize, ModuleError>
-        ensures { OnOk result (Extends parsed.old parsed.new) }
+        ensures extends { OnOk result (Extends parsed.old parsed.new) }
+        ensures measured { (source : Parsed) → Extends source parsed.old
+            → IfOk result (λ len. (raw : List ℕ)
+            × writes self.now source body.entry.func (body_at body.entry) raw
+            × (len ≡ length raw)) }
     {
         self.write_body(parsed, body, Needed::Nothing, scratch)?;
         Ok(scratch.raw.len())

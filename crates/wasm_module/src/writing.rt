@@ -1,7 +1,7 @@
 //! Writing a module (WebAssembly core specification 3.0, binary format, modules): section by
 //! section, each unchanged, except those that are given new contents, and the code.
 
-ghost use Rattle.std.specs.Prelude.{◌≡◌, ◌+◌, ℕ, List, [], ◌∷◌, IfOk, OnOk};
+ghost use Rattle.std.specs.Prelude.{◌≡◌, ◌+◌, ℕ, List, [], ◌∷◌, length, IfOk, OnOk};
 ghost use Rattle.std.specs.Io.KnownBytes.{Appends};
 ghost use Rattle.wasm_operators.specs.Shortest.{short_number};
 ghost use Rattle.wasm_module.specs.declared.parsed.ParsedModule.{ParsedModule as Parsed};
@@ -135,7 +135,47 @@ fn put_between<W: Write>(
 }
 
 impl<'a> ParsedModule<'a> {
-    /// Writes the size of a large body, and the body in pieces.
+    /// Writes a large body of so many bytes in pieces.
+    fn put_in_pieces<B: BodyWriter, W: Write>(
+        &mut self,
+        bodies: &B,
+        body: Body<'a>,
+        scratch: &mut Scratch,
+        len: usize,
+        out: &mut W,
+    ) -> Result<(), WriteError>
+        ensures extends { OnOk result (Extends self.old self.new) }
+        ensures written { (source : Parsed) → Extends source self.old
+            → OnOk result ((raw : List ℕ)
+            × B.writes bodies.now source body.entry.func (body_at body.entry) raw
+            × (len ≡ length raw)
+            × Appends (W.contents out.old) (W.contents out.new) raw) }
+    {
+        let mut output = Output {
+            out,
+            len: 0,
+            error: None,
+        };
+        let written = bodies.write_large_body(self, body, scratch, &mut output);
+        let Output {
+            len: count,
+            error,
+            ..
+        } = output;
+        if let Some(error) = error {
+            return Err(WriteError::Io(error));
+        }
+        match written {
+            Ok(()) if count == len => Ok(()),
+            Ok(()) => Err(WriteError::from(ModuleError {
+                fault: ModuleFault::InconsistentChange,
+                at: body.start(),
+            })),
+            Err(error) => Err(WriteError::from(error)),
+        }
+    }
+
+    /// Writes the size of a large body, which is counted first, and the body in pieces.
     fn put_large_body<B: BodyWriter, T: MapSink, W: Write>(
         &mut self,
         bodies: &B,
@@ -159,27 +199,7 @@ impl<'a> ParsedModule<'a> {
             start,
             pairs: &[],
         })?;
-        let mut output = Output {
-            out,
-            len: 0,
-            error: None,
-        };
-        let written = bodies.write_large_body(self, body, scratch, &mut output);
-        let Output {
-            len: count,
-            error,
-            ..
-        } = output;
-        if let Some(error) = error {
-            return Err(WriteError::Io(error));
-        }
-        written?;
-        if count != len {
-            return Err(WriteError::from(ModuleError {
-                fault: ModuleFault::InconsistentChange,
-                at: body.start(),
-            }));
-        }
+        self.put_in_pieces(bodies, body, scratch, len, out)?;
         place_after(start, len)
     }
 
