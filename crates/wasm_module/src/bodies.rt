@@ -1,6 +1,6 @@
 //! Bodies of a module: how they are parsed, rewritten and written.
 
-ghost use Rattle.std.specs.Prelude.{List, ℕ, OnOk, IfOk, IfErr};
+ghost use Rattle.std.specs.Prelude.{◌≡◌, ℕ, List, length, OnOk, IfOk, IfErr};
 ghost use Rattle.walrus_rewrite.specs.RawBodies.{emit_input, IsRawBodyOf};
 ghost use Rattle.wasm_module.specs.CodeSections.{body_at};
 ghost use Rattle.wasm_module.specs.RewrittenCode.{Extends, IsRewritten, IsParsed};
@@ -261,6 +261,11 @@ impl<'a> ParsedModule<'a> {
         scratch: &mut Scratch,
     ) -> Result<usize, ModuleError>
         ensures extends { Extends self.old self.new }
+        ensures measured { IfOk result (λ len. (raw : List ℕ)
+            × IsRewritten self.old body.entry.func (body_at body.entry) raw
+            × (len ≡ length raw)) }
+        ensures refused { IfErr result
+            (IsNotRewritten self.old body.entry.func (body_at body.entry) self.new) }
     {
         let mut counter = Counter { len: 0 };
         match self.rewrite_flat_to(body, scratch, &mut counter) {
@@ -280,6 +285,11 @@ impl<'a> ParsedModule<'a> {
         scratch: &mut Scratch,
     ) -> Result<usize, ModuleError>
         ensures extends { Extends self.old self.new }
+        ensures measured { IfOk result (λ len. (raw : List ℕ)
+            × IsRewritten self.old body.entry.func (body_at body.entry) raw
+            × (len ≡ length raw)) }
+        ensures refused { IfErr result
+            (IsNotRewritten self.old body.entry.func (body_at body.entry) self.new) }
     {
         match self.measure_flat_once(body, scratch) {
             Ok(len) => Ok(len),

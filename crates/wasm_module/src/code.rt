@@ -1,6 +1,6 @@
 //! The code section (WebAssembly core specification 3.0, binary format, code section).
 
-ghost use Rattle.std.specs.Prelude.{◌≡◌, ◌<◌, ◌+◌, ◌^◌, [], length, Ok, IfOk, OnOk};
+ghost use Rattle.std.specs.Prelude.{◌≡◌, ◌<◌, ◌+◌, ◌^◌, [], length, nat_lt, Ok, IfOk, OnOk};
 ghost use Rattle.wasm_numbers.specs.Numbers.{u32};
 ghost use Rattle.wasm_module.specs.CodeSections.{place_of, bytes_of};
 
@@ -34,7 +34,9 @@ impl<'a> Body<'a> {
     }
 
     /// Whether it is written in pieces.
-    pub(crate) fn is_large(&self) -> bool {
+    pub(crate) fn is_large(&self) -> bool
+        ensures { result ≡ nat_lt PIECE (length (bytes_of self.now)) }
+    {
         self.bytes().len() > PIECE
     }
 
