@@ -1,9 +1,11 @@
-use Rattle.wasm_module.proofs.ModuleLemmas.{extends_then}
+use Rattle.wasm_module.proofs.ModuleLemmas.{extends_then, then_ok}
 use Rattle.wasm_module.proofs.WritingLemmas.{puts_entry, if_so}
 use Rattle.wasm_module.proofs.parsed.ParsedModule.put_large_body.Goals as goal
 
 pub returns-clause-extends : goal.returns-clause-extends
-returns-clause-extends g c = ?
+returns-clause-extends g c =
+    then_ok c.place_after.result
+    (extends_then c.args.self.now c.measure_large_body.new.parsed c.put_in_pieces.new.self c.in_ok-len.ensures.extends c.in_ok-put_in_pieces.ensures.extends)
 
 pub returns-clause-written : goal.returns-clause-written
 returns-clause-written g c = λ source e.
