@@ -7,7 +7,9 @@ use std::rt::Clock;
 use std::time::{Duration, Instant};
 use walrus_body::LocalFunction;
 use walrus_ir::ModuleLocals;
-use wasm_module::{Body, BodyWriter, ChangeFunction, ModuleError, Needed, ParsedModule, Scratch};
+use wasm_module::{
+    Body, BodyWriter, ByteSink, ChangeFunction, ModuleError, Needed, ParsedModule, Scratch,
+};
 
 /// For how many milliseconds a run shows nothing.
 const FIRST: u64 = 2000;
@@ -131,6 +133,26 @@ impl<R: Eprint + Clock, B: BodyWriter> BodyWriter for Watched<'_, R, B> {
     ) -> Result<Option<LocalFunction>, ModuleError> {
         self.progress.step();
         self.bodies.write_body(parsed, body, needed, scratch)
+    }
+
+    fn measure_large_body<'a>(
+        &self,
+        parsed: &mut ParsedModule<'a>,
+        body: Body<'a>,
+        scratch: &mut Scratch,
+    ) -> Result<usize, ModuleError> {
+        self.progress.step();
+        self.bodies.measure_large_body(parsed, body, scratch)
+    }
+
+    fn write_large_body<'a, S: ByteSink>(
+        &self,
+        parsed: &mut ParsedModule<'a>,
+        body: Body<'a>,
+        scratch: &mut Scratch,
+        sink: &mut S,
+    ) -> Result<(), ModuleError> {
+        self.bodies.write_large_body(parsed, body, scratch, sink)
     }
 }
 

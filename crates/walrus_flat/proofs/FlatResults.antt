@@ -1,5 +1,6 @@
 -- The results of rewriting without a tree.
-use Rattle.std.proofs.Common.{◌≡◌, ◌⊎◌, inl, inr, ℕ, List, ◌++◌, Bool, true, Option, Some, None, Result, Ok, Err, OnOk, IfOk, IfErr, refl, sym, ap, subst, ◌∙◌}
+use Rattle.std.proofs.lemmas.List.{length-drop}
+use Rattle.std.proofs.Common.{◌≤◌, ◌+◌, length, drop, arith, ◌≡◌, ◌⊎◌, inl, inr, ℕ, List, [], ◌++◌, Bool, true, false, Option, Some, None, Result, Ok, Err, OnOk, IfOk, IfErr, refl, sym, ap, subst, ◌∙◌}
 use Rattle.std.specs.Prelude.{IsErr}
 use Rattle.std.specs.Borrow.{Bor}
 use Rattle.std.specs.Fn.{Shared}
@@ -23,7 +24,13 @@ use Rattle.walrus_rewrite.specs.declared.error.RewriteError.TheVariants.{Parse, 
 use Rattle.walrus_rewrite.specs.Errors.{IsOutOfMemory}
 use Rattle.walrus_rewrite.specs.RawBodies.{EmitInput}
 use Rattle.walrus_rewrite.specs.RewrittenBodies.{RefusesRewriting, IsOfWriting}
-use Rattle.walrus_flat.specs.RewrittenFlat.{Finishes, FinishesBoth, Composes, RewritesFlat}
+use Rattle.walrus_flat.specs.Sinks.{OfWhole}
+use Rattle.walrus_flat.proofs.SinkLemmas.{all_taken}
+use Rattle.walrus_flat.specs.RewrittenFlat.{FinishesTo, Finishes, FinishesBoth, Composes, RewritesFlat}
+
+-- the operators end where the body ends
+pub ends_there : (start ops : ℕ) (bytes rest : List ℕ) → ops ≤ length bytes → rest ≡ drop ops bytes → start + length bytes ≡ start + ops + length rest
+ends_there start ops bytes rest within e = omega (arith, length-drop ops bytes, ap length e)
 
 -- the result of appending
 pub finishes : (m : Result Drafted RewriteError) (p : Drafted) → m ≡ Ok p → (old new : List ℕ) (r : Result (Unit {0}) RewriteError) → OnOk r (new ≡ old ++ p.output.bytes) → IfErr r (λ e. e ≡ Emit emit.Memory) → Finishes m old new r
@@ -123,6 +130,37 @@ module _ {S F : Type 0} (asks : Shared F (Bor ℕ × Unit {0}) ℕ) (i : ParseIn
         by_made : (n : Result Drafted RewriteError) → IfErr n (RefusesRewriting asks i by) → Finishes n old new (Err e) → RefusesRewriting asks i by e
         by_made (Err f) k h = subst (RefusesRewriting asks i by) (sym h) k
         by_made (Ok made) k h = subst (RefusesRewriting asks i by) (sym h) (inl refl)
+
+  -- ---- to a sink
+
+  module _ {T : Type 0} (takes : T → T → List ℕ → Type 0) (a b c : T) (both : (first second : List ℕ) → takes a b first → takes b c second → takes a c (first ++ second)) where
+    pub flat_to : (m : Result Drafted RewriteError) → IfOk m (OfWhole takes a b (Composes asks i by false)) → (r : Result (Unit {0}) RewriteError) → FinishesTo (takes b c) m r →
+        OnOk r ((raw : List ℕ) × takes a c raw × RewritesFlat asks i by {Z = Unit {0}} [] raw None (inl tt))
+    flat_to (Ok made) h (Ok u) end =
+        let k = h.holds_of_it in (
+          h.whole.output.bytes,
+          all_taken takes a b c h.whole made both h.is_left end,
+          record {
+            mapping = k.mapping;
+            body = k.body;
+            accepted = k.accepted;
+            is_mapping = k.is_mapping;
+            raw = h.whole.output.bytes;
+            pairs = k.pairs;
+            is_raw_body = k.is_raw_body;
+            keeps = k.keeps;
+            bytes = refl;
+            appends_pairs = tt;
+          },
+        )
+    flat_to (Ok made) h (Err e) end = tt
+    flat_to (Err f) h (Ok u) end = absurd end
+    flat_to (Err f) h (Err e) end = tt
+
+  pub refused_to : (goes : List ℕ → Type 0) (m : Result Drafted RewriteError) → IfErr m (RefusesRewriting asks i by) → (r : Result (Unit {0}) RewriteError) → FinishesTo goes m r → IfErr r (RefusesRewriting asks i by)
+  refused_to goes m err (Ok u) h = tt
+  refused_to goes (Ok made) err (Err e) h = subst (RefusesRewriting asks i by) (sym h) (inl refl)
+  refused_to goes (Err f) err (Err e) h = subst (RefusesRewriting asks i by) (sym h) err
 
   -- a body that is accepted with one location function has no first fault with another
   no_fault : (l m : Option (ℕ → ℕ)) (b : Body Occurrence) (f : ParseFailure) → BothOrNone l m → Accepted (setting_with i m) i.bytes b → FirstFault (setting_with i l) i.bytes f → ⊥

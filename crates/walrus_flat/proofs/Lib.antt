@@ -29,6 +29,7 @@ pub mod CheckedBodies
 pub mod CheckedLoop
 -- what is written aside
 pub mod Drafts
+pub mod SinkLemmas
 -- the steps of the writer
 pub mod WriterSteps
 pub mod WriterOperators

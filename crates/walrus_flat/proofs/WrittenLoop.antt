@@ -36,13 +36,16 @@ use Rattle.wasm_flat.specs.Flat.{Named, first_state, written_at, after, flat, nu
 use Rattle.wasm_flat.specs.FlatLaws.{bare}
 use Rattle.wasm_flat.proofs.Fronts as fronts
 use Rattle.wasm_flat.proofs.OtherLocations.{faults_anywhere}
+use Rattle.walrus_emit_state.specs.TreeWriting.Drafts.{Drafted}
 use Rattle.walrus_flat.specs.declared.writer.Writer.{Writer}
 use Rattle.walrus_flat.specs.Checked.{marks}
 use Rattle.walrus_flat.specs.Laws.{written_of}
 use Rattle.walrus_flat.specs.Written.{drafted, state_of}
 use Rattle.walrus_flat.specs.Writers.{numbers_in, env_at, IsSameWriter, Takes, IsTaken, StepsWriter}
 use Rattle.walrus_flat.specs.WrittenBody.{some_locations, IsAccepted, WritesBody, RefusesWriting}
+use Rattle.walrus_flat.specs.Sinks.{IsLeft, OfWhole}
 use Rattle.walrus_flat.proofs.Drafts.{drafted-append}
+use Rattle.walrus_flat.proofs.SinkLemmas.{left_as_is, left_then, left_more}
 use Rattle.walrus_flat.proofs.CheckedWhole.{read_operators}
 use Rattle.walrus_flat.proofs.WrittenFronts.{is_read, text_of, read_marks, ReadsAgain, LeftOf, NextOf, its_read, next_of, continues, marks_more, ends}
 
@@ -90,7 +93,7 @@ record Took (m : Typing) (w new : Writer) (x : Marked Named) (k : Numbers) : Typ
 took : (m : Typing) (w new : Writer) (x : Marked Named) → Takes m w new x → Took m w new x (numbers_in w)
 took m w new x h = record { same = h.same; operators = h.operators; are_numbered = h.are_numbered; draft = h.draft; state_is = h.state_is }
 
-module _ {F : Type 0} (g : Shared F (Bor ℕ × Unit {0}) ℕ) (i : ParseInput (Unit {0}) F) (first : Writer) where
+module _ {F S : Type 0} (g : Shared F (Bor ℕ × Unit {0}) ℕ) (i : ParseInput (Unit {0}) F) (first : Writer) (takes : S → S → List ℕ → Type 0) (start : S) where
   abbrev to : Numbers
   to = numbers_in first
 
@@ -103,8 +106,8 @@ module _ {F : Type 0} (g : Shared F (Bor ℕ × Unit {0}) ℕ) (i : ParseInput (
   abbrev locations : Option (ℕ → ℕ)
   locations = some_locations i.on_instr_pos
 
-  -- The operators that were read, and what was written of them.
-  pub record WritesSoFar (w : Writer) (place : ℕ) (rest : List ℕ) : Type 0 where
+  -- The operators that were read, and what was written of them, of which the sink took the first bytes.
+  pub record WritesSoFar (w : Writer) (sink : S) (place : ℕ) (rest : List ℕ) : Type 0 where
     pub same : IsSameWriter first w
     pub accepted : IsAccepted i
     pub read : Progress Occurrence
@@ -114,16 +117,32 @@ module _ {F : Type 0} (g : Shared F (Bor ℕ × Unit {0}) ℕ) (i : ParseInput (
     pub left_of : LeftOf g i locations accepted.body read its tt place rest mapping left
     pub written : List (Located RawOperation)
     pub is_written : IsWrittenSo to typing balanced (read_marks read) (state_of w.«open») written
-    pub draft : w.draft ≡ drafted first.draft written
+    pub draft : IsLeft takes start sink (drafted first.draft written) w.draft
 
   -- nothing changed
-  pub still : (w new : Writer) (place : ℕ) (rest : List ℕ) → new ≡ w → WritesSoFar w place rest → WritesSoFar new place rest
-  still w new place rest same = subst (λ k. WritesSoFar k place rest) (sym same)
+  pub still : (w new : Writer) (sink : S) (place : ℕ) (rest : List ℕ) → new ≡ w → WritesSoFar w sink place rest → WritesSoFar new sink place rest
+  still w new sink place rest same = subst (λ k. WritesSoFar k sink place rest) (sym same)
+
+  -- the sink took bytes
+  pub passed : (w : Writer) (sink next : S) (place : ℕ) (rest : List ℕ) (left : Drafted) → ((a b c : S) (first second : List ℕ) → takes a b first → takes b c second → takes a c (first ++ second)) → IsLeft takes sink next w.draft left →
+      WritesSoFar w sink place rest → WritesSoFar (record w { draft = left }) next place rest
+  passed w sink next place rest left both h so = record {
+    same = record { «module» = so.same.«module»; indices = so.same.indices; function = so.same.function; ty = so.same.ty; out = so.same.out; locals = so.same.locals };
+    accepted = so.accepted;
+    read = so.read;
+    its = so.its;
+    mapping = so.mapping;
+    left = so.left;
+    left_of = so.left_of;
+    written = so.written;
+    is_written = so.is_written;
+    draft = left_then takes start sink next (drafted first.draft so.written) w.draft left (both start sink next) so.draft h;
+  }
 
   -- ---- before the first operator
 
-  pub begins_writing : i.check ≡ (λ v x. Ok tt) → i.first ≡ tt → IsAccepted i → state_of first.«open» ≡ first_state → WritesSoFar first i.start i.bytes
-  begins_writing accepts starts a none =
+  pub begins_writing : i.check ≡ (λ v x. Ok tt) → i.first ≡ tt → IsAccepted i → state_of first.«open» ≡ first_state → takes start start [] → WritesSoFar first start i.start i.bytes
+  begins_writing accepts starts a none nothing =
       let given = setting_with i locations in
       let ok = is_ok (validated given.check given.first (map placed a.accepted.operators)) a.accepted.all.passes in
       let goes : Goes (IsNamed i.environment) (Some function_frames) (map mark a.accepted.operators) =
@@ -149,12 +168,12 @@ module _ {F : Type 0} (g : Shared F (Bor ℕ × Unit {0}) ℕ) (i : ParseInput (
         };
         written = [];
         is_written = record { state_is = none; written_are = refl };
-        draft = refl;
+        draft = left_as_is takes start first.draft nothing;
       }
 
   -- ---- the next operator
 
-  module _ (w : Writer) (place : ℕ) (rest : List ℕ) (so : WritesSoFar w place rest) where
+  module _ (w : Writer) (sink : S) (place : ℕ) (rest : List ℕ) (so : WritesSoFar w sink place rest) where
     pub may_call_here : (pre : F → Bor ℕ → Type 0) → MayCall pre i.on_instr_pos i.start (i.start + length i.bytes) → 0 < length rest → MayCall pre i.on_instr_pos place (place + 1)
     may_call_here pre may some =
         let r = so.left_of.reads in
@@ -205,7 +224,7 @@ module _ {F : Type 0} (g : Shared F (Bor ℕ × Unit {0}) ℕ) (i : ParseInput (
 
         module _ (new : Writer) (env : env_at w w.ty ≡ i.environment) (numbers : numbers_in w ≡ to) where
           -- it was written
-          pub goes_on : StepsWriter w new o location (Ok tt) → Locates g i.on_instr_pos place location → (next : ℕ) → next + length following ≡ place + length rest → length following < length rest → WritesSoFar new next following
+          pub goes_on : StepsWriter w new o location (Ok tt) → Locates g i.on_instr_pos place location → (next : ℕ) → next + length following ≡ place + length rest → length following < length rest → WritesSoFar new sink next following
           goes_on step located next moves shorter =
               let n = next_one in
               let l = so.left_of in
@@ -227,7 +246,10 @@ module _ {F : Type 0} (g : Shared F (Bor ℕ × Unit {0}) ℕ) (i : ParseInput (
                     subst (λ s. IsWrittenSo to typing balanced (read_marks (further so.read (mark this))) s (so.written ++ t.operators)) (sym t.state_is)
                     (subst (λ xs. IsWrittenSo to typing balanced xs (after balanced (state_of w.«open») this_marked) (so.written ++ t.operators)) (sym more)
                     (fronts.continues balanced to typing (read_marks so.read) (state_of w.«open») so.written so.is_written this_marked t.operators t.are_numbered));
-                draft = t.draft ∙ (ap (λ d. drafted d t.operators) so.draft ∙ sym (drafted-append first.draft so.written t.operators));
+                draft =
+                    subst (λ (d : Drafted). IsLeft takes start sink (drafted first.draft (so.written ++ t.operators)) d) (sym t.draft)
+                    (subst (λ (d : Drafted). IsLeft takes start sink d (drafted w.draft t.operators)) (sym (drafted-append first.draft so.written t.operators))
+                    (left_more takes start sink (drafted first.draft so.written) w.draft t.operators so.draft));
               }
 
           -- it has a fault, which is that of the whole
@@ -260,7 +282,7 @@ module _ {F : Type 0} (g : Shared F (Bor ℕ × Unit {0}) ℕ) (i : ParseInput (
 
     -- ---- no bytes remain
 
-    pub completes : i.offset ≤ i.start → length rest ≡ 0 → WritesBody g i to first.draft w.draft
+    pub completes : i.offset ≤ i.start → length rest ≡ 0 → OfWhole takes start sink (WritesBody g i to first.draft) w.draft
     completes fits none =
         let l = so.left_of in
         let e = ends g i locations so.accepted.body so.read so.its tt place rest so.mapping so.left l none in
@@ -270,11 +292,15 @@ module _ {F : Type 0} (g : Shared F (Bor ℕ × Unit {0}) ℕ) (i : ParseInput (
         let marked : marks (operators_of e.0) ≡ read_marks so.read =
         ap marks (sym operators_are) ∙ (sym (marks_are reads.operators) ∙ (ap (map (map_mark name_at)) (sym text) ∙ ap read_marks (sym e.1))) in
         record {
-          mapping = so.mapping;
-          body = e.0;
-          is_parsed = is_whole g i fits e.0 tt place rest so.mapping reads none;
-          is_mapping = whole_mapping g i fits e.0 tt place rest so.mapping reads;
-          operators = so.written;
-          are_written = ap (λ xs. gather (map (numbered to typing) (flat balanced first_state xs))) marked ∙ so.is_written.written_are;
-          draft = so.draft;
+          whole = drafted first.draft so.written;
+          is_left = so.draft;
+          holds_of_it = record {
+            mapping = so.mapping;
+            body = e.0;
+            is_parsed = is_whole g i fits e.0 tt place rest so.mapping reads none;
+            is_mapping = whole_mapping g i fits e.0 tt place rest so.mapping reads;
+            operators = so.written;
+            are_written = ap (λ xs. gather (map (numbered to typing) (flat balanced first_state xs))) marked ∙ so.is_written.written_are;
+            draft = refl;
+          };
         }

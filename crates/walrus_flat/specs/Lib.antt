@@ -9,6 +9,8 @@ pub mod Checkers
 pub mod CheckedBody
 pub mod Written
 pub mod Writers
+-- bodies that a sink takes while they are written
+pub mod Sinks
 -- laws
 pub mod Laws
 -- a body that is written while it is read again

@@ -48,12 +48,16 @@ abbrev pub is_none : {A : Type 0} → Option A → Bool
 is_none None = true
 is_none (Some x) = false
 
--- The bytes are appended if the body was written; else its fault is returned.
+-- The bytes go where they should if the body was written; else its fault is returned.
+abbrev pub FinishesTo : (goes : List ℕ → Type 0) → Result Drafted RewriteError → Result (Unit {0}) RewriteError → Type 0
+FinishesTo goes (Ok made) (Ok u) = goes made.output.bytes
+FinishesTo goes (Ok made) (Err e) = e ≡ Emit Memory
+FinishesTo goes (Err f) (Ok u) = ⊥
+FinishesTo goes (Err f) (Err e) = e ≡ f
+
+-- They are appended.
 abbrev pub Finishes : Result Drafted RewriteError → (old new : List ℕ) → Result (Unit {0}) RewriteError → Type 0
-Finishes (Ok made) old new (Ok u) = new ≡ old ++ made.output.bytes
-Finishes (Ok made) old new (Err e) = e ≡ Emit Memory
-Finishes (Err f) old new (Ok u) = ⊥
-Finishes (Err f) old new (Err e) = e ≡ f
+Finishes made old new r = FinishesTo (λ bytes. new ≡ old ++ bytes) made r
 
 -- And the pairs are appended to their list.
 abbrev pub FinishesBoth : Result Drafted RewriteError → (old new : List ℕ) → (old_pairs new_pairs : List Pair) → Result (Unit {0}) RewriteError → Type 0

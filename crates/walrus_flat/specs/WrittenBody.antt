@@ -19,6 +19,7 @@ use Rattle.walrus_emit_state.specs.TreeWriting.Drafts.{Drafted}
 use Rattle.walrus_flat.specs.declared.writer.Writer.{Writer}
 use Rattle.walrus_flat.specs.Writers.{StepsWriter}
 use Rattle.walrus_flat.specs.Laws.{written_of}
+use Rattle.walrus_flat.specs.Sinks.{OfWhole}
 use Rattle.walrus_flat.specs.Written.{drafted}
 
 -- the input of reading a body again, with a validator of one state that accepts everything
@@ -57,6 +58,7 @@ module _ {F : Type 0} (g : Shared F (Bor ℕ × Unit {0}) ℕ) (i : ParseInput (
     pub accepted : IsAccepted i
     pub fault : written_of i.environment to (operators_of accepted.body) ≡ Err e
 
-  abbrev pub WritesOperators : Drafted → Drafted → Result (Unit {0}) EmitError → Type 0
-  WritesOperators old new (Ok u) = WritesBody old new
-  WritesOperators old new (Err e) = (e ≡ Memory) ⊎ RefusesWriting e
+  -- A sink took the first bytes, from one state to the other.
+  abbrev pub WritesOperators : {S : Type 0} → (takes : S → S → List ℕ → Type 0) → (before after : S) → Drafted → Drafted → Result (Unit {0}) EmitError → Type 0
+  WritesOperators takes before after old new (Ok u) = OfWhole takes before after (WritesBody old) new
+  WritesOperators takes before after old new (Err e) = (e ≡ Memory) ⊎ RefusesWriting e

@@ -9,7 +9,9 @@ ghost use Rattle.wasm_body.specs.Translation.{at_location};
 ghost use Rattle.wasm_body.specs.declared.error.EmitError.TheVariants.{Memory};
 ghost use Rattle.walrus_emit_state.specs.Emission.{pairs_after};
 ghost use Rattle.walrus_emit_state.specs.TreeWriting.Drafts.{with_written, with_bytes};
+ghost use Rattle.walrus_flat.specs.Sinks.{IsLeft};
 
+use crate::byte_sink::ByteSink;
 use std::marker::Model;
 use walrus_ir::InstrLocId;
 use walrus_maps::make_room;
@@ -183,6 +185,18 @@ impl Draft {
         write_op(op, &mut self.bytes)?;
         self.pairs.push((location, place)).unwrap();
         Ok(())
+    }
+
+    /// Lets a sink take the bytes where they are more than it leaves in a list. It takes none where
+    /// pairs are kept, since places count from the first byte. Returns whether it did what it should.
+    #[inline(always)]
+    pub fn pass_to<S: ByteSink>(&mut self, sink: &mut S) -> bool
+        ensures { OnTrue result (IsLeft S.takes sink.old sink.new self.old self.new) }
+    {
+        if self.bytes.len() <= S::MOST || self.has_map {
+            return true;
+        }
+        sink.take(&mut self.bytes)
     }
 
     /// The bytes and the pairs.

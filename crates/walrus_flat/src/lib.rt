@@ -2,6 +2,7 @@
 #![tactic(auto)]
 
 mod body_indices;
+mod byte_sink;
 mod check_body;
 mod checker;
 mod checking;
@@ -21,6 +22,7 @@ mod used_locals;
 mod write_body;
 mod writer;
 
+pub use byte_sink::ByteSink;
 pub use laws::{law_append_alike, law_raw_body, law_renumbered};
-pub use rewriting::rewrite_flat;
+pub use rewriting::{rewrite_flat, rewrite_flat_to};
 pub use scratch::FlatScratch;

@@ -1,5 +1,6 @@
 //! Rewriting a body without its tree.
-ghost use Rattle.std.specs.Prelude.{◌≡◌, ◌⊎◌, ◌++◌, ◌≤◌, ◌<◌, ◌+◌, ◌^◌, ℕ, [], length, Option, Some, OnOk, OnErr, IfOk, IfErr, IsErr, false};
+ghost use Rattle.std.proofs.Common.{inl};
+ghost use Rattle.std.specs.Prelude.{◌≡◌, ◌⊎◌, ◌++◌, ◌≤◌, ◌<◌, ◌+◌, ◌^◌, ℕ, List, [], length, Option, Some, OnOk, OnErr, IfOk, IfErr, IsErr, false};
 ghost use Rattle.wasm_body.specs.declared.error.ParseError.TheVariants.{Memory as MemoryFault};
 ghost use Rattle.wasm_body.specs.declared.error.EmitError.TheVariants.{Memory};
 ghost use Rattle.wasm_flat.specs.Flat.{first_state};
@@ -23,9 +24,11 @@ ghost use Rattle.walrus_flat.specs.CheckedBody.{BeginsBody, setting_at, entry_in
 ghost use Rattle.walrus_flat.specs.UsedLocals.{is_used, entries_of};
 ghost use Rattle.walrus_flat.specs.Written.{state_of};
 ghost use Rattle.walrus_flat.specs.WrittenBody.{again, IsAccepted, WritesBody, RefusesWriting};
-ghost use Rattle.walrus_flat.specs.RewrittenFlat.{emit_input, is_none, Composes, WritesAll, IsNotAllWritten, Finishes, FinishesBoth, RewritesFlat};
+ghost use Rattle.walrus_flat.specs.Sinks.{OfWhole};
+ghost use Rattle.walrus_flat.specs.RewrittenFlat.{emit_input, is_none, Composes, WritesAll, IsNotAllWritten, FinishesTo, Finishes, FinishesBoth, RewritesFlat};
 
 use crate::body_indices::BodyIndices;
+use crate::byte_sink::{ByteSink, InMemory};
 use crate::check_body::check_operators;
 use crate::checker::Checker;
 use crate::cursor::Cursor;
@@ -157,7 +160,7 @@ fn begin_sequences(alloc: Global, scratch: &mut FlatScratch) -> Result<OpenSeque
 }
 
 /// The second pass over the operators of a body, after its declarations, which are written.
-fn write<'a, F: Fn(&usize) -> InstrLocId>(
+fn write<'a, F: Fn(&usize) -> InstrLocId, S: ByteSink>(
     alloc: Global,
     module: &'a Module,
     indices: &'a IndicesToIds,
@@ -170,6 +173,7 @@ fn write<'a, F: Fn(&usize) -> InstrLocId>(
     locals: &'a NumberedLocals,
     draft: Draft,
     scratch: &mut FlatScratch,
+    sink: &mut S,
 ) -> Result<Draft, EmitError>
     requires fits { start + length ops.now < 2 ^ 64 }
     requires offset { «module».now.code_section_offset ≤ start }
@@ -177,10 +181,11 @@ fn write<'a, F: Fn(&usize) -> InstrLocId>(
     requires accepted { IsAccepted (again (environment_of «module».now indices.now function ty)
         (record { rest = ops.now; place = start }) «module».now.code_section_offset
         on_instr_pos) }
-    ensures ok { IfOk result (WritesBody F.Fn (again (environment_of «module».now indices.now
-        function ty) (record { rest = ops.now; place = start })
-        «module».now.code_section_offset on_instr_pos.entry) (numbers_by «module».now.types
-        out.now (entries_of locals.now)) draft) }
+    ensures ok { IfOk result (OfWhole S.takes sink.old sink.new (WritesBody F.Fn
+        (again (environment_of «module».now indices.now function ty)
+        (record { rest = ops.now; place = start }) «module».now.code_section_offset
+        on_instr_pos.entry) (numbers_by «module».now.types out.now (entries_of locals.now))
+        draft)) }
     ensures err { IfErr result (λ e. (e ≡ Memory) ⊎ RefusesWriting F.Fn
         (again (environment_of «module».now indices.now function ty)
         (record { rest = ops.now; place = start }) «module».now.code_section_offset
@@ -208,7 +213,7 @@ fn write<'a, F: Fn(&usize) -> InstrLocId>(
         draft,
     };
     let mut reader = Cursor::new(ops, start);
-    match write_operators(&mut writer, &mut reader, on_instr_pos) {
+    match write_operators(&mut writer, &mut reader, on_instr_pos, sink) {
         Ok(()) => {
             let Writer { open, draft, .. } = writer;
             scratch.sequences = open.sequences;
@@ -247,18 +252,19 @@ fn begin_body(
 /// declarations, and the room that is made before each operator is written.
 const SPARE: usize = 64;
 
-/// Makes room for a body that is read from so many bytes, if there is memory for it. Eight bytes of
-/// code contain at most five operators as a rule.
+/// Makes room for a body that is read from so many bytes, if there is memory for it, or for as many
+/// bytes as a sink leaves in a list. Eight bytes of code contain at most five operators as a rule.
 fn make_room_for(
     bytes: &mut Vec<u8>,
     pairs: &mut Vec<(InstrLocId, usize)>,
     len: usize,
     has_map: bool,
+    most: usize,
 )
     ensures bytes { bytes.new.items ≡ bytes.old.items }
     ensures pairs { pairs.new.items ≡ pairs.old.items }
 {
-    let room = len.saturating_add(SPARE);
+    let room = len.min(most).saturating_add(SPARE);
     if bytes.capacity() < room {
         let _ = make_room(bytes, room);
     }
@@ -270,7 +276,7 @@ fn make_room_for(
 
 /// The declarations of a body, and what is written after them, of one that was checked. The scratch
 /// has the locals that live operators name, and the body is written to these lists, which are empty.
-fn write_checked<F: Fn(&usize) -> InstrLocId>(
+fn write_checked<F: Fn(&usize) -> InstrLocId, S: ByteSink>(
     alloc: Global,
     module: &Module,
     indices: &IndicesToIds,
@@ -285,6 +291,7 @@ fn write_checked<F: Fn(&usize) -> InstrLocId>(
     mut pairs: Vec<(InstrLocId, usize)>,
     has_map: bool,
     scratch: &mut FlatScratch,
+    sink: &mut S,
 ) -> Result<Draft, EmitError>
     requires fits { start + length ops.now < 2 ^ 64 }
     requires offset { «module».now.code_section_offset ≤ start }
@@ -294,16 +301,17 @@ fn write_checked<F: Fn(&usize) -> InstrLocId>(
         on_instr_pos) }
     requires no_bytes { bytes.items ≡ [] }
     requires no_pairs { pairs.items ≡ [] }
-    ensures ok { IfOk result (WritesAll F.Fn (again (environment_of «module».now
-        indices.now function ty) (record { rest = ops.now; place = start })
-        «module».now.code_section_offset on_instr_pos.entry) (emit_input «module».now out.now
-        args.now) has_map (numbers_by «module».now.types out.now) (is_used scratch.old.used)) }
+    ensures ok { IfOk result (OfWhole S.takes sink.old sink.new (WritesAll F.Fn
+        (again (environment_of «module».now indices.now function ty)
+        (record { rest = ops.now; place = start }) «module».now.code_section_offset
+        on_instr_pos.entry) (emit_input «module».now out.now args.now) has_map
+        (numbers_by «module».now.types out.now) (is_used scratch.old.used))) }
     ensures err { IfErr result (IsNotAllWritten F.Fn (again (environment_of «module».now
         indices.now function ty) (record { rest = ops.now; place = start })
         «module».now.code_section_offset on_instr_pos.entry) (emit_input «module».now out.now
         args.now) (numbers_by «module».now.types out.now) (is_used scratch.old.used)) }
 {
-    make_room_for(&mut bytes, &mut pairs, ops.len(), has_map);
+    make_room_for(&mut bytes, &mut pairs, ops.len(), has_map, S::MOST);
     let numbers = match begin_body(alloc, module, args, out, &scratch.used, &mut bytes) {
         Ok(numbers) => numbers,
         Err(fault) => return Err(fault),
@@ -322,6 +330,7 @@ fn write_checked<F: Fn(&usize) -> InstrLocId>(
         &numbers,
         draft,
         scratch,
+        sink,
     ) {
         Ok(written) => Ok(written),
         Err(fault) => Err(fault),
@@ -340,7 +349,7 @@ fn has_limit<F: Fn(&usize) -> InstrLocId>(on_instr_pos: Option<&F>) -> bool
 
 /// Both passes: the declarations of a body, and what is written after them, in these lists, which
 /// are empty.
-fn write_body<V: OpCheck, F: Fn(&usize) -> InstrLocId>(
+fn write_body<V: OpCheck, F: Fn(&usize) -> InstrLocId, S: ByteSink>(
     alloc: Global,
     module: &Module,
     indices: &IndicesToIds,
@@ -356,15 +365,16 @@ fn write_body<V: OpCheck, F: Fn(&usize) -> InstrLocId>(
     pairs: Vec<(InstrLocId, usize)>,
     has_map: bool,
     scratch: &mut FlatScratch,
+    sink: &mut S,
 ) -> Result<Draft, RewriteError>
     requires fits { start + length ops.now < 2 ^ 64 }
     requires offset { «module».now.code_section_offset ≤ start }
     requires may_call { MayCall F.pre on_instr_pos start (start + length ops.now) }
     requires no_bytes { bytes.items ≡ [] }
     requires no_pairs { pairs.items ≡ [] }
-    ensures ok { IfOk result (Composes F.Fn (input_of «module».now indices.now function
-        ty start ops.now on_instr_pos.entry V.check (V.state validator)) (emit_input
-        «module».now out.now args.now) has_map) }
+    ensures ok { IfOk result (OfWhole S.takes sink.old sink.new (Composes F.Fn
+        (input_of «module».now indices.now function ty start ops.now on_instr_pos.entry V.check
+        (V.state validator)) (emit_input «module».now out.now args.now) has_map)) }
     ensures err { IfErr result (RefusesRewriting F.Fn (input_of «module».now indices.now function
         ty start ops.now on_instr_pos.entry V.check (V.state validator)) (emit_input
         «module».now out.now args.now)) }
@@ -391,6 +401,7 @@ fn write_body<V: OpCheck, F: Fn(&usize) -> InstrLocId>(
         pairs,
         has_map,
         scratch,
+        sink,
     ) {
         Ok(draft) => Ok(draft),
         Err(fault) => Err(RewriteError::Emit(fault)),
@@ -549,6 +560,7 @@ pub fn rewrite_flat<V: OpCheck, F: Fn(&usize) -> InstrLocId>(
                 pairs,
                 true,
                 scratch,
+                &mut InMemory,
             );
             finish_with_map(with_pairs, dst, list)
         }
@@ -571,8 +583,98 @@ pub fn rewrite_flat<V: OpCheck, F: Fn(&usize) -> InstrLocId>(
                 none,
                 false,
                 scratch,
+                &mut InMemory,
             );
             finish(without, dst)
         }
     }
+}
+
+/// Lets a sink take the last bytes of a body, if it was written. The buffer gets their list, empty.
+fn finish_to<S: ByteSink>(
+    made: Result<Draft, RewriteError>,
+    buffer: &mut Vec<u8>,
+    sink: &mut S,
+) -> Result<(), RewriteError>
+    ensures { FinishesTo (S.takes sink.old sink.new) made result }
+{
+    match made {
+        Ok(draft) => {
+            let (mut bytes, _pairs) = draft.into_lists();
+            if !sink.take(&mut bytes) {
+                return Err(RewriteError::Emit(EmitError::Memory));
+            }
+            *buffer = bytes;
+            Ok(())
+        }
+        Err(error) => Err(error),
+    }
+}
+
+/// Rewrites a function's body as `rewrite_flat` does without pairs, to a sink, which takes the bytes
+/// while they are written. The buffer is a list for them, whose contents don't matter.
+///
+/// # Errors
+///
+/// Those of `rewrite_flat`, and `Memory` also where the sink couldn't take bytes. The sink may then have
+/// taken a part of the body.
+pub fn rewrite_flat_to<V: OpCheck, F: Fn(&usize) -> InstrLocId, S: ByteSink>(
+    module: &Module,
+    indices: &IndicesToIds,
+    id: FunctionId,
+    ty: TypeId,
+    args: &[LocalId],
+    body: FunctionBody<'_>,
+    on_instr_pos: Option<&F>,
+    validator: V,
+    out: &IdsToIndices,
+    scratch: &mut FlatScratch,
+    buffer: &mut Vec<u8>,
+    sink: &mut S,
+) -> Result<(), RewriteError>
+    requires offset { «module».now.code_section_offset ≤ body.start }
+    requires ops { body.ops ≤ length body.bytes.now }
+    requires fits { body.start + length body.bytes.now < 2 ^ 64 }
+    requires may_call { MayCall F.pre on_instr_pos (body.start + body.ops)
+        (body.start + length body.bytes.now) }
+    // The sink took what `rewrite_flat` appends to an empty list.
+    ensures rewritten { OnOk result ((raw : List ℕ) × S.takes sink.old sink.new raw
+        × RewritesFlat F.Fn (body_input «module».now indices.now id ty body.entry
+        on_instr_pos.entry V.check (V.state validator)) (record {
+          to = numbers_by «module».now.types out.now [];
+          types = «module».now.locals;
+          args = args.now;
+        }) {Z = Unit {0}} [] raw None (inl tt)) }
+    ensures refused { IfErr result (RefusesRewriting F.Fn (body_input «module».now indices.now
+        id ty body.entry on_instr_pos.entry V.check (V.state validator)) (record {
+          to = numbers_by «module».now.types out.now [];
+          types = «module».now.locals;
+          args = args.now;
+        })) }
+{
+    let alloc = *buffer.allocator();
+    let start = body.start + body.ops;
+    let ops = body.operators();
+    buffer.clear();
+    let bytes = list_to_write(buffer, alloc);
+    let none = Vec::new(alloc);
+    let made = write_body(
+        alloc,
+        module,
+        indices,
+        id,
+        ty,
+        args,
+        ops,
+        start,
+        on_instr_pos,
+        validator,
+        out,
+        bytes,
+        none,
+        false,
+        scratch,
+        sink,
+    );
+    finish_to(made, buffer, sink)
 }

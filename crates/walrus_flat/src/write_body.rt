@@ -7,6 +7,7 @@ ghost use Rattle.walrus_flat.specs.declared.sequences.Next.TheVariants.{Live as 
 ghost use Rattle.walrus_flat.specs.Writers.{env_at, numbers_in};
 ghost use Rattle.walrus_flat.specs.WrittenBody.{again, IsAccepted, WritesOperators, WritesNextAtOnce};
 
+use crate::byte_sink::ByteSink;
 use crate::cursor::Cursor;
 use crate::writer::Writer;
 use walrus_ir::InstrLocId;
@@ -31,6 +32,7 @@ fn location_at<F: Fn(&usize) -> InstrLocId>(
 
 /// Writes the next operator at once if it is one of the frequent control operators, as
 /// `write_at_once`, where what follows is written and no `else` waits.
+#[inline(always)]
 fn write_control(writer: &mut Writer<'_>, reader: &mut Cursor<'_>, location: InstrLocId) -> bool
     requires { writer.old.open.next ≡ LiveNext }
     ensures { WritesNextAtOnce reader.old reader.new writer.old writer.new location result }
@@ -68,13 +70,14 @@ fn write_at_once(writer: &mut Writer<'_>, reader: &mut Cursor<'_>, location: Ins
     true
 }
 
-/// Writes the operators of a checked body, of which none is written yet. It isn't inlined, so that
-/// what it calls may be.
+/// Writes the operators of a checked body, of which none is written yet. The sink takes the bytes
+/// while it does, but for the last ones. It isn't inlined, so that what it calls may be.
 #[inline(never)]
-pub(crate) fn write_operators<F: Fn(&usize) -> InstrLocId>(
+pub(crate) fn write_operators<F: Fn(&usize) -> InstrLocId, S: ByteSink>(
     writer: &mut Writer<'_>,
     reader: &mut Cursor<'_>,
     on_instr_pos: Option<&F>,
+    sink: &mut S,
 ) -> Result<(), EmitError>
     requires begins { state_of writer.old.open ≡ first_state }
     requires offset { writer.old.«module».now.code_section_offset ≤ reader.old.place }
@@ -84,9 +87,12 @@ pub(crate) fn write_operators<F: Fn(&usize) -> InstrLocId>(
         writer.old.«module».now.code_section_offset on_instr_pos) }
     ensures { WritesOperators F.Fn (again (env_at writer.old writer.old.ty) reader.old
         writer.old.«module».now.code_section_offset on_instr_pos.entry) (numbers_in writer.old)
-        writer.old.draft writer.new.draft result }
+        S.takes sink.old sink.new writer.old.draft writer.new.draft result }
 {
     while !reader.eof() {
+        if !writer.draft.pass_to(sink) {
+            return Err(EmitError::Memory);
+        }
         let at = reader.original_position();
         let Some(location) = location_at(on_instr_pos, at) else {
             return Err(EmitError::UnknownSequence);

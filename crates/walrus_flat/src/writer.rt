@@ -723,6 +723,7 @@ impl Writer<'_> {
     }
 
     /// Takes the next operator.
+    #[inline(always)]
     pub fn step(&mut self, operator: &Operator<'_>, location: InstrLocId) -> Result<(), EmitError>
         requires { IsWritable (meaning operator.now) }
         ensures { StepsWriter self.old self.new (meaning operator.now) location result }

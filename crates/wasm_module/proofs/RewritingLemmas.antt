@@ -1,5 +1,5 @@
 -- A body that is rewritten: what the contract of `rewrite_body` says about it.
-use Rattle.std.proofs.Common.{◌≡◌, ℕ, List, [], ◌++◌, slice_get, Option, None, Some, Result, Ok, Err, OnOk, IfOk, sym, ap, subst, ◌∙◌}
+use Rattle.std.proofs.Common.{◌≡◌, ℕ, List, [], ◌++◌, length, slice_get, Option, None, Some, Result, Ok, Err, OnOk, IfOk, sym, ap, subst, ◌∙◌}
 use Rattle.std.specs.Borrow.{Bor}
 use Rattle.std.specs.Fn.{Shared}
 use Rattle.walrus_ir.specs.declared.val_type.ValType.{ValType}
@@ -130,6 +130,20 @@ pub rewritten_ok :
     OnOk r (IsRewritten source function b raw)
 rewritten_ok source a function b raw (Ok x) e p = rewritten_then source a function b raw e p
 rewritten_ok source a function b raw (Err x) e p = tt
+
+-- of bytes of which something else is known
+pub rewritten_to :
+    {E R : Type 0} (source a : ParsedModule) (function : ℕ) (b : BodyAt) (goes : List ℕ → Type 0) (r : Result R E) → Extends source a →
+    OnOk r ((raw : List ℕ) × IsRewritten a function b raw × goes raw) → OnOk r ((raw : List ℕ) × IsRewritten source function b raw × goes raw)
+rewritten_to source a function b goes (Ok x) e p = (p.0, rewritten_then source a function b p.0 e p.1, p.2)
+rewritten_to source a function b goes (Err x) e p = tt
+
+-- of a number of bytes
+pub measured_then :
+    {E : Type 0} (source a : ParsedModule) (function : ℕ) (b : BodyAt) (r : Result ℕ E) → Extends source a →
+    IfOk r (λ len. (raw : List ℕ) × IsRewritten a function b raw × (len ≡ length raw)) → IfOk r (λ len. (raw : List ℕ) × IsRewritten source function b raw × (len ≡ length raw))
+measured_then source a function b (Ok len) e p = (p.0, rewritten_then source a function b p.0 e p.1, p.2)
+measured_then source a function b (Err x) e p = tt
 
 pub parsed_then :
     (source a now : ParsedModule) (function : ℕ) (b : BodyAt) (made : FunctionParts) → Extends source a → IsParsed a function b now made → IsParsed source function b now made

@@ -2,20 +2,13 @@
 use Rattle.std.proofs.Common.{◌≡◌, ℕ, ◌+◌, List, [], ◌∷◌, ◌++◌, length, Option, Some, None, Result, Ok, Err, IfOk, refl, sym, ap, subst, ◌∙◌, append_assoc, length-append, arith}
 use Rattle.std.proofs.lemmas.List.{append-nil}
 use Rattle.std.specs.Io.KnownBytes.{Appends}
+use Rattle.wasm_operators.specs.Shortest.{short_number}
+use Rattle.wasm_module.specs.CodeSections.{entry}
+use Rattle.wasm_module.specs.Pieces.{appends_nothing, appends_then}
 use Rattle.wasm_module.specs.Sections.{section}
 use Rattle.wasm_module.specs.WrittenModules.{Puts}
 
 -- ---- to a writer
-
-appends_nothing : (known : Option (List ℕ)) → Appends known known []
-appends_nothing None = tt
-appends_nothing (Some xs) = sym (append-nil xs)
-
-appends_then : (a b c : Option (List ℕ)) (first second : List ℕ) → Appends a b first → Appends b c second → Appends a c (first ++ second)
-appends_then None b c first second p q = tt
-appends_then (Some xs) None c first second p q = absurd p
-appends_then (Some xs) (Some ys) None first second p q = absurd q
-appends_then (Some xs) (Some ys) (Some zs) first second p q = q ∙ ap (λ (l : List ℕ). l ++ second) p ∙ append_assoc xs first second
 
 pub puts_nothing : (known : Option (List ℕ)) (at : ℕ) → Puts known known at at []
 puts_nothing known at = record { appends = appends_nothing known; end_is = omega arith }
@@ -30,6 +23,16 @@ puts_then a b c at middle end first second p q = record {
 
 pub puts_same : (a b : Option (List ℕ)) (at end : ℕ) (bytes others : List ℕ) → bytes ≡ others → Puts a b at end bytes → Puts a b at end others
 puts_same a b at end bytes others e p = subst (λ (l : List ℕ). Puts a b at end l) e p
+
+-- a size, which was counted before, and a body of this size
+pub puts_entry :
+    (a b c : Option (List ℕ)) (at start end len : ℕ) (raw : List ℕ) → Puts a b at start (short_number len) → len ≡ length raw → Appends b c raw → end ≡ start + len →
+    Puts a c at end (entry raw)
+puts_entry a b c at start end len raw sized count body is =
+    puts_then a b c at start end (short_number (length raw)) raw (puts_same a b at start (short_number len) (short_number (length raw)) (ap short_number count) sized) (record {
+      appends = body;
+      end_is = is ∙ ap (λ (n : ℕ). start + n) count;
+    })
 
 -- a section of these contents
 pub appends_section :

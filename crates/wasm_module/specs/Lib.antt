@@ -3,6 +3,8 @@ pub mod LocalsBelow
 -- the bytes of the operators of a body, and the meaning of its declarations
 pub mod Bodies
 pub mod Declarations
+-- what sinks of large bodies have to show
+pub mod Pieces
 -- the code section and its bodies, as they are read and as they are written; how a module may change while its bodies are
 -- rewritten (`Extends`), and a body that is parsed, rewritten or changed
 pub mod CodeSections

@@ -1,6 +1,6 @@
 //! Bodies of a module: how they are parsed, rewritten and written.
 
-ghost use Rattle.std.specs.Prelude.{OnOk, IfOk, IfErr};
+ghost use Rattle.std.specs.Prelude.{◌≡◌, ℕ, List, length, OnOk, IfOk, IfErr};
 ghost use Rattle.walrus_rewrite.specs.RawBodies.{emit_input, IsRawBodyOf};
 ghost use Rattle.wasm_module.specs.CodeSections.{body_at};
 ghost use Rattle.wasm_module.specs.RewrittenCode.{Extends, IsRewritten, IsParsed};
@@ -9,11 +9,12 @@ ghost use Rattle.wasm_module.specs.Refusals.{IsRefused, IsNotRewritten};
 use crate::body_context::BodyContext;
 use crate::code::Body;
 use crate::fault::{ModuleError, ModuleFault};
+use crate::large_bodies::Counter;
 use crate::locals::LocalsBelow;
 use crate::parsed::ParsedModule;
 use std::alloc::Global;
 use walrus_body::{EmitError, LocalFunction, ParseError};
-use walrus_flat::{FlatScratch, rewrite_flat};
+use walrus_flat::{ByteSink, FlatScratch, rewrite_flat, rewrite_flat_to};
 use walrus_ir::{Instr, InstrLocId};
 use walrus_rewrite::{RewriteError, append_raw_body_with_map, rewrite_body};
 
@@ -201,6 +202,103 @@ impl<'a> ParsedModule<'a> {
                 }
                 self.add_missing_types(body)?;
                 self.rewrite_flat_once_with_pairs(body, scratch)
+            }
+        }
+    }
+
+    /// Rewrites a body without its tree, as `rewrite_flat`, to a sink. Types that only one of its handlers
+    /// needs aren't added: `measure_flat` adds them.
+    ///
+    /// # Errors
+    ///
+    /// Those of `rewrite_flat`, and `Memory` where the sink couldn't take bytes. The sink may then have
+    /// taken a part of the body.
+    pub(crate) fn rewrite_flat_to<S: ByteSink>(
+        &mut self,
+        body: Body<'a>,
+        scratch: &mut Scratch,
+        sink: &mut S,
+    ) -> Result<(), ModuleError>
+        ensures extends { Extends self.old self.new }
+        ensures rewritten { OnOk result ((raw : List ℕ)
+            × IsRewritten self.old body.entry.func (body_at body.entry) raw
+            × S.takes sink.old sink.new raw) }
+        ensures refused { IfErr result
+            (IsNotRewritten self.old body.entry.func (body_at body.entry) self.new) }
+    {
+        let BodyContext {
+            ty,
+            args,
+            body: source,
+            locals,
+        } = self.enter(body)?;
+        let lists = self.spaces.local_lists();
+        let Scratch { flat, raw, .. } = scratch;
+        let rewritten = rewrite_flat_to(
+            &self.module,
+            &self.spaces.indices,
+            lists,
+            ty,
+            args.as_slice(),
+            source,
+            // A location is the operator's place in the file.
+            None::<&fn(&usize) -> InstrLocId>,
+            LocalsBelow(locals),
+            &self.spaces.numbers,
+            flat,
+            raw,
+            sink,
+        );
+        match rewritten {
+            Ok(()) => Ok(()),
+            Err(error) => Err(ModuleError::of_body(error, body.start())),
+        }
+    }
+
+    fn measure_flat_once(
+        &mut self,
+        body: Body<'a>,
+        scratch: &mut Scratch,
+    ) -> Result<usize, ModuleError>
+        ensures extends { Extends self.old self.new }
+        ensures measured { IfOk result (λ len. (raw : List ℕ)
+            × IsRewritten self.old body.entry.func (body_at body.entry) raw
+            × (len ≡ length raw)) }
+        ensures refused { IfErr result
+            (IsNotRewritten self.old body.entry.func (body_at body.entry) self.new) }
+    {
+        let mut counter = Counter { len: 0 };
+        match self.rewrite_flat_to(body, scratch, &mut counter) {
+            Ok(()) => Ok(counter.len),
+            Err(error) => Err(error),
+        }
+    }
+
+    /// The number of bytes of the raw body that `rewrite_flat` makes, which isn't in memory all at once.
+    ///
+    /// # Errors
+    ///
+    /// Those of `rewrite`.
+    pub(crate) fn measure_flat(
+        &mut self,
+        body: Body<'a>,
+        scratch: &mut Scratch,
+    ) -> Result<usize, ModuleError>
+        ensures extends { Extends self.old self.new }
+        ensures measured { IfOk result (λ len. (raw : List ℕ)
+            × IsRewritten self.old body.entry.func (body_at body.entry) raw
+            × (len ≡ length raw)) }
+        ensures refused { IfErr result
+            (IsNotRewritten self.old body.entry.func (body_at body.entry) self.new) }
+    {
+        match self.measure_flat_once(body, scratch) {
+            Ok(len) => Ok(len),
+            Err(error) => {
+                if !needs_type(&error) {
+                    return Err(error);
+                }
+                self.add_missing_types(body)?;
+                self.measure_flat_once(body, scratch)
             }
         }
     }

@@ -1,6 +1,6 @@
 //! How bodies are written, and how a caller changes their functions.
 
-ghost use Rattle.std.specs.Prelude.{ℕ, List, OnOk};
+ghost use Rattle.std.specs.Prelude.{◌≡◌, ℕ, List, length, OnOk, IfOk};
 ghost use Rattle.walrus_ir.specs.declared.val_type.ValType.{ValType as ValueType};
 ghost use Rattle.walrus_body.specs.FunctionParts.{FunctionParts};
 ghost use Rattle.wasm_module.specs.declared.parsed.ParsedModule.{ParsedModule as Parsed};
@@ -9,9 +9,10 @@ ghost use Rattle.wasm_module.specs.RewrittenCode.{Extends, IsRewritten};
 
 use crate::bodies::Scratch;
 use crate::code::Body;
-use crate::fault::ModuleError;
+use crate::fault::{ModuleError, ModuleFault};
 use crate::parsed::ParsedModule;
 use walrus_body::LocalFunction;
+use walrus_flat::ByteSink;
 use walrus_ir::ModuleLocals;
 
 /// What is needed of a body besides its bytes.
@@ -49,6 +50,58 @@ pub trait BodyWriter {
         ensures written { (source : Parsed) → Extends source parsed.old
             → OnOk result (writes self.now source body.entry.func (body_at body.entry)
             scratch.new.raw.items) };
+
+    /// The number of bytes of the raw body that is written for one of which nothing else is needed. It
+    /// is called for a large body before `write_large_body`.
+    ///
+    /// # Errors
+    ///
+    /// Why the module isn't written.
+    fn measure_large_body<'a>(
+        &self,
+        parsed: &mut ParsedModule<'a>,
+        body: Body<'a>,
+        scratch: &mut Scratch,
+    ) -> Result<usize, ModuleError>
+        ensures extends { OnOk result (Extends parsed.old parsed.new) }
+        ensures measured { (source : Parsed) → Extends source parsed.old
+            → IfOk result (λ len. (raw : List ℕ)
+            × writes self.now source body.entry.func (body_at body.entry) raw
+            × (len ≡ length raw)) }
+    {
+        self.write_body(parsed, body, Needed::Nothing, scratch)?;
+        Ok(scratch.raw.len())
+    }
+
+    /// Writes the raw body to a sink: at once, unless the implementation writes it in pieces.
+    ///
+    /// # Errors
+    ///
+    /// Why the module isn't written; `Memory` where the sink couldn't take bytes. It may then have taken a
+    /// part of the body.
+    fn write_large_body<'a, S: ByteSink>(
+        &self,
+        parsed: &mut ParsedModule<'a>,
+        body: Body<'a>,
+        scratch: &mut Scratch,
+        sink: &mut S,
+    ) -> Result<(), ModuleError>
+        ensures extends { OnOk result (Extends parsed.old parsed.new) }
+        ensures written { (source : Parsed) → Extends source parsed.old
+            → OnOk result ((raw : List ℕ)
+            × writes self.now source body.entry.func (body_at body.entry) raw
+            × S.takes sink.old sink.new raw) }
+    {
+        self.write_body(parsed, body, Needed::Nothing, scratch)?;
+        if sink.take(&mut scratch.raw) {
+            Ok(())
+        } else {
+            Err(ModuleError {
+                fault: ModuleFault::Memory,
+                at: body.start(),
+            })
+        }
+    }
 }
 
 /// Each body is rewritten as `walrus_rewrite::rewrite_body` does; without its tree, unless its
@@ -80,6 +133,25 @@ impl BodyWriter for Rewriting {
                 Err(error) => Err(error),
             },
         }
+    }
+
+    fn measure_large_body<'a>(
+        &self,
+        parsed: &mut ParsedModule<'a>,
+        body: Body<'a>,
+        scratch: &mut Scratch,
+    ) -> Result<usize, ModuleError> {
+        parsed.measure_flat(body, scratch)
+    }
+
+    fn write_large_body<'a, S: ByteSink>(
+        &self,
+        parsed: &mut ParsedModule<'a>,
+        body: Body<'a>,
+        scratch: &mut Scratch,
+        sink: &mut S,
+    ) -> Result<(), ModuleError> {
+        parsed.rewrite_flat_to(body, scratch, sink)
     }
 }
 

@@ -1,11 +1,12 @@
 //! The code section (WebAssembly core specification 3.0, binary format, code section).
 
-ghost use Rattle.std.specs.Prelude.{◌≡◌, ◌<◌, ◌+◌, ◌^◌, [], length, Ok, IfOk, OnOk};
+ghost use Rattle.std.specs.Prelude.{◌≡◌, ◌<◌, ◌+◌, ◌^◌, [], length, nat_lt, Ok, IfOk, OnOk};
 ghost use Rattle.wasm_numbers.specs.Numbers.{u32};
 ghost use Rattle.wasm_module.specs.CodeSections.{place_of, bytes_of};
 
 use crate::fault::ModuleError;
 use crate::input::Input;
+use crate::large_bodies::PIECE;
 use walrus_ir::FunctionId;
 
 /// The body of a function in the source: its declarations of locals, and its operators.
@@ -30,6 +31,13 @@ impl<'a> Body<'a> {
         ensures fits { result + length (bytes_of self.now) < 2 ^ 64 }
     {
         self.input.at()
+    }
+
+    /// Whether it is written in pieces.
+    pub(crate) fn is_large(&self) -> bool
+        ensures { result ≡ nat_lt PIECE (length (bytes_of self.now)) }
+    {
+        self.bytes().len() > PIECE
     }
 
     /// The function's id.

@@ -8,7 +8,7 @@ ghost use Rattle.wasm_module.specs.Sections.{section_at};
 ghost use Rattle.wasm_module.specs.WrittenModules.{new_contents_in, IsReplacedBy, IsCarriedOver, IsOmitted};
 
 use crate::bodies::Scratch;
-use crate::body_writer::{BodyWriter, Rewriting};
+use crate::body_writer::{BodyWriter, Needed, Rewriting};
 use crate::changes::Changes;
 use crate::code::Body;
 use crate::custom::{
@@ -145,6 +145,10 @@ impl<'a> ParsedModule<'a> {
         ensures { OnOk result (Extends self.old self.new) }
     {
         let needed = followers.reach(body.func)?;
+        if needed == Needed::Nothing && body.is_large() {
+            let large = bodies.measure_large_body(self, body, scratch)?;
+            return Ok(number_len(large).saturating_add(large));
+        }
         if let Some(function) = bodies.write_body(self, body, needed, scratch)? {
             followers.pass(self, body, &function, scratch)?;
         }

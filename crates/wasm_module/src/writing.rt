@@ -1,7 +1,7 @@
 //! Writing a module (WebAssembly core specification 3.0, binary format, modules): section by
 //! section, each unchanged, except those that are given new contents, and the code.
 
-ghost use Rattle.std.specs.Prelude.{◌≡◌, ◌+◌, ℕ, List, [], ◌∷◌, IfOk, OnOk};
+ghost use Rattle.std.specs.Prelude.{◌≡◌, ◌+◌, ℕ, List, [], ◌∷◌, length, IfOk, OnOk};
 ghost use Rattle.std.specs.Io.KnownBytes.{Appends};
 ghost use Rattle.wasm_operators.specs.Shortest.{short_number};
 ghost use Rattle.wasm_module.specs.declared.parsed.ParsedModule.{ParsedModule as Parsed};
@@ -15,6 +15,7 @@ use crate::body_writer::{BodyWriter, Needed};
 use crate::changes::Changes;
 use crate::code::{Bodies, Body};
 use crate::fault::{ModuleError, ModuleFault};
+use crate::large_bodies::Output;
 use crate::map_sink::{MapLines, MapSink, NoMap, WrittenBody};
 use crate::output::write_number;
 use crate::parsed::ParsedModule;
@@ -134,6 +135,74 @@ fn put_between<W: Write>(
 }
 
 impl<'a> ParsedModule<'a> {
+    /// Writes a large body of so many bytes in pieces.
+    fn put_in_pieces<B: BodyWriter, W: Write>(
+        &mut self,
+        bodies: &B,
+        body: Body<'a>,
+        scratch: &mut Scratch,
+        len: usize,
+        out: &mut W,
+    ) -> Result<(), WriteError>
+        ensures extends { OnOk result (Extends self.old self.new) }
+        ensures written { (source : Parsed) → Extends source self.old
+            → OnOk result ((raw : List ℕ)
+            × B.writes bodies.now source body.entry.func (body_at body.entry) raw
+            × (len ≡ length raw)
+            × Appends (W.contents out.old) (W.contents out.new) raw) }
+    {
+        let mut output = Output {
+            out,
+            len: 0,
+            error: None,
+        };
+        let written = bodies.write_large_body(self, body, scratch, &mut output);
+        let Output {
+            len: count,
+            error,
+            ..
+        } = output;
+        if let Some(error) = error {
+            return Err(WriteError::Io(error));
+        }
+        match written {
+            Ok(()) if count == len => Ok(()),
+            Ok(()) => Err(WriteError::from(ModuleError {
+                fault: ModuleFault::InconsistentChange,
+                at: body.start(),
+            })),
+            Err(error) => Err(WriteError::from(error)),
+        }
+    }
+
+    /// Writes the size of a large body, which is counted first, and the body in pieces.
+    fn put_large_body<B: BodyWriter, T: MapSink, W: Write>(
+        &mut self,
+        bodies: &B,
+        body: Body<'a>,
+        scratch: &mut Scratch,
+        sink: &mut T,
+        at: usize,
+        out: &mut W,
+    ) -> Result<usize, WriteError>
+        ensures extends { OnOk result (Extends self.old self.new) }
+        ensures written { (source : Parsed) → Extends source self.old
+            → IfOk result (λ end. (raw : List ℕ)
+            × B.writes bodies.now source body.entry.func (body_at body.entry) raw
+            × Puts (W.contents out.old) (W.contents out.new) at end (entry raw)) }
+    {
+        let len = bodies.measure_large_body(self, body, scratch)?;
+        let start = put_number(self.alloc, len, at, out)?;
+        let old_start = body.start();
+        sink.record_body(WrittenBody {
+            old_start,
+            start,
+            pairs: &[],
+        })?;
+        self.put_in_pieces(bodies, body, scratch, len, out)?;
+        place_after(start, len)
+    }
+
     /// Writes the size of a body, and the body.
     fn put_body<B: BodyWriter, T: MapSink, W: Write>(
         &mut self,
@@ -150,6 +219,9 @@ impl<'a> ParsedModule<'a> {
             × B.writes bodies.now source body.entry.func (body_at body.entry) raw
             × Puts (W.contents out.old) (W.contents out.new) at end (entry raw)) }
     {
+        if body.is_large() && !sink.needs_pairs() {
+            return self.put_large_body(bodies, body, scratch, sink, at, out);
+        }
         let needed = match sink.needs_pairs() {
             true => Needed::Pairs,
             false => Needed::Nothing,

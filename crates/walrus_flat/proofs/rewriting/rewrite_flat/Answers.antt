@@ -1,17 +1,13 @@
 use Rattle.std.proofs.Common.{◌≡◌, ◌≤◌, ◌<◌, ◌+◌, ◌^◌, ℕ, List, length, drop, true, false, refl, ap, subst, arith}
 use Rattle.std.specs.Prelude.{IfOk, IfErr, OnErr}
-use Rattle.std.proofs.lemmas.List.{length-drop}
 use Rattle.walrus_parser.specs.Bodies.{input_of, body_input}
 use Rattle.walrus_parser.specs.Locating.{MayCall}
 use Rattle.walrus_rewrite.specs.RewrittenBodies.{RefusesRewriting}
 use Rattle.wasm_body.specs.Pairs.{Pair}
 use Rattle.walrus_flat.specs.RewrittenFlat.{emit_input, Composes, Finishes, FinishesBoth}
-use Rattle.walrus_flat.proofs.FlatResults.{flat_with_map, flat_without_map, accepts_with_map, accepts_without_map, refused_with_map, refused_without_map, each_body, each_fault}
+use Rattle.walrus_flat.proofs.SinkLemmas.{if_in_memory}
+use Rattle.walrus_flat.proofs.FlatResults.{ends_there, flat_with_map, flat_without_map, accepts_with_map, accepts_without_map, refused_with_map, refused_without_map, each_body, each_fault}
 use Rattle.walrus_flat.proofs.rewriting.rewrite_flat.Goals as goal
-
--- the operators end where the body ends
-ends_there : (start ops : ℕ) (bytes rest : List ℕ) → ops ≤ length bytes → rest ≡ drop ops bytes → start + length bytes ≡ start + ops + length rest
-ends_there start ops bytes rest within e = omega (arith, length-drop ops bytes, ap length e)
 
 pub write_body-with_pairs-requires-clause-fits : goal.write_body-with_pairs-requires-clause-fits
 write_body-with_pairs-requires-clause-fits g c =
@@ -43,7 +39,7 @@ pub returns-in-Some-clause-rewritten : goal.returns-in-Some-clause-rewritten
 returns-in-Some-clause-rewritten g c =
     let a = c.args in
     let made = c.write_body-with_pairs.result in
-    let ok = subst (λ (xs : List ℕ). IfOk made (Composes g.F.Fn (input_of a.module.now a.indices.now a.id a.ty (a.body.start + a.body.ops) xs a.on_instr_pos g.V.OpCheck.check (g.V.OpCheck.state a.validator)) (emit_input a.module.now a.out.now a.args.now) true)) c.operators-ops.ensures c.write_body-with_pairs.ensures.ok in
+    let ok = subst (λ (xs : List ℕ). IfOk made (Composes g.F.Fn (input_of a.module.now a.indices.now a.id a.ty (a.body.start + a.body.ops) xs a.on_instr_pos g.V.OpCheck.check (g.V.OpCheck.state a.validator)) (emit_input a.module.now a.out.now a.args.now) true)) c.operators-ops.ensures (if_in_memory (Composes g.F.Fn (input_of a.module.now a.indices.now a.id a.ty (a.body.start + a.body.ops) c.operators-ops.result.now a.on_instr_pos g.V.OpCheck.check (g.V.OpCheck.state a.validator)) (emit_input a.module.now a.out.now a.args.now) true) _ _ made c.write_body-with_pairs.ensures.ok) in
     let err = subst (λ (xs : List ℕ). IfErr made (RefusesRewriting g.F.Fn (input_of a.module.now a.indices.now a.id a.ty (a.body.start + a.body.ops) xs a.on_instr_pos g.V.OpCheck.check (g.V.OpCheck.state a.validator)) (emit_input a.module.now a.out.now a.args.now))) c.operators-ops.ensures c.write_body-with_pairs.ensures.err in
     rw c.in-Some.is (flat_with_map g.F.Fn (body_input a.module.now a.indices.now a.id a.ty a.body a.on_instr_pos g.V.OpCheck.check (g.V.OpCheck.state a.validator)) (emit_input a.module.now a.out.now a.args.now) true made ok err a.dst.now.items c.finish_with_map.new.dst.items refl c.in-Some.list _ c.finish_with_map.result (subst (λ (xs : List ℕ). FinishesBoth made xs c.finish_with_map.new.dst.items c.in-Some.list.now.items c.finish_with_map.new.map.items c.finish_with_map.result) c.list_to_write-bytes.ensures.same (subst (λ (ps : List Pair). FinishesBoth made c.list_to_write-bytes.new.list.items c.finish_with_map.new.dst.items ps c.finish_with_map.new.map.items c.finish_with_map.result) c.list_to_write-pairs.ensures.same c.finish_with_map.ensures.finishes)))
 
@@ -51,7 +47,7 @@ pub returns-in-Some-clause-refused : goal.returns-in-Some-clause-refused
 returns-in-Some-clause-refused g c =
     let a = c.args in
     let made = c.write_body-with_pairs.result in
-    let ok = subst (λ (xs : List ℕ). IfOk made (Composes g.F.Fn (input_of a.module.now a.indices.now a.id a.ty (a.body.start + a.body.ops) xs a.on_instr_pos g.V.OpCheck.check (g.V.OpCheck.state a.validator)) (emit_input a.module.now a.out.now a.args.now) true)) c.operators-ops.ensures c.write_body-with_pairs.ensures.ok in
+    let ok = subst (λ (xs : List ℕ). IfOk made (Composes g.F.Fn (input_of a.module.now a.indices.now a.id a.ty (a.body.start + a.body.ops) xs a.on_instr_pos g.V.OpCheck.check (g.V.OpCheck.state a.validator)) (emit_input a.module.now a.out.now a.args.now) true)) c.operators-ops.ensures (if_in_memory (Composes g.F.Fn (input_of a.module.now a.indices.now a.id a.ty (a.body.start + a.body.ops) c.operators-ops.result.now a.on_instr_pos g.V.OpCheck.check (g.V.OpCheck.state a.validator)) (emit_input a.module.now a.out.now a.args.now) true) _ _ made c.write_body-with_pairs.ensures.ok) in
     let err = subst (λ (xs : List ℕ). IfErr made (RefusesRewriting g.F.Fn (input_of a.module.now a.indices.now a.id a.ty (a.body.start + a.body.ops) xs a.on_instr_pos g.V.OpCheck.check (g.V.OpCheck.state a.validator)) (emit_input a.module.now a.out.now a.args.now))) c.operators-ops.ensures c.write_body-with_pairs.ensures.err in
     refused_with_map g.F.Fn (body_input a.module.now a.indices.now a.id a.ty a.body a.on_instr_pos g.V.OpCheck.check (g.V.OpCheck.state a.validator)) (emit_input a.module.now a.out.now a.args.now) true made ok err a.dst.now.items c.finish_with_map.new.dst.items c.in-Some.list.now.items c.finish_with_map.new.map.items c.finish_with_map.result (subst (λ (xs : List ℕ). FinishesBoth made xs c.finish_with_map.new.dst.items c.in-Some.list.now.items c.finish_with_map.new.map.items c.finish_with_map.result) c.list_to_write-bytes.ensures.same (subst (λ (ps : List Pair). FinishesBoth made c.list_to_write-bytes.new.list.items c.finish_with_map.new.dst.items ps c.finish_with_map.new.map.items c.finish_with_map.result) c.list_to_write-pairs.ensures.same c.finish_with_map.ensures.finishes))
 
@@ -59,7 +55,7 @@ pub returns-in-Some-clause-each_body : goal.returns-in-Some-clause-each_body
 returns-in-Some-clause-each_body g c locations b both accepted =
     let a = c.args in
     let made = c.write_body-with_pairs.result in
-    let ok = subst (λ (xs : List ℕ). IfOk made (Composes g.F.Fn (input_of a.module.now a.indices.now a.id a.ty (a.body.start + a.body.ops) xs a.on_instr_pos g.V.OpCheck.check (g.V.OpCheck.state a.validator)) (emit_input a.module.now a.out.now a.args.now) true)) c.operators-ops.ensures c.write_body-with_pairs.ensures.ok in
+    let ok = subst (λ (xs : List ℕ). IfOk made (Composes g.F.Fn (input_of a.module.now a.indices.now a.id a.ty (a.body.start + a.body.ops) xs a.on_instr_pos g.V.OpCheck.check (g.V.OpCheck.state a.validator)) (emit_input a.module.now a.out.now a.args.now) true)) c.operators-ops.ensures (if_in_memory (Composes g.F.Fn (input_of a.module.now a.indices.now a.id a.ty (a.body.start + a.body.ops) c.operators-ops.result.now a.on_instr_pos g.V.OpCheck.check (g.V.OpCheck.state a.validator)) (emit_input a.module.now a.out.now a.args.now) true) _ _ made c.write_body-with_pairs.ensures.ok) in
     let err = subst (λ (xs : List ℕ). IfErr made (RefusesRewriting g.F.Fn (input_of a.module.now a.indices.now a.id a.ty (a.body.start + a.body.ops) xs a.on_instr_pos g.V.OpCheck.check (g.V.OpCheck.state a.validator)) (emit_input a.module.now a.out.now a.args.now))) c.operators-ops.ensures c.write_body-with_pairs.ensures.err in
     each_body g.F.Fn (body_input a.module.now a.indices.now a.id a.ty a.body a.on_instr_pos g.V.OpCheck.check (g.V.OpCheck.state a.validator)) (emit_input a.module.now a.out.now a.args.now) locations b both accepted c.finish_with_map.result (refused_with_map g.F.Fn (body_input a.module.now a.indices.now a.id a.ty a.body a.on_instr_pos g.V.OpCheck.check (g.V.OpCheck.state a.validator)) (emit_input a.module.now a.out.now a.args.now) true made ok err a.dst.now.items c.finish_with_map.new.dst.items c.in-Some.list.now.items c.finish_with_map.new.map.items c.finish_with_map.result (subst (λ (xs : List ℕ). FinishesBoth made xs c.finish_with_map.new.dst.items c.in-Some.list.now.items c.finish_with_map.new.map.items c.finish_with_map.result) c.list_to_write-bytes.ensures.same (subst (λ (ps : List Pair). FinishesBoth made c.list_to_write-bytes.new.list.items c.finish_with_map.new.dst.items ps c.finish_with_map.new.map.items c.finish_with_map.result) c.list_to_write-pairs.ensures.same c.finish_with_map.ensures.finishes)))
 
@@ -67,7 +63,7 @@ pub returns-in-Some-clause-each_fault : goal.returns-in-Some-clause-each_fault
 returns-in-Some-clause-each_fault g c locations f both fault =
     let a = c.args in
     let made = c.write_body-with_pairs.result in
-    let ok = subst (λ (xs : List ℕ). IfOk made (Composes g.F.Fn (input_of a.module.now a.indices.now a.id a.ty (a.body.start + a.body.ops) xs a.on_instr_pos g.V.OpCheck.check (g.V.OpCheck.state a.validator)) (emit_input a.module.now a.out.now a.args.now) true)) c.operators-ops.ensures c.write_body-with_pairs.ensures.ok in
+    let ok = subst (λ (xs : List ℕ). IfOk made (Composes g.F.Fn (input_of a.module.now a.indices.now a.id a.ty (a.body.start + a.body.ops) xs a.on_instr_pos g.V.OpCheck.check (g.V.OpCheck.state a.validator)) (emit_input a.module.now a.out.now a.args.now) true)) c.operators-ops.ensures (if_in_memory (Composes g.F.Fn (input_of a.module.now a.indices.now a.id a.ty (a.body.start + a.body.ops) c.operators-ops.result.now a.on_instr_pos g.V.OpCheck.check (g.V.OpCheck.state a.validator)) (emit_input a.module.now a.out.now a.args.now) true) _ _ made c.write_body-with_pairs.ensures.ok) in
     let err = subst (λ (xs : List ℕ). IfErr made (RefusesRewriting g.F.Fn (input_of a.module.now a.indices.now a.id a.ty (a.body.start + a.body.ops) xs a.on_instr_pos g.V.OpCheck.check (g.V.OpCheck.state a.validator)) (emit_input a.module.now a.out.now a.args.now))) c.operators-ops.ensures c.write_body-with_pairs.ensures.err in
     each_fault g.F.Fn (body_input a.module.now a.indices.now a.id a.ty a.body a.on_instr_pos g.V.OpCheck.check (g.V.OpCheck.state a.validator)) (emit_input a.module.now a.out.now a.args.now) locations f both fault c.finish_with_map.result (accepts_with_map g.F.Fn (body_input a.module.now a.indices.now a.id a.ty a.body a.on_instr_pos g.V.OpCheck.check (g.V.OpCheck.state a.validator)) (emit_input a.module.now a.out.now a.args.now) true made ok err a.dst.now.items c.finish_with_map.new.dst.items c.in-Some.list.now.items c.finish_with_map.new.map.items c.finish_with_map.result (subst (λ (xs : List ℕ). FinishesBoth made xs c.finish_with_map.new.dst.items c.in-Some.list.now.items c.finish_with_map.new.map.items c.finish_with_map.result) c.list_to_write-bytes.ensures.same (subst (λ (ps : List Pair). FinishesBoth made c.list_to_write-bytes.new.list.items c.finish_with_map.new.dst.items ps c.finish_with_map.new.map.items c.finish_with_map.result) c.list_to_write-pairs.ensures.same c.finish_with_map.ensures.finishes))) (refused_with_map g.F.Fn (body_input a.module.now a.indices.now a.id a.ty a.body a.on_instr_pos g.V.OpCheck.check (g.V.OpCheck.state a.validator)) (emit_input a.module.now a.out.now a.args.now) true made ok err a.dst.now.items c.finish_with_map.new.dst.items c.in-Some.list.now.items c.finish_with_map.new.map.items c.finish_with_map.result (subst (λ (xs : List ℕ). FinishesBoth made xs c.finish_with_map.new.dst.items c.in-Some.list.now.items c.finish_with_map.new.map.items c.finish_with_map.result) c.list_to_write-bytes.ensures.same (subst (λ (ps : List Pair). FinishesBoth made c.list_to_write-bytes.new.list.items c.finish_with_map.new.dst.items ps c.finish_with_map.new.map.items c.finish_with_map.result) c.list_to_write-pairs.ensures.same c.finish_with_map.ensures.finishes)))
 
@@ -79,7 +75,7 @@ pub returns-in-None-clause-rewritten : goal.returns-in-None-clause-rewritten
 returns-in-None-clause-rewritten g c =
     let a = c.args in
     let made = c.write_body-without.result in
-    let ok = subst (λ (xs : List ℕ). IfOk made (Composes g.F.Fn (input_of a.module.now a.indices.now a.id a.ty (a.body.start + a.body.ops) xs a.on_instr_pos g.V.OpCheck.check (g.V.OpCheck.state a.validator)) (emit_input a.module.now a.out.now a.args.now) false)) c.operators-ops.ensures c.write_body-without.ensures.ok in
+    let ok = subst (λ (xs : List ℕ). IfOk made (Composes g.F.Fn (input_of a.module.now a.indices.now a.id a.ty (a.body.start + a.body.ops) xs a.on_instr_pos g.V.OpCheck.check (g.V.OpCheck.state a.validator)) (emit_input a.module.now a.out.now a.args.now) false)) c.operators-ops.ensures (if_in_memory (Composes g.F.Fn (input_of a.module.now a.indices.now a.id a.ty (a.body.start + a.body.ops) c.operators-ops.result.now a.on_instr_pos g.V.OpCheck.check (g.V.OpCheck.state a.validator)) (emit_input a.module.now a.out.now a.args.now) false) _ _ made c.write_body-without.ensures.ok) in
     let err = subst (λ (xs : List ℕ). IfErr made (RefusesRewriting g.F.Fn (input_of a.module.now a.indices.now a.id a.ty (a.body.start + a.body.ops) xs a.on_instr_pos g.V.OpCheck.check (g.V.OpCheck.state a.validator)) (emit_input a.module.now a.out.now a.args.now))) c.operators-ops.ensures c.write_body-without.ensures.err in
     rw c.in-None.is (flat_without_map g.F.Fn (body_input a.module.now a.indices.now a.id a.ty a.body a.on_instr_pos g.V.OpCheck.check (g.V.OpCheck.state a.validator)) (emit_input a.module.now a.out.now a.args.now) false made ok err a.dst.now.items c.finish.new.dst.items _ c.finish.result (subst (λ (xs : List ℕ). Finishes made xs c.finish.new.dst.items c.finish.result) c.list_to_write-alone.ensures.same c.finish.ensures.finishes))
 
@@ -87,7 +83,7 @@ pub returns-in-None-clause-refused : goal.returns-in-None-clause-refused
 returns-in-None-clause-refused g c =
     let a = c.args in
     let made = c.write_body-without.result in
-    let ok = subst (λ (xs : List ℕ). IfOk made (Composes g.F.Fn (input_of a.module.now a.indices.now a.id a.ty (a.body.start + a.body.ops) xs a.on_instr_pos g.V.OpCheck.check (g.V.OpCheck.state a.validator)) (emit_input a.module.now a.out.now a.args.now) false)) c.operators-ops.ensures c.write_body-without.ensures.ok in
+    let ok = subst (λ (xs : List ℕ). IfOk made (Composes g.F.Fn (input_of a.module.now a.indices.now a.id a.ty (a.body.start + a.body.ops) xs a.on_instr_pos g.V.OpCheck.check (g.V.OpCheck.state a.validator)) (emit_input a.module.now a.out.now a.args.now) false)) c.operators-ops.ensures (if_in_memory (Composes g.F.Fn (input_of a.module.now a.indices.now a.id a.ty (a.body.start + a.body.ops) c.operators-ops.result.now a.on_instr_pos g.V.OpCheck.check (g.V.OpCheck.state a.validator)) (emit_input a.module.now a.out.now a.args.now) false) _ _ made c.write_body-without.ensures.ok) in
     let err = subst (λ (xs : List ℕ). IfErr made (RefusesRewriting g.F.Fn (input_of a.module.now a.indices.now a.id a.ty (a.body.start + a.body.ops) xs a.on_instr_pos g.V.OpCheck.check (g.V.OpCheck.state a.validator)) (emit_input a.module.now a.out.now a.args.now))) c.operators-ops.ensures c.write_body-without.ensures.err in
     refused_without_map g.F.Fn (body_input a.module.now a.indices.now a.id a.ty a.body a.on_instr_pos g.V.OpCheck.check (g.V.OpCheck.state a.validator)) (emit_input a.module.now a.out.now a.args.now) false made ok err a.dst.now.items c.finish.new.dst.items c.finish.result (subst (λ (xs : List ℕ). Finishes made xs c.finish.new.dst.items c.finish.result) c.list_to_write-alone.ensures.same c.finish.ensures.finishes)
 
@@ -95,7 +91,7 @@ pub returns-in-None-clause-each_body : goal.returns-in-None-clause-each_body
 returns-in-None-clause-each_body g c locations b both accepted =
     let a = c.args in
     let made = c.write_body-without.result in
-    let ok = subst (λ (xs : List ℕ). IfOk made (Composes g.F.Fn (input_of a.module.now a.indices.now a.id a.ty (a.body.start + a.body.ops) xs a.on_instr_pos g.V.OpCheck.check (g.V.OpCheck.state a.validator)) (emit_input a.module.now a.out.now a.args.now) false)) c.operators-ops.ensures c.write_body-without.ensures.ok in
+    let ok = subst (λ (xs : List ℕ). IfOk made (Composes g.F.Fn (input_of a.module.now a.indices.now a.id a.ty (a.body.start + a.body.ops) xs a.on_instr_pos g.V.OpCheck.check (g.V.OpCheck.state a.validator)) (emit_input a.module.now a.out.now a.args.now) false)) c.operators-ops.ensures (if_in_memory (Composes g.F.Fn (input_of a.module.now a.indices.now a.id a.ty (a.body.start + a.body.ops) c.operators-ops.result.now a.on_instr_pos g.V.OpCheck.check (g.V.OpCheck.state a.validator)) (emit_input a.module.now a.out.now a.args.now) false) _ _ made c.write_body-without.ensures.ok) in
     let err = subst (λ (xs : List ℕ). IfErr made (RefusesRewriting g.F.Fn (input_of a.module.now a.indices.now a.id a.ty (a.body.start + a.body.ops) xs a.on_instr_pos g.V.OpCheck.check (g.V.OpCheck.state a.validator)) (emit_input a.module.now a.out.now a.args.now))) c.operators-ops.ensures c.write_body-without.ensures.err in
     each_body g.F.Fn (body_input a.module.now a.indices.now a.id a.ty a.body a.on_instr_pos g.V.OpCheck.check (g.V.OpCheck.state a.validator)) (emit_input a.module.now a.out.now a.args.now) locations b both accepted c.finish.result (refused_without_map g.F.Fn (body_input a.module.now a.indices.now a.id a.ty a.body a.on_instr_pos g.V.OpCheck.check (g.V.OpCheck.state a.validator)) (emit_input a.module.now a.out.now a.args.now) false made ok err a.dst.now.items c.finish.new.dst.items c.finish.result (subst (λ (xs : List ℕ). Finishes made xs c.finish.new.dst.items c.finish.result) c.list_to_write-alone.ensures.same c.finish.ensures.finishes))
 
@@ -103,6 +99,6 @@ pub returns-in-None-clause-each_fault : goal.returns-in-None-clause-each_fault
 returns-in-None-clause-each_fault g c locations f both fault =
     let a = c.args in
     let made = c.write_body-without.result in
-    let ok = subst (λ (xs : List ℕ). IfOk made (Composes g.F.Fn (input_of a.module.now a.indices.now a.id a.ty (a.body.start + a.body.ops) xs a.on_instr_pos g.V.OpCheck.check (g.V.OpCheck.state a.validator)) (emit_input a.module.now a.out.now a.args.now) false)) c.operators-ops.ensures c.write_body-without.ensures.ok in
+    let ok = subst (λ (xs : List ℕ). IfOk made (Composes g.F.Fn (input_of a.module.now a.indices.now a.id a.ty (a.body.start + a.body.ops) xs a.on_instr_pos g.V.OpCheck.check (g.V.OpCheck.state a.validator)) (emit_input a.module.now a.out.now a.args.now) false)) c.operators-ops.ensures (if_in_memory (Composes g.F.Fn (input_of a.module.now a.indices.now a.id a.ty (a.body.start + a.body.ops) c.operators-ops.result.now a.on_instr_pos g.V.OpCheck.check (g.V.OpCheck.state a.validator)) (emit_input a.module.now a.out.now a.args.now) false) _ _ made c.write_body-without.ensures.ok) in
     let err = subst (λ (xs : List ℕ). IfErr made (RefusesRewriting g.F.Fn (input_of a.module.now a.indices.now a.id a.ty (a.body.start + a.body.ops) xs a.on_instr_pos g.V.OpCheck.check (g.V.OpCheck.state a.validator)) (emit_input a.module.now a.out.now a.args.now))) c.operators-ops.ensures c.write_body-without.ensures.err in
     each_fault g.F.Fn (body_input a.module.now a.indices.now a.id a.ty a.body a.on_instr_pos g.V.OpCheck.check (g.V.OpCheck.state a.validator)) (emit_input a.module.now a.out.now a.args.now) locations f both fault c.finish.result (accepts_without_map g.F.Fn (body_input a.module.now a.indices.now a.id a.ty a.body a.on_instr_pos g.V.OpCheck.check (g.V.OpCheck.state a.validator)) (emit_input a.module.now a.out.now a.args.now) false made ok err a.dst.now.items c.finish.new.dst.items c.finish.result (subst (λ (xs : List ℕ). Finishes made xs c.finish.new.dst.items c.finish.result) c.list_to_write-alone.ensures.same c.finish.ensures.finishes)) (refused_without_map g.F.Fn (body_input a.module.now a.indices.now a.id a.ty a.body a.on_instr_pos g.V.OpCheck.check (g.V.OpCheck.state a.validator)) (emit_input a.module.now a.out.now a.args.now) false made ok err a.dst.now.items c.finish.new.dst.items c.finish.result (subst (λ (xs : List ℕ). Finishes made xs c.finish.new.dst.items c.finish.result) c.list_to_write-alone.ensures.same c.finish.ensures.finishes))

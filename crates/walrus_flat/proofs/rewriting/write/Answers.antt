@@ -5,6 +5,7 @@ use Rattle.walrus_maps.specs.Environments.{environment_of}
 use Rattle.walrus_numbering.specs.NumberMaps.{numbers_by}
 use Rattle.walrus_parser.specs.Locating.{MayCall}
 use Rattle.walrus_flat.specs.UsedLocals.{entries_of}
+use Rattle.walrus_flat.specs.Sinks.{OfWhole}
 use Rattle.walrus_flat.specs.WrittenBody.{again, IsAccepted, WritesBody, RefusesWriting}
 use Rattle.walrus_flat.proofs.rewriting.write.Goals as goal
 
@@ -27,7 +28,7 @@ returns-in-Ok-write_operators-clause-ok g c =
     let a = c.args in
     let to = numbers_by a.module.now.types a.out.now (entries_of a.locals.now) in
     let new = c.write_operators.new.writer.draft in
-    subst (λ (p : Position). WritesBody g.F.Fn (again (environment_of a.module.now a.indices.now a.function a.ty) p a.module.now.code_section_offset a.on_instr_pos) to a.draft new) c.new-reader.ensures c.in-Ok-write_operators.ensures
+    subst (λ (p : Position). OfWhole g.S.ByteSink.takes a.sink.now c.write_operators.new.sink (WritesBody g.F.Fn (again (environment_of a.module.now a.indices.now a.function a.ty) p a.module.now.code_section_offset a.on_instr_pos) to a.draft) new) c.new-reader.ensures c.in-Ok-write_operators.ensures
 
 pub returns-in-Err-write_operators-clause-err : goal.returns-in-Err-write_operators-clause-err
 returns-in-Err-write_operators-clause-err g c =

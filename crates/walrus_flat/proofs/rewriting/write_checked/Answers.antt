@@ -6,6 +6,7 @@ use Rattle.walrus_emit_state.specs.TreeWriting.Drafts.{Drafted}
 use Rattle.walrus_flat.specs.UsedLocals.{entries_of}
 use Rattle.walrus_flat.specs.WrittenBody.{again, WritesBody}
 use Rattle.walrus_flat.specs.RewrittenFlat.{begun_draft, out_of_memory, not_begun, not_written}
+use Rattle.walrus_flat.proofs.SinkLemmas.{of_whole}
 use Rattle.walrus_flat.proofs.rewriting.write_checked.Goals as goal
 
 pub returns-in-Ok-write-clause-ok : goal.returns-in-Ok-write-clause-ok
@@ -14,13 +15,14 @@ returns-in-Ok-write-clause-ok g c =
     let declared = c.begin_body.new.bytes.items in
     let begun : c.new-draft.result ≡ begun_draft declared a.has_map =
     c.new-draft.ensures ∙ ap (λ (ps : List Pair). record { base = 0; has_map = a.has_map; output = record { bytes = declared; pairs = ps } }) (c.make_room_for.ensures.pairs ∙ c.requires.no_pairs) in
-    record {
+    of_whole g.S.ByteSink.takes a.sink.now c.write.new.sink c.in-Ok-write.written
+    (λ d writes. record {
       entries = entries_of c.in-Ok.numbers;
       declared = declared;
       begins = c.in-Ok.ensures.ok;
-      writes = subst (λ (d : Drafted). WritesBody g.F.Fn (again (environment_of a.module.now a.indices.now a.function a.ty) (record { rest = a.ops.now; place = a.start }) a.module.now.code_section_offset a.on_instr_pos)
-          (numbers_by a.module.now.types a.out.now (entries_of c.in-Ok.numbers)) d c.in-Ok-write.written) begun c.in-Ok-write.ensures.ok;
-    }
+      writes = subst (λ (first : Drafted). WritesBody g.F.Fn (again (environment_of a.module.now a.indices.now a.function a.ty) (record { rest = a.ops.now; place = a.start }) a.module.now.code_section_offset a.on_instr_pos)
+          (numbers_by a.module.now.types a.out.now (entries_of c.in-Ok.numbers)) first d) begun writes;
+    }) c.in-Ok-write.ensures.ok
 
 pub returns-in-Err-clause-err : goal.returns-in-Err-clause-err
 returns-in-Err-clause-err g c = not_begun c.in-Err.ensures.err

@@ -1,0 +1,39 @@
+use Rattle.std.proofs.Common.{◌≡◌, ◌≤◌, ◌<◌, ◌+◌, ◌^◌, ℕ, List, length, false, refl, subst, arith}
+use Rattle.std.specs.Prelude.{IfOk, IfErr}
+use Rattle.walrus_parser.specs.Bodies.{input_of, body_input}
+use Rattle.walrus_parser.specs.Locating.{MayCall}
+use Rattle.walrus_rewrite.specs.RewrittenBodies.{RefusesRewriting}
+use Rattle.walrus_flat.specs.Sinks.{OfWhole}
+use Rattle.walrus_flat.specs.RewrittenFlat.{emit_input, Composes}
+use Rattle.walrus_flat.proofs.FlatResults.{ends_there, flat_to, refused_to}
+use Rattle.walrus_flat.proofs.rewriting.rewrite_flat_to.Goals as goal
+
+pub write_body-made-requires-clause-fits : goal.write_body-made-requires-clause-fits
+write_body-made-requires-clause-fits g c =
+    let b = c.args.body in
+    subst (λ n. n < 2 ^ 64) (ends_there b.start b.ops b.bytes.now c.operators-ops.result.now c.requires.ops c.operators-ops.ensures) c.requires.fits
+
+pub write_body-made-requires-clause-offset : goal.write_body-made-requires-clause-offset
+write_body-made-requires-clause-offset g c = omega (arith, c.requires.offset)
+
+pub write_body-made-requires-clause-may_call : goal.write_body-made-requires-clause-may_call
+write_body-made-requires-clause-may_call g c =
+    let b = c.args.body in
+    subst (λ n. MayCall (λ f x. g.F.Fn.pre f (x, tt)) c.args.on_instr_pos (b.start + b.ops) n) (ends_there b.start b.ops b.bytes.now c.operators-ops.result.now c.requires.ops c.operators-ops.ensures) c.requires.may_call
+
+pub returns-clause-rewritten : goal.returns-clause-rewritten
+returns-clause-rewritten g c =
+    let a = c.args in
+    let made = c.write_body-made.result in
+    let middle = c.write_body-made.new.sink in
+    let takes = g.S.ByteSink.takes in
+    let ok = subst (λ (xs : List ℕ). IfOk made (OfWhole takes a.sink.now middle (Composes g.F.Fn (input_of a.module.now a.indices.now a.id a.ty (a.body.start + a.body.ops) xs a.on_instr_pos g.V.OpCheck.check (g.V.OpCheck.state a.validator)) (emit_input a.module.now a.out.now a.args.now) false))) c.operators-ops.ensures c.write_body-made.ensures.ok in
+    flat_to g.F.Fn (body_input a.module.now a.indices.now a.id a.ty a.body a.on_instr_pos g.V.OpCheck.check (g.V.OpCheck.state a.validator)) (emit_input a.module.now a.out.now a.args.now) takes a.sink.now middle c.finish_to.new.sink (g.met.S.ByteSink.one_by_one a.sink.now middle c.finish_to.new.sink) made ok c.finish_to.result c.finish_to.ensures
+
+pub returns-clause-refused : goal.returns-clause-refused
+returns-clause-refused g c =
+    let a = c.args in
+    let made = c.write_body-made.result in
+    let middle = c.write_body-made.new.sink in
+    let err = subst (λ (xs : List ℕ). IfErr made (RefusesRewriting g.F.Fn (input_of a.module.now a.indices.now a.id a.ty (a.body.start + a.body.ops) xs a.on_instr_pos g.V.OpCheck.check (g.V.OpCheck.state a.validator)) (emit_input a.module.now a.out.now a.args.now))) c.operators-ops.ensures c.write_body-made.ensures.err in
+    refused_to g.F.Fn (body_input a.module.now a.indices.now a.id a.ty a.body a.on_instr_pos g.V.OpCheck.check (g.V.OpCheck.state a.validator)) (emit_input a.module.now a.out.now a.args.now) (g.S.ByteSink.takes middle c.finish_to.new.sink) made err c.finish_to.result c.finish_to.ensures
