@@ -27,7 +27,8 @@ pub enum Needed {
 }
 
 /// How each body of a module is written. It is called twice for a body: in the first pass, to find
-/// its faults, its size and the new contents of custom sections, and in the second, to write it.
+/// its faults, its size and the new contents of custom sections, and in the second, to write it. A
+/// large one of which nothing else is needed is counted in both, and then written in pieces.
 pub trait BodyWriter {
     // For this body, of the function of the source with this index, these bytes are written.
     ghost writes: { Self → Parsed → ℕ → BodyAt → List ℕ → Type 0 };
