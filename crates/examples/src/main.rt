@@ -1,11 +1,13 @@
-//! `examples`: three tools to learn from. They are one program, since each program that is built
+//! `examples`: four tools to learn from. They are one program, since each program that is built
 //! links the libraries anew.
 //!
-//! It is run as `examples TOOL IN.wasm >OUT.wasm`, where TOOL is `wgc`, `wloops` or `wtrace`.
+//! It is run as `examples TOOL IN.wasm >OUT.wasm`, where TOOL is `wgc`, `wloops` or `wtrace`, or as
+//! `examples wone HEX`.
 #![tactic(auto)]
 
 mod wgc;
 mod wloops;
+mod wone;
 mod wtrace;
 
 use module_tools::{exit_code, filter, words};
@@ -17,7 +19,9 @@ use wtrace::Tracing;
 /// Says how the program is used.
 fn wrong_use(rt: &impl Eprint) -> ExitCode {
     // Where standard error can't be written, the status is all that is left.
-    let _ = eprintln!(rt; "usage: examples wgc|wloops|wtrace IN.wasm >OUT.wasm");
+    let _ = eprintln!(rt;
+        "usage: examples wgc|wloops|wtrace IN.wasm >OUT.wasm, or examples wone HEX"
+    );
     ExitCode::from(2)
 }
 
@@ -29,6 +33,7 @@ fn run_named(rt: &HostRuntime, words: &[String]) -> ExitCode {
     match name.as_str() {
         "wgc" => filter(rt, &Collecting, "wgc", 2),
         "wloops" => filter(rt, &Counting, "wloops", 2),
+        "wone" => wone::run(rt),
         "wtrace" => filter(rt, &Tracing, "wtrace", 2),
         _ => wrong_use(rt),
     }

@@ -1,11 +1,9 @@
 //! `wone`: one body, with a module and index maps of one's own.
 //!
-//! It is run as `wone HEX`, where HEX is the operators of a body in hexadecimal, with the last `end`:
+//! It is run as `examples wone HEX`, where HEX is the operators of a body in hexadecimal, with the last `end`:
 //! of a function that takes an i32 and returns one, and may call a helper of the same type. It lets
 //! the body first call a hook, which is imported, so that it comes before the others. It prints the
 //! new body with its declarations of locals, and then each operator's new place and its old one.
-#![tactic(auto)]
-
 ghost use Rattle.std.specs.Prelude.{◌≡◌};
 ghost use Rattle.walrus_body.specs.LocalFunctions.{HasEntry};
 ghost use Rattle.walrus_rewrite.specs.RewrittenBodies.{PlacesRise};
@@ -13,6 +11,7 @@ ghost use Rattle.walrus_rewrite.specs.RewrittenBodies.{PlacesRise};
 use anyhow::{Context, Result};
 use std::alloc::Global;
 use std::env;
+use std::process::ExitCode;
 use walrus_body::{AcceptAll, FunctionBody, IdsToIndices, IndexError, IndicesToIds, LocalFunction};
 use walrus_ir::{
     Call, FunctionId, IdHashSet, Instr, InstrLocId, LocalId, Module, ModuleLocals, ModuleTags,
@@ -89,9 +88,10 @@ fn write(rt: &(impl Print + AllocGlobal), module: &Module, function: &LocalFunct
     print(rt, encoder.bytes(), &pairs)
 }
 
-fn main(rt: HostRuntime) -> Result<()> {
+/// Changes the body that the word after the tool's name contains.
+fn change(rt: &HostRuntime) -> Result<()> {
     let alloc = rt.alloc();
-    let word = env::args(&rt)?.nth(1).context("usage: wone HEX")?;
+    let word = env::args(rt)?.nth(2).context("usage: wone HEX")?;
     let operators = hex::decode(alloc, word.as_str())?;
     let mut module = Module {
         types: ModuleTypes::new(alloc),
@@ -112,7 +112,19 @@ fn main(rt: HostRuntime) -> Result<()> {
         function.block_mut(entry).instrs.insert(0, call)?;
     }
     if function.has_entry() {
-        write(&rt, &module, &function)?;
+        write(rt, &module, &function)?;
     }
     Ok(())
+}
+
+/// Runs the tool, and returns the status. In a program of its own, `main` is `change`.
+pub(crate) fn run(rt: &HostRuntime) -> ExitCode {
+    match change(rt) {
+        Ok(()) => ExitCode::SUCCESS,
+        Err(error) => {
+            // Where standard error can't be written, the status is all that is left.
+            let _ = eprintln!(rt; "Error: {error:?}");
+            ExitCode::FAILURE
+        }
+    }
 }
