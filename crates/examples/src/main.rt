@@ -25,6 +25,17 @@ fn wrong_use(rt: &impl Eprint) -> ExitCode {
     ExitCode::from(2)
 }
 
+/// Prints the error of a tool, if it has one, and returns the status.
+fn status(rt: &impl Eprint, ended: anyhow::Result<()>) -> ExitCode {
+    match ended {
+        Ok(()) => ExitCode::SUCCESS,
+        Err(error) => {
+            let _ = eprintln!(rt; "Error: {error:?}");
+            ExitCode::FAILURE
+        }
+    }
+}
+
 /// Runs the tool that the first word names on the words after it.
 fn run_named(rt: &HostRuntime, words: &[String]) -> ExitCode {
     let Some(name) = words.first() else {
@@ -33,7 +44,7 @@ fn run_named(rt: &HostRuntime, words: &[String]) -> ExitCode {
     match name.as_str() {
         "wgc" => filter(rt, &Collecting, "wgc", 2),
         "wloops" => filter(rt, &Counting, "wloops", 2),
-        "wone" => wone::run(rt),
+        "wone" => status(rt, wone::change(rt)),
         "wtrace" => filter(rt, &Tracing, "wtrace", 2),
         _ => wrong_use(rt),
     }

@@ -11,7 +11,6 @@ ghost use Rattle.walrus_rewrite.specs.RewrittenBodies.{PlacesRise};
 use anyhow::{Context, Result};
 use std::alloc::Global;
 use std::env;
-use std::process::ExitCode;
 use walrus_body::{AcceptAll, FunctionBody, IdsToIndices, IndexError, IndicesToIds, LocalFunction};
 use walrus_ir::{
     Call, FunctionId, IdHashSet, Instr, InstrLocId, LocalId, Module, ModuleLocals, ModuleTags,
@@ -88,8 +87,8 @@ fn write(rt: &(impl Print + AllocGlobal), module: &Module, function: &LocalFunct
     print(rt, encoder.bytes(), &pairs)
 }
 
-/// Changes the body that the word after the tool's name contains.
-fn change(rt: &HostRuntime) -> Result<()> {
+/// Changes the body that the word after the tool's name contains. In a program of its own it is `main`.
+pub(crate) fn change(rt: &HostRuntime) -> Result<()> {
     let alloc = rt.alloc();
     let word = env::args(rt)?.nth(2).context("usage: wone HEX")?;
     let operators = hex::decode(alloc, word.as_str())?;
@@ -115,16 +114,4 @@ fn change(rt: &HostRuntime) -> Result<()> {
         write(rt, &module, &function)?;
     }
     Ok(())
-}
-
-/// Runs the tool, and returns the status. In a program of its own, `main` is `change`.
-pub(crate) fn run(rt: &HostRuntime) -> ExitCode {
-    match change(rt) {
-        Ok(()) => ExitCode::SUCCESS,
-        Err(error) => {
-            // Where standard error can't be written, the status is all that is left.
-            let _ = eprintln!(rt; "Error: {error:?}");
-            ExitCode::FAILURE
-        }
-    }
 }

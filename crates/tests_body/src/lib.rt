@@ -22,6 +22,7 @@ mod exceptions;
 mod facts;
 #[cfg(test)]
 mod function_text;
+#[cfg(test)]
 mod lent;
 #[cfg(test)]
 mod modules;
@@ -34,6 +35,7 @@ mod reading;
 mod recorder;
 #[cfg(test)]
 mod small_module;
+#[cfg(test)]
 mod validators;
 #[cfg(test)]
 mod walk;

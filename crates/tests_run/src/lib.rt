@@ -8,6 +8,7 @@
 
 #[cfg(test)]
 mod function_text;
+#[cfg(test)]
 mod locating;
 #[cfg(test)]
 mod long_runs;
@@ -17,6 +18,7 @@ mod named;
 mod nesting;
 #[cfg(test)]
 mod program;
+#[cfg(test)]
 mod read_back;
 #[cfg(test)]
 mod rewriting;
