@@ -1,6 +1,6 @@
 -- The loop over the operators of a body that is written while it is read again: what was written is what is written of the
 -- operators so far.
-use Rattle.std.proofs.Common.{◌≡◌, ℕ, ◌+◌, ◌-◌, ◌<◌, ◌≤◌, List, [], ◌∷◌, ◌++◌, length, map, Bool, true, false, Option, Some, None, Result, Ok, Err, refl, sym, ap, subst, ◌∙◌, arith}
+use Rattle.std.proofs.Common.{◌≡◌, ◌⊎◌, inl, inr, ℕ, zero, suc, ◌+◌, ◌-◌, ◌<◌, ◌≤◌, List, [], ◌∷◌, ◌++◌, length, map, Bool, true, false, Option, Some, None, Result, Ok, Err, refl, sym, ap, subst, ◌∙◌, arith}
 use Rattle.std.specs.Borrow.{Bor}
 use Rattle.std.specs.Fn.{Shared}
 use Rattle.std.proofs.lemmas.List.{map-append}
@@ -9,7 +9,9 @@ use Rattle.wasm_numbers.specs.declared.fault.ReadFault.{ReadFault}
 use Rattle.wasm_operators.specs.Operations.{RawOperation}
 use Rattle.wasm_operators.specs.Spelling.{Spells, read_operation}
 use Rattle.wasm_operators.proofs.ReadingBytes.{reading_agrees}
+use Rattle.wasm_ops.specs.Position.{Position}
 use Rattle.wasm_body.specs.declared.error.EmitError.{EmitError}
+use Rattle.wasm_body.specs.declared.error.EmitError.TheVariants.{Memory}
 use Rattle.wasm_body.specs.Bytes.{Numbers}
 use Rattle.wasm_body.specs.Control.{Marked, Control}
 use Rattle.wasm_body.specs.Frames.{Frame, function_frames}
@@ -26,11 +28,13 @@ use Rattle.wasm_body.proofs.Structure.ReadingTrees.{body_read}
 use Rattle.wasm_body.proofs.Parsing.ParseResults.{is_ok, front_over}
 use Rattle.wasm_body.proofs.Parsing.Parses.{Over}
 use Rattle.wasm_body.proofs.ReadBack.FrameNames.{named_of}
+use Rattle.walrus_maps.specs.Environments.{environment_of}
+use Rattle.walrus_numbering.specs.NumberMaps.{numbers_by}
+use Rattle.walrus_flat.specs.UsedLocals.{entries_of}
 use Rattle.walrus_parser.specs.Bodies.{ParseInput, setting_with}
 use Rattle.walrus_parser.specs.Locating.{MayCall, Locates, HasNoLocation}
 use Rattle.walrus_parser.specs.Settings.{operators_of}
 use Rattle.walrus_parser.proofs.Bodies.{is_whole, whole_mapping}
-use Rattle.walrus_parser.proofs.Mappings.{may_call_next}
 use Rattle.walrus_parser.proofs.ParsedSoFar.{begins, occurrence, progress-append}
 use Rattle.wasm_flat.specs.Flat.{Named, first_state, written_at, after, flat, numbered, IsWrittenSo}
 use Rattle.wasm_flat.specs.FlatLaws.{bare}
@@ -42,7 +46,7 @@ use Rattle.walrus_flat.specs.Checked.{marks}
 use Rattle.walrus_flat.specs.Laws.{written_of}
 use Rattle.walrus_flat.specs.Written.{drafted, state_of}
 use Rattle.walrus_flat.specs.Writers.{numbers_in, env_at, IsSameWriter, Takes, IsTaken, StepsWriter}
-use Rattle.walrus_flat.specs.WrittenBody.{some_locations, IsAccepted, WritesBody, RefusesWriting}
+use Rattle.walrus_flat.specs.WrittenBody.{some_locations, IsAccepted, WritesBody, RefusesWriting, WritesNumber, StopsWriting}
 use Rattle.walrus_flat.specs.Sinks.{IsLeft, OfWhole}
 use Rattle.walrus_flat.proofs.Drafts.{drafted-append}
 use Rattle.walrus_flat.proofs.SinkLemmas.{left_as_is, left_then, left_more}
@@ -92,6 +96,43 @@ record Took (m : Typing) (w new : Writer) (x : Marked Named) (k : Numbers) : Typ
 
 took : (m : Typing) (w new : Writer) (x : Marked Named) → Takes m w new x → Took m w new x (numbers_in w)
 took m w new x h = record { same = h.same; operators = h.operators; are_numbered = h.are_numbered; draft = h.draft; state_is = h.state_is }
+
+-- ---- the writer of the same body
+
+same_env : (first w : Writer) → IsSameWriter first w → env_at w w.ty ≡ env_at first first.ty
+same_env first w s = λ k. environment_of (s.«module» k).now (s.indices k).now (s.function k) (s.ty k)
+
+same_numbers : (first w : Writer) → IsSameWriter first w → numbers_in w ≡ numbers_in first
+same_numbers first w s = λ k. numbers_by (s.«module» k).now.types (s.out k).now (entries_of (s.locals k).now)
+
+-- ---- the bytes of some operators
+
+pub number_moves : {F : Type 0} (g : Shared F (Bor ℕ × Unit {0}) ℕ) (o : Option (Bor F)) (n : ℕ) (from to : Position) (old new : Writer) → WritesNumber g o n from to old new →
+    (to.place + length to.rest ≡ from.place + length from.rest) × (length to.rest ≤ length from.rest)
+number_moves g o zero from to old new h =
+    let place : to.place ≡ from.place = ap (λ (p : Position). p.place) h.0 in
+    let rest : length to.rest ≡ length from.rest = ap (λ (p : Position). length p.rest) h.0 in
+    (omega (arith, place, rest), omega (arith, rest))
+number_moves g o (suc n) from to old new h =
+    let before = number_moves g o n from h.0 old h.1 h.2 in
+    let next = h.3.moves in
+    (next.0 ∙ before.0, omega (arith, next.1, before.1))
+
+pub some_moves : {F : Type 0} (g : Shared F (Bor ℕ × Unit {0}) ℕ) (o : Option (Bor F)) (n : ℕ) (from to : Position) (old new : Writer) → WritesNumber g o (suc n) from to old new → length to.rest < length from.rest
+some_moves g o n from to old new h =
+    let before = number_moves g o n from h.0 old h.1 h.2 in
+    omega (arith, h.3.moves.1, before.1)
+
+pub some_number : {F : Type 0} (g : Shared F (Bor ℕ × Unit {0}) ℕ) (o : Option (Bor F)) (n : ℕ) (from to : Position) (old new : Writer) → WritesNumber g o n from to old new → length to.rest < length from.rest →
+    (m : ℕ) × WritesNumber g o (suc m) from to old new
+some_number g o zero from to old new h less =
+    let rest : length to.rest ≡ length from.rest = ap (λ (p : Position). length p.rest) h.0 in
+    absurd (omega (arith, rest, less))
+some_number g o (suc n) from to old new h less = (n, h)
+
+may_call_within : {F : Type 0} (pre : F → Bor ℕ → Type 0) (o : Option (Bor F)) (from to first last : ℕ) → from ≤ first → last ≤ to → MayCall pre o from to → MayCall pre o first last
+may_call_within pre None from to first last low high may = tt
+may_call_within pre (Some f) from to first last low high may = λ p least most. may p (omega arith) (omega arith)
 
 module _ {F S : Type 0} (g : Shared F (Bor ℕ × Unit {0}) ℕ) (i : ParseInput (Unit {0}) F) (first : Writer) (takes : S → S → List ℕ → Type 0) (start : S) where
   abbrev to : Numbers
@@ -174,11 +215,11 @@ module _ {F S : Type 0} (g : Shared F (Bor ℕ × Unit {0}) ℕ) (i : ParseInput
   -- ---- the next operator
 
   module _ (w : Writer) (sink : S) (place : ℕ) (rest : List ℕ) (so : WritesSoFar w sink place rest) where
-    pub may_call_here : (pre : F → Bor ℕ → Type 0) → MayCall pre i.on_instr_pos i.start (i.start + length i.bytes) → 0 < length rest → MayCall pre i.on_instr_pos place (place + 1)
-    may_call_here pre may some =
+    pub may_call_from_here : (pre : F → Bor ℕ → Type 0) → MayCall pre i.on_instr_pos i.start (i.start + length i.bytes) → MayCall pre i.on_instr_pos place (place + length rest)
+    may_call_from_here pre may =
         let r = so.left_of.reads in
         let at = r.place_is in
-        may_call_next pre i.on_instr_pos i.start (i.start + length i.bytes) place r.started (omega arith) may
+        may_call_within pre i.on_instr_pos i.start (i.start + length i.bytes) place (place + length rest) r.started (omega arith) may
 
     module _ (some : 0 < length rest) where
       abbrev next_one : NextOf g i locations so.accepted.body so.read so.its tt place rest so.left so.left_of.last so.left_of.end
@@ -304,3 +345,36 @@ module _ {F S : Type 0} (g : Shared F (Bor ℕ × Unit {0}) ℕ) (i : ParseInput
             draft = refl;
           };
         }
+
+  -- ---- some operators
+
+  module _ (env : env_at first first.ty ≡ i.environment) (sink : S) (from : Position) (w : Writer) (so : WritesSoFar w sink from.place from.rest) where
+    pub goes_over : (n : ℕ) (at : Position) (middle : Writer) → WritesNumber g i.on_instr_pos n from at w middle → WritesSoFar middle sink at.place at.rest
+    goes_over zero at middle h = subst (λ (p : Position). WritesSoFar middle sink p.place p.rest) (sym h.0) (still w middle sink from.place from.rest h.1 so)
+    goes_over (suc n) at middle h =
+        let before = h.0 in
+        let old = h.1 in
+        let s = h.3 in
+        let now = goes_over n before old h.2 in
+        let some : 0 < length before.rest = omega (arith, s.moves.1) in
+        goes_on old sink before.place before.rest now some s.operator at.rest s.text s.is_read s.spells s.location middle (same_env first old now.same ∙ env) (same_numbers first old now.same) s.step s.located at.place s.moves.0 s.moves.1
+
+    pub stops : (n : ℕ) (at : Position) (middle : Writer) (e : EmitError) → WritesNumber g i.on_instr_pos n from at w middle → StopsWriting g i.on_instr_pos at middle e → (e ≡ Memory) ⊎ RefusesWriting g i to e
+    stops n at middle e h s =
+        let now = goes_over n at middle h in
+        elim s.why [
+          | inl none ↦ absurd (unlocated middle sink at.place at.rest now s.some none)
+          | inr (inl fault) ↦ absurd (unreadable middle sink at.place at.rest now s.some fault.0 fault.1)
+          | inr (inr x) ↦ refused now x
+        ]
+      where
+        refused : WritesSoFar middle sink at.place at.rest → (operator : RawOperation) × (following : List ℕ) × (read_operation at.rest ≡ Ok (operator, following)) × ((text : List ℕ) × Spells operator text)
+            × ((location : ℕ) × (new : Writer) × StepsWriter middle new operator location (Err e)) →
+            (e ≡ Memory) ⊎ RefusesWriting g i to e
+        refused now x =
+            let env = same_env first middle now.same ∙ env in
+            let numbers = same_numbers first middle now.same in
+            elim (taken_here middle sink at.place at.rest now s.some x.0 x.1 x.3.0 x.2 x.3.1 x.4.0 x.4.1 env numbers (Err e) x.4.2) [
+              | inl memory ↦ inl memory
+              | inr fault ↦ inr (refuses middle sink at.place at.rest now s.some x.0 x.1 x.3.0 x.2 x.3.1 x.4.0 x.4.1 env numbers e fault)
+            ]

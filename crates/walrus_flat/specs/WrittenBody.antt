@@ -1,7 +1,8 @@
 -- What writing the operators of a body shows, which is read again.
-use Rattle.std.specs.Prelude.{◌≡◌, ◌⊎◌, ℕ, ◌+◌, List, length, Bool, true, false, Option, Some, None, Result, Ok, Err}
+use Rattle.std.specs.Prelude.{◌≡◌, ◌⊎◌, ℕ, zero, suc, ◌+◌, ◌<◌, List, length, Bool, true, false, Option, Some, None, Result, Ok, Err}
 use Rattle.std.specs.Borrow.{Bor}
 use Rattle.std.specs.Fn.{Shared}
+use Rattle.wasm_numbers.specs.declared.fault.ReadFault.{ReadFault}
 use Rattle.wasm_operators.specs.Operations.{RawOperation}
 use Rattle.wasm_operators.specs.Meaning.{Listed, meaning}
 use Rattle.wasm_operators.specs.Spelling.{Spells, read_operation}
@@ -15,6 +16,7 @@ use Rattle.wasm_body.specs.Parsing.Accepted.{Accepted}
 use Rattle.wasm_body.specs.Translation.{Located}
 use Rattle.walrus_parser.specs.Bodies.{ParseInput, setting_with, operators_input, mapped_by, operators_parsed}
 use Rattle.walrus_parser.specs.Settings.{operators_of, IsMapping}
+use Rattle.walrus_parser.specs.Locating.{Locates, HasNoLocation}
 use Rattle.walrus_emit_state.specs.TreeWriting.Drafts.{Drafted}
 use Rattle.walrus_flat.specs.declared.writer.Writer.{Writer}
 use Rattle.walrus_flat.specs.Writers.{StepsWriter}
@@ -41,6 +43,37 @@ abbrev pub WritesNextAtOnce : Position → Position → Writer → Writer → (l
 WritesNextAtOnce from to old new location true =
     (x : Listed) × (read_operation from.rest ≡ Ok (meaning x, to.rest)) × ((text : List ℕ) × Spells (meaning x) text) × IsAfter from to × StepsWriter old new (meaning x) location (Ok tt)
 WritesNextAtOnce from to old new location false = (to ≡ from) × (new ≡ old)
+
+-- Some operators of a body that is read again, each at its location.
+module _ {F : Type 0} (g : Shared F (Bor ℕ × Unit {0}) ℕ) (on_instr_pos : Option (Bor F)) where
+  -- The next operator was written or skipped.
+  pub record WritesNext (from to : Position) (old new : Writer) : Type 0 where
+    pub operator : RawOperation
+    pub is_read : read_operation from.rest ≡ Ok (operator, to.rest)
+    pub text : List ℕ
+    pub spells : Spells operator text
+    pub moves : IsAfter from to
+    pub location : ℕ
+    pub located : Locates g on_instr_pos from.place location
+    pub step : StepsWriter old new operator location (Ok tt)
+
+  -- So were this number of operators.
+  abbrev pub WritesNumber : (number : ℕ) → Position → Position → Writer → Writer → Type 0
+  WritesNumber zero from to old new = (to ≡ from) × (new ≡ old)
+  WritesNumber (suc n) from to old new = (at : Position) × (middle : Writer) × WritesNumber n from at old middle × WritesNext at to middle new
+
+  -- The next operator wasn't, for this error: it has no location or can't be read, or the writer refused it.
+  pub record StopsWriting (from : Position) (old : Writer) (e : EmitError) : Type 0 where
+    pub some : 0 < length from.rest
+    pub why :
+        HasNoLocation on_instr_pos from.place
+        ⊎ (((fault : ReadFault) × (read_operation from.rest ≡ Err fault))
+        ⊎ ((operator : RawOperation) × (following : List ℕ) × (read_operation from.rest ≡ Ok (operator, following)) × ((text : List ℕ) × Spells operator text) × ((location : ℕ) × (new : Writer) × StepsWriter old new operator location (Err e))))
+
+  -- Some operators were written, at least one; or all before one that wasn't.
+  abbrev pub WritesSome : (from to : Position) → (old new : Writer) → Result (Unit {0}) EmitError → Type 0
+  WritesSome from to old new (Ok u) = (n : ℕ) × WritesNumber (suc n) from to old new
+  WritesSome from to old new (Err e) = (n : ℕ) × (at : Position) × (middle : Writer) × WritesNumber n from at old middle × StopsWriting at middle e
 
 module _ {F : Type 0} (g : Shared F (Bor ℕ × Unit {0}) ℕ) (i : ParseInput (Unit {0}) F) (to : Numbers) where
   -- What is written of the body was written, with the locations that the caller's function returned.

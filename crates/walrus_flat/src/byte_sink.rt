@@ -7,7 +7,7 @@ pub trait ByteSink {
     // From this state it took these bytes, one piece after the other, and is in that one.
     ghost takes: { Self → Self → List ℕ → Type 0 };
 
-    /// How many bytes a list may have before they are taken.
+    /// How many bytes of a source are read before what is written of them is taken, or all.
     const MOST: usize;
 
     /// Takes the bytes out of a list, which keeps its memory. Returns whether it did; if not, the

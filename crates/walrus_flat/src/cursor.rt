@@ -60,6 +60,14 @@ impl<'a> Cursor<'a> {
         self.rest.is_empty()
     }
 
+    /// How many bytes remain.
+    #[inline(always)]
+    pub fn bytes_remaining(&self) -> usize
+        ensures { result ≡ length self.now.rest }
+    {
+        self.rest.len()
+    }
+
     /// The place of the first remaining byte.
     #[inline(always)]
     pub fn original_position(&self) -> usize

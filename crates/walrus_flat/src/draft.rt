@@ -187,13 +187,14 @@ impl Draft {
         Ok(())
     }
 
-    /// Lets a sink take the bytes where they are more than it leaves in a list. It takes none where
-    /// pairs are kept, since places count from the first byte. Returns whether it did what it should.
+    /// Lets a sink take the bytes, unless it takes them after all of the source is read. It takes none
+    /// where pairs are kept, since places count from the first byte. Returns whether it did what it
+    /// should.
     #[inline(always)]
     pub fn pass_to<S: ByteSink>(&mut self, sink: &mut S) -> bool
         ensures { OnTrue result (IsLeft S.takes sink.old sink.new self.old self.new) }
     {
-        if self.bytes.len() <= S::MOST || self.has_map {
+        if S::MOST == usize::MAX || self.has_map {
             return true;
         }
         sink.take(&mut self.bytes)

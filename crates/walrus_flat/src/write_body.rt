@@ -1,11 +1,11 @@
 //! The second pass: a body that was checked is read again, and written.
-ghost use Rattle.std.specs.Prelude.{◌≡◌, ◌≤◌, ◌+◌, length, MatchOption};
+ghost use Rattle.std.specs.Prelude.{◌≡◌, ◌≤◌, ◌<◌, ◌+◌, length, MatchOption};
 ghost use Rattle.walrus_parser.specs.Locating.{MayCall, Locates, HasNoLocation};
 ghost use Rattle.wasm_flat.specs.Flat.{first_state};
 ghost use Rattle.walrus_flat.specs.Written.{state_of};
 ghost use Rattle.walrus_flat.specs.declared.sequences.Next.TheVariants.{Live as LiveNext};
 ghost use Rattle.walrus_flat.specs.Writers.{env_at, numbers_in};
-ghost use Rattle.walrus_flat.specs.WrittenBody.{again, IsAccepted, WritesOperators, WritesNextAtOnce};
+ghost use Rattle.walrus_flat.specs.WrittenBody.{again, IsAccepted, WritesOperators, WritesNextAtOnce, WritesSome};
 
 use crate::byte_sink::ByteSink;
 use crate::cursor::Cursor;
@@ -70,9 +70,44 @@ fn write_at_once(writer: &mut Writer<'_>, reader: &mut Cursor<'_>, location: Ins
     true
 }
 
-/// Writes the operators of a checked body, of which none is written yet. The sink takes the bytes
-/// while it does, but for the last ones. It isn't inlined, so that what it calls may be.
+/// Writes the next operators of a checked body, until at most so many of its bytes remain. It isn't
+/// inlined and knows no sink, so that there is one for each location function and what it calls is
+/// inlined into it.
 #[inline(never)]
+fn write_some<F: Fn(&usize) -> InstrLocId>(
+    writer: &mut Writer<'_>,
+    reader: &mut Cursor<'_>,
+    on_instr_pos: Option<&F>,
+    remaining: usize,
+) -> Result<(), EmitError>
+    requires some { remaining < length reader.old.rest }
+    requires may_call { MayCall F.pre on_instr_pos reader.old.place
+        (reader.old.place + length reader.old.rest) }
+    ensures { WritesSome F.Fn on_instr_pos.entry reader.old reader.new writer.old writer.new result }
+{
+    while reader.bytes_remaining() > remaining {
+        let at = reader.original_position();
+        let Some(location) = location_at(on_instr_pos, at) else {
+            return Err(EmitError::UnknownSequence);
+        };
+        if write_at_once(writer, reader, location) {
+            continue;
+        }
+        let read = reader.read_other();
+        let operator = match &read {
+            Ok(operator) => operator,
+            Err(_) => return Err(EmitError::UnknownSequence),
+        };
+        match writer.step(operator, location) {
+            Ok(()) => {}
+            Err(fault) => return Err(fault),
+        }
+    }
+    Ok(())
+}
+
+/// Writes the operators of a checked body, of which none is written yet. The sink takes the bytes
+/// while it does, but for the last ones.
 pub(crate) fn write_operators<F: Fn(&usize) -> InstrLocId, S: ByteSink>(
     writer: &mut Writer<'_>,
     reader: &mut Cursor<'_>,
@@ -93,19 +128,8 @@ pub(crate) fn write_operators<F: Fn(&usize) -> InstrLocId, S: ByteSink>(
         if !writer.draft.pass_to(sink) {
             return Err(EmitError::Memory);
         }
-        let at = reader.original_position();
-        let Some(location) = location_at(on_instr_pos, at) else {
-            return Err(EmitError::UnknownSequence);
-        };
-        if write_at_once(writer, reader, location) {
-            continue;
-        }
-        let read = reader.read_other();
-        let operator = match &read {
-            Ok(operator) => operator,
-            Err(_) => return Err(EmitError::UnknownSequence),
-        };
-        match writer.step(operator, location) {
+        let others = reader.bytes_remaining().saturating_sub(1);
+        match write_some(writer, reader, on_instr_pos, others.saturating_sub(S::MOST)) {
             Ok(()) => {}
             Err(fault) => return Err(fault),
         }
