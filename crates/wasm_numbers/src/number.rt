@@ -10,7 +10,6 @@ use crate::fault::ReadFault;
 
 /// The value of the last byte of an unsigned number, with this many bits left.
 #[inline(always)]
-#[tactic(auto, using(crate::proofs::Powers::powers))]
 fn last_unsigned(bits: u32, byte: u8) -> Option<u64>
     requires { byte < 128 }
     ensures gives { result ≡ unsigned_last bits byte }
@@ -105,7 +104,6 @@ fn read_unsigned(bits: u32, bytes: &[u8]) -> Result<(u64, &[u8]), ReadFault>
 /// # Errors
 ///
 /// Those of `read_u32`.
-#[tactic(auto, using(crate::proofs::Powers::powers), unfolding(crate::specs::Numbers::integer))]
 pub fn read_signed(bits: u32, bytes: &[u8]) -> Result<(i64, &[u8]), ReadFault>
     requires some { 0 < bits }
     requires wide { bits ≤ 64 }
@@ -276,7 +274,6 @@ pub fn read_s64(bytes: &[u8]) -> Result<(i64, &[u8]), ReadFault>
 /// specification 3.0, binary format, values). Returns it and the bytes that follow. The number is
 /// the same as a `u32` and as a `u64`.
 #[inline(always)]
-#[tactic(auto, using(crate::proofs::Powers::powers), unfolding(crate::specs::Numbers::integer))]
 fn read_short_unsigned(bytes: &[u8]) -> Option<(u32, &[u8])>
     ensures short { IfSome result (λ x. a_u32 bytes.now ≡ Ok (x.0, x.1.now)) }
     ensures long { IfSome result (λ x. a_u64 bytes.now ≡ Ok (x.0, x.1.now)) }
@@ -322,7 +319,6 @@ fn wide_last_signed(byte: u8) -> i64
 /// Reads a signed number of up to three bytes at the front, if there is one. Returns it and the
 /// bytes that follow.
 #[inline(always)]
-#[tactic(auto, using(crate::proofs::Powers::powers), unfolding(crate::specs::Numbers::integer))]
 fn read_short_signed(bytes: &[u8]) -> Option<(i64, &[u8])>
     ensures short { IfSome result (λ x. an_s32 bytes.now ≡ Ok (x.0, x.1.now)) }
     ensures long { IfSome result (λ x. an_s64 bytes.now ≡ Ok (x.0, x.1.now)) }
@@ -374,7 +370,6 @@ fn read_short_s64(bytes: &[u8]) -> Option<(i64, &[u8])>
 /// Reads an unsigned number of one or two bytes at the front, if there is one of this many bits.
 /// Returns it and the bytes that follow.
 #[inline(always)]
-#[tactic(auto, using(crate::proofs::Powers::powers), unfolding(crate::specs::Numbers::integer))]
 fn read_pair_unsigned(bits: u32, bytes: &[u8]) -> Option<(u64, &[u8])>
     requires long { 7 < bits }
     requires wide { bits ≤ 64 }
@@ -428,7 +423,6 @@ fn read_longer_unsigned(bits: u32, bytes: &[u8]) -> Option<(u64, &[u8])>
 /// Reads a signed number of one or two bytes at the front, if there is one of this many bits.
 /// Returns it and the bytes that follow.
 #[inline(always)]
-#[tactic(auto, using(crate::proofs::Powers::powers), unfolding(crate::specs::Numbers::integer))]
 fn read_pair_signed(bits: u32, bytes: &[u8]) -> Option<(i64, &[u8])>
     requires long { 7 < bits }
     requires wide { bits ≤ 64 }
