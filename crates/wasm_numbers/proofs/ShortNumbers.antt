@@ -1,8 +1,7 @@
 -- Reading numbers byte by byte: a last byte, and a byte before others.
-use Rattle.std.proofs.Common.{◌≡◌, ℕ, ◌+◌, ◌-◌, ◌^◌, ◌<◌, ◌≤◌, List, [], ◌∷◌, length, take, drop, slice_index_or, ◌*◌, ◌%◌, Some, None, Result, Ok, Err, refl, ap, sym, subst, ◌∙◌, ℤ, pos, ◌+ℤ◌, ◌-ℤ◌, ◌*ℤ◌, ◌≤ℤ◌, ◌<ℤ◌, arith}
+use Rattle.std.proofs.Common.{◌≡◌, ℕ, ◌+◌, ◌-◌, ◌^◌, ◌<◌, ◌≤◌, List, [], ◌∷◌, length, take, drop, slice_index_or, Some, None, Result, Ok, Err, refl, ap, sym, subst, ◌∙◌, ℤ, pos, ◌+ℤ◌, ◌-ℤ◌, ◌*ℤ◌, ◌≤ℤ◌, ◌<ℤ◌, arith}
 use mir.Syntax.{w64}
 use mir.Val.{of_z, to_z}
-use Rattle.std.proofs.lemmas.Nat.{one_shl}
 use Rattle.std.proofs.lemmas.Int.{ints}
 use Rattle.std.proofs.lemmas.List.{take_all}
 use Rattle.std.proofs.lemmas.Bool.{lt-ltb, le-ltb, lt-leb, le-leb}
@@ -11,20 +10,10 @@ use Rattle.wasm_numbers.specs.declared.fault.ReadFault.TheVariants.{Truncated, B
 use Rattle.wasm_numbers.specs.Numbers.{Encoding, integer, signed, unsigned_last, signed_last}
 use Rattle.wasm_numbers.proofs.Powers.{pow_64, pow_128, pow_top}
 
-pub unsigned_fits : (bits byte : ℕ) → byte < 2 ^ bits → unsigned_last bits byte ≡ Some byte
-unsigned_fits bits byte fits = rw (lt-ltb byte (2 ^ bits) fits) refl
-
-pub unsigned_refused : (bits byte : ℕ) → 2 ^ bits ≤ byte → unsigned_last bits byte ≡ None
-unsigned_refused bits byte great = rw (le-ltb byte (2 ^ bits) great) refl
-
-pub shifted : (bits : ℕ) → bits < 7 → 1 * 2 ^ bits % 256 ≡ 2 ^ bits
-shifted bits few = one_shl bits 8 (omega arith)
-
-pub below_wide : (bits byte : ℕ) → 7 ≤ bits → byte < 128 → byte < 2 ^ bits
-below_wide bits byte wide low = omega (arith, pow_128 bits wide)
-
 pub unsigned_wide : (bits byte : ℕ) → 7 ≤ bits → byte < 128 → unsigned_last bits byte ≡ Some byte
-unsigned_wide bits byte wide low = unsigned_fits bits byte (below_wide bits byte wide low)
+unsigned_wide bits byte wide low =
+    let fits : byte < 2 ^ bits = omega (arith, pow_128 bits wide) in
+    rw (lt-ltb byte (2 ^ bits) fits) refl
 
 pub last_low : (bits byte : ℕ) → 7 ≤ bits → byte < 64 → signed_last bits byte ≡ Some (pos byte)
 last_low bits byte wide low =

@@ -10,6 +10,7 @@ use crate::fault::ReadFault;
 
 /// The value of the last byte of an unsigned number, with this many bits left.
 #[inline(always)]
+#[tactic(auto, using(crate::proofs::Powers::powers))]
 fn last_unsigned(bits: u32, byte: u8) -> Option<u64>
     requires { byte < 128 }
     ensures gives { result ≡ unsigned_last bits byte }
