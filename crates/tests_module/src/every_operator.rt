@@ -1,7 +1,9 @@
 //! A module with a function for each operator.
-use crate::cases::{Query, found};
-use crate::texts::bytes_of;
+use crate::cases::{REWRITTEN, found};
+use crate::texts::push_bytes;
+use hex::FromHexError;
 use std::alloc::{AllocError, Global};
+use std::process::Abort;
 use std::test::Fail;
 
 /// The preamble and the types: from nothing to nothing, from an i32 to nothing, from two i32s to
@@ -111,88 +113,81 @@ fn push_number(out: &mut Vec<u8>, number: usize) -> Result<(), AllocError> {
     Ok(())
 }
 
-/// Appends a vector of bytes.
-fn push_bytes(out: &mut Vec<u8>, bytes: &[u8]) -> Result<(), AllocError> {
-    push_number(out, bytes.len())?;
-    out.extend_from_slice(bytes)
-}
-
-/// Appends a section with this id and these contents.
-fn push_section(module: &mut Vec<u8>, id: u8, contents: &[u8]) -> Result<(), AllocError> {
-    module.push(id)?;
-    push_bytes(module, contents)
-}
-
-/// Appends the bytes of hexadecimal text.
-fn push_text(module: &mut Vec<u8>, text: &str) -> Result<(), Fail> {
-    let bytes = bytes_of(*module.allocator(), text)?;
-    Ok(module.extend_from_slice(&bytes)?)
-}
-
-/// Appends the function section for this many functions.
+/// Appends the function section for this many functions, at least 128.
 fn push_functions(module: &mut Vec<u8>, count: usize) -> Result<(), AllocError> {
-    let mut types = Vec::new(*module.allocator());
-    push_number(&mut types, count)?;
+    module.push(3)?;
+    push_number(module, count.saturating_add(2))?;
+    push_number(module, count)?;
     for _ in 0..count {
-        types.push(TYPE)?;
-    }
-    push_section(module, 3, &types)
-}
-
-/// Appends the size of a body, and the body.
-fn push_body(code: &mut Vec<u8>, body: &str) -> Result<(), Fail> {
-    let body = hex::decode(*code.allocator(), body)?;
-    Ok(push_bytes(code, &body)?)
-}
-
-/// Appends the number of these bodies, and the bodies, with `nop` in place of the one with only a
-/// `nop`.
-fn push_bodies(code: &mut Vec<u8>, bodies: &str, nop: &str) -> Result<(), Fail> {
-    push_number(code, bodies.split(' ').count())?;
-    for body in bodies.split(' ') {
-        push_body(code, if body == NOP { nop } else { body })?;
+        module.push(TYPE)?;
     }
     Ok(())
 }
 
-/// Appends the code section of these bodies, with `nop` in place of the one with only a `nop`.
-fn push_code(module: &mut Vec<u8>, bodies: &str, nop: &str) -> Result<(), Fail> {
-    let mut code = Vec::new(*module.allocator());
-    push_bodies(&mut code, bodies, nop)?;
-    Ok(push_section(module, 10, &code)?)
+/// The body that is written in place of this one: `nop` in place of the one with only a `nop`.
+fn in_place<'i>(body: &'i str, nop: &'i str) -> &'i str {
+    if body == NOP { nop } else { body }
 }
 
-/// Appends the sections after the type section, with these bodies, and with `nop` in place of the
-/// one with only a `nop`.
-fn push_sections(module: &mut Vec<u8>, bodies: &str, nop: &str) -> Result<(), Fail> {
-    push_functions(module, bodies.split(' ').count())?;
-    push_text(module, STORAGE)?;
-    push_code(module, bodies, nop)?;
-    push_text(module, SEGMENTS)
+/// Appends the code section of these bodies, of which each takes less than 128 bytes.
+fn push_code(module: &mut Vec<u8>, count: usize, nop: &str) -> Result<(), FromHexError> {
+    let mut size: usize = 2;
+    for body in BODIES.split(' ') {
+        size = size.saturating_add(1 + in_place(body, nop).len() / 2);
+    }
+    push_number(module, 10)?;
+    push_number(module, size)?;
+    push_number(module, count)?;
+    for body in BODIES.split(' ') {
+        let body = in_place(body, nop);
+        push_number(module, body.len() / 2)?;
+        push_bytes(module, body)?;
+    }
+    Ok(())
 }
 
-/// The module with these bodies, and with `nop` in place of the one with only a `nop`.
-fn module_of(alloc: Global, bodies: &str, nop: &str) -> Result<Vec<u8>, Fail> {
-    let mut module = bytes_of(alloc, TYPES)?;
-    push_sections(&mut module, bodies, nop)?;
-    Ok(module)
+/// Appends the module of these bodies, with `nop` in place of the one with only a `nop`.
+fn push_module(module: &mut Vec<u8>, nop: &str) -> Result<(), FromHexError> {
+    let count = BODIES.split(' ').count();
+    push_bytes(module, TYPES)?;
+    push_functions(module, count)?;
+    push_bytes(module, STORAGE)?;
+    push_code(module, count, nop)?;
+    push_bytes(module, SEGMENTS)
+}
+
+/// The module with `nop` in place of the body with only a `nop`.
+fn module_of(alloc: Global, nop: &str) -> Result<Vec<u8>, FromHexError> {
+    let mut module = Vec::new(alloc);
+    match push_module(&mut module, nop) {
+        Ok(()) => Ok(module),
+        Err(error) => Err(error),
+    }
 }
 
 /// The module that is written for the one with this body in place of the one with only a `nop`.
 fn rewritten_with(alloc: Global, nop: &str) -> Result<String, Fail> {
-    let module = module_of(alloc, BODIES, nop)?;
-    found(alloc, Query::Rewritten, &module)
+    let module = module_of(alloc, nop)?;
+    found(alloc, REWRITTEN, &module)
+}
+
+fn check_rewritten(rt: &impl Abort, alloc: Global, nop: &str, expected: &str) -> Result<(), Fail> {
+    let found = rewritten_with(alloc, nop)?;
+    assert_eq!(rt; found.as_str(), expected, "with {nop}");
+    Ok(())
+}
+
+fn expected_text(alloc: Global) -> Result<String, Fail> {
+    Ok(hex::encode(alloc, module_of(alloc, NOTHING)?)?)
 }
 
 /// Each operator is written unchanged, except `nop`, which is dropped. The written module is
 /// written again unchanged.
 #[test]
 fn rewrites_every_operator(rt: HostRuntime) -> Result<(), Fail> {
-    let expected = module_of(rt.alloc(), BODIES, NOTHING)?;
-    let expected = hex::encode(rt.alloc(), expected)?;
+    let expected = expected_text(rt.alloc())?;
     for nop in [NOP, NOTHING] {
-        let found = rewritten_with(rt.alloc(), nop)?;
-        assert_eq!(rt; found.as_str(), expected.as_str(), "with {nop}");
+        check_rewritten(&rt, rt.alloc(), nop, &expected)?;
     }
     Ok(())
 }

@@ -1,12 +1,11 @@
 //! Functions that are imported besides those of a module: everything that names a function follows.
-use crate::cases::{Query, check, check_modules};
-use crate::texts::{fault_text, written_text};
-use crate::whole_modules::rewritten_text;
-use std::alloc::Global;
+use crate::cases::{Query, check};
+use crate::making::{Step, put_first};
+use crate::writing::{Change, Output};
 use std::test::Fail;
 use walrus_body::LocalFunction;
-use walrus_ir::{Call, FunctionId, Instr, InstrLocId, ModuleLocals, TypeId};
-use wasm_module::{ChangeFunction, Changes, ModuleError, ParsedModule, Rewriting, RewrittenModule};
+use walrus_ir::{Call, Const, FunctionId, Instr, ModuleLocals, Value};
+use wasm_module::{ChangeFunction, ModuleError};
 
 /// An imported function f, and two of the module's own, g and h, which return nothing and an i32.
 /// There are a table with elements `ref.func 2`, and a global `ref.func 1`. Exported are g, a table
@@ -54,11 +53,15 @@ const TRACED: &str =
     0a1e02 0900100110031a12000b 1201017f10012000044010020bd2021a20000b \
     0027046e616d65 0004036d6f64 010a03000166020167030168 0206010301000178 030601030100016c";
 
-/// Lets each function call a function, which takes and returns nothing, before all else.
-#[derive(Clone, Copy, Drop)]
-struct Trace(FunctionId);
+/// Lets each function call a function before all else: with this argument, and then its result is
+/// dropped; or one that takes and returns nothing.
+#[derive(Drop)]
+pub(crate) struct CallFirst {
+    pub(crate) func: FunctionId,
+    pub(crate) argument: Option<i32>,
+}
 
-impl ChangeFunction for Trace {
+impl ChangeFunction for CallFirst {
     // Nothing is said.
     ghost State = { Unit {0} };
 
@@ -72,157 +75,92 @@ impl ChangeFunction for Trace {
         function: &mut LocalFunction,
         _locals: &mut ModuleLocals,
     ) -> Result<(), ModuleError> {
-        if function.has_entry() {
-            let entry = function.entry_block();
-            let call = Instr::Call(Call { func: self.0 });
-            let instrs = &mut function.block_mut(entry).instrs;
-            instrs.insert(0, (call, InstrLocId::default()))?;
+        let call = Instr::Call(Call { func: self.func });
+        match self.argument {
+            Some(argument) => {
+                let value = Value::I32(argument);
+                put_first(function, Instr::Drop)?;
+                put_first(function, call)?;
+                put_first(function, Instr::Const(Const { value }))?;
+            }
+            None => put_first(function, call)?,
         }
         Ok(())
     }
 }
 
-/// Imports functions `t.r` of the type with the index 0, and returns the id of the last.
-fn import(
-    parsed: &mut ParsedModule<'_>,
-    changes: &mut Changes,
-    count: usize,
-) -> Result<FunctionId, ModuleError> {
-    let mut last = FunctionId::new(0);
-    for _ in 0..count {
-        match parsed.import_function(changes, "t", "r", TypeId::new(0)) {
-            Ok(id) => last = id,
-            Err(error) => return Err(error),
-        }
-    }
-    Ok(last)
-}
+const ONE: &[Step<'static>] = &[Step::Import(0)];
 
-/// The module that is written with these changes, in hexadecimal; or its first fault.
-pub(crate) fn written_with(
-    alloc: Global,
-    parsed: &mut ParsedModule<'_>,
-    changes: Changes,
-) -> Result<String, Fail> {
-    match parsed.rewrite_with(Rewriting, changes) {
-        Ok(rewritten) => written_text(alloc, parsed, &rewritten),
-        Err(error) => fault_text(alloc, error),
-    }
-}
+const TWO: &[Step<'static>] = &[Step::Import(0), Step::Import(0)];
 
-/// The module with this number of imports, in hexadecimal; or its first fault.
-pub(crate) fn imported_text(
-    alloc: Global,
-    parsed: &mut ParsedModule<'_>,
-    count: usize,
-) -> Result<String, Fail> {
-    let mut changes = Changes::new(alloc);
-    match import(parsed, &mut changes, count) {
-        Ok(_) => written_with(alloc, parsed, changes),
-        Err(error) => fault_text(alloc, error),
-    }
-}
-
-/// The module with these changes where each function calls this one first, in hexadecimal; or its
-/// first fault.
-fn traced_with(
-    alloc: Global,
-    parsed: &mut ParsedModule<'_>,
-    function: FunctionId,
-    changes: Changes,
-) -> Result<String, Fail> {
-    match parsed.change_all(&mut Trace(function), changes) {
-        Ok(module) => written_text(alloc, parsed, &module),
-        Err(error) => fault_text(alloc, error),
-    }
-}
-
-/// The module where each function calls an import first, in hexadecimal; or its first fault.
-pub(crate) fn traced_text(alloc: Global, parsed: &mut ParsedModule<'_>) -> Result<String, Fail> {
-    let mut changes = Changes::new(alloc);
-    match import(parsed, &mut changes, 1) {
-        Ok(id) => traced_with(alloc, parsed, id, changes),
-        Err(error) => fault_text(alloc, error),
-    }
-}
-
-/// Imports a function, and forgets the changes.
-fn import_in_vain(alloc: Global, parsed: &mut ParsedModule<'_>) -> Result<(), ModuleError> {
-    let mut changes = Changes::new(alloc);
-    match import(parsed, &mut changes, 1) {
-        Ok(_) => Ok(()),
-        Err(error) => Err(error),
-    }
-}
-
-/// The module that is written without the changes that import a function.
-pub(crate) fn forgotten_text(alloc: Global, parsed: &mut ParsedModule<'_>) -> Result<String, Fail> {
-    match import_in_vain(alloc, parsed) {
-        Ok(()) => rewritten_text(alloc, parsed),
-        Err(error) => fault_text(alloc, error),
-    }
-}
-
-/// The module that is written as it was rewritten before a function is imported.
-fn late_with(
-    alloc: Global,
-    parsed: &mut ParsedModule<'_>,
-    rewritten: &RewrittenModule<'_, Rewriting>,
-) -> Result<String, Fail> {
-    match import_in_vain(alloc, parsed) {
-        Ok(()) => written_text(alloc, parsed, rewritten),
-        Err(error) => fault_text(alloc, error),
-    }
-}
-
-/// The module that was rewritten before a function was imported.
-pub(crate) fn late_text(alloc: Global, parsed: &mut ParsedModule<'_>) -> Result<String, Fail> {
-    match parsed.rewrite_all() {
-        Ok(rewritten) => late_with(alloc, parsed, &rewritten),
-        Err(error) => fault_text(alloc, error),
-    }
-}
+/// What is told of which module after functions are imported.
+const IMPORTED: [(Query<'static>, &str, &str); 10] = [
+    (
+        Query::Written(ONE, Change::With, Output::Module),
+        NAMES_FUNCTIONS,
+        ONE_IMPORTED,
+    ),
+    // No import section, and an export whose index takes two bytes.
+    (
+        Query::Written(ONE, Change::With, Output::Module),
+        "0061736d01000000 010401600000 03020100 0706010161008000 0a040102000b",
+        "0061736d01000000 010401600000 0207010174 01720000 03020100 0705010161 0001 \
+            0a040102000b",
+    ),
+    // An element segment with the index 127, which nothing has; a table is imported.
+    (
+        Query::Written(ONE, Change::With, Output::Module),
+        "0061736d01000000 010401600000 020901016d017401700001 0907010041000b017f",
+        "0061736d01000000 010401600000 020f02016d017401700001 017401720000 \
+            0908010041000b018001",
+    ),
+    (
+        Query::Written(TWO, Change::With, Output::Module),
+        NAMES_FUNCTIONS,
+        TWO_IMPORTED,
+    ),
+    (
+        Query::Written(ONE, Change::CallLast, Output::Module),
+        NAMES_FUNCTIONS,
+        TRACED,
+    ),
+    // Without functions that are imported, the module is rewritten.
+    (
+        Query::Written(&[], Change::With, Output::Module),
+        NAMES_FUNCTIONS,
+        NAMES_FUNCTIONS,
+    ),
+    // Other changes than those that import a function, or those that were made before, are refused.
+    (
+        Query::Written(ONE, Change::Rewrite, Output::Module),
+        NAMES_FUNCTIONS,
+        "InconsistentChange at 0",
+    ),
+    (
+        Query::Written(&[], Change::Rewrite, Output::Late),
+        NAMES_FUNCTIONS,
+        "InconsistentChange at 0",
+    ),
+    // A type that is no function type is refused.
+    (
+        Query::Written(ONE, Change::With, Output::Module),
+        "0061736d01000000 0103015f00",
+        "NotAFunctionType at 0",
+    ),
+    (
+        Query::Written(ONE, Change::With, Output::Module),
+        "0061736d01000000",
+        "NotAFunctionType at 0",
+    ),
+];
 
 /// Code, exports, the start function, elements, constant expressions, names and branch hints name
 /// the same functions as before. Indices that were spelt in more bytes than necessary are written in
 /// the fewest; an index that needs one byte more makes its section longer.
 #[test]
 fn imports_functions(rt: HostRuntime) -> Result<(), Fail> {
-    let one = [
-        (NAMES_FUNCTIONS, ONE_IMPORTED),
-        // No import section, and an export whose index takes two bytes.
-        (
-            "0061736d01000000 010401600000 03020100 0706010161008000 0a040102000b",
-            "0061736d01000000 010401600000 0207010174 01720000 03020100 0705010161 0001 \
-            0a040102000b",
-        ),
-        // An element segment with the index 127, which nothing has; a table is imported.
-        (
-            "0061736d01000000 010401600000 020901016d017401700001 0907010041000b017f",
-            "0061736d01000000 010401600000 020f02016d017401700001 017401720000 \
-            0908010041000b018001",
-        ),
-    ];
-    check_modules(&rt, rt.alloc(), Query::Imported(1), &one)?;
-    let two = [(NAMES_FUNCTIONS, TWO_IMPORTED)];
-    check_modules(&rt, rt.alloc(), Query::Imported(2), &two)?;
-    let traced = [(NAMES_FUNCTIONS, TRACED)];
-    check_modules(&rt, rt.alloc(), Query::Traced, &traced)
-}
-
-/// Without functions that are imported, the module is rewritten. Other changes than those that
-/// import a function, or those that were made before, are refused; and so is a type that is no
-/// function type.
-#[test]
-fn refuses_other_changes(rt: HostRuntime) -> Result<(), Fail> {
-    let none = [(NAMES_FUNCTIONS, NAMES_FUNCTIONS)];
-    check_modules(&rt, rt.alloc(), Query::Imported(0), &none)?;
-    let inconsistent = [(NAMES_FUNCTIONS, "InconsistentChange at 0")];
-    check(&rt, rt.alloc(), Query::Forgotten, &inconsistent)?;
-    check(&rt, rt.alloc(), Query::Late, &inconsistent)?;
-    let other = [
-        ("0061736d01000000 0103015f00", "NotAFunctionType at 0"),
-        ("0061736d01000000", "NotAFunctionType at 0"),
-    ];
-    check(&rt, rt.alloc(), Query::Imported(1), &other)
+    for (query, module, expected) in IMPORTED {
+        check(&rt, rt.alloc(), query, &[(module, expected)])?;
+    }
+    Ok(())
 }

@@ -13,6 +13,8 @@ mod every_operator;
 #[cfg(test)]
 mod importing;
 #[cfg(test)]
+mod making;
+#[cfg(test)]
 mod new_locals;
 #[cfg(test)]
 mod numbering;
@@ -21,3 +23,5 @@ pub mod texts;
 mod views;
 #[cfg(test)]
 mod whole_modules;
+#[cfg(test)]
+mod writing;

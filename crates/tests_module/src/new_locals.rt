@@ -1,24 +1,17 @@
 //! A change that adds locals.
-use crate::cases::{Query, check_modules};
-use crate::texts::{FOLLOWED, fault_text, written_text};
-use std::alloc::{AllocError, Global};
+use crate::cases::{Query, check};
+use crate::making::put_first;
+use crate::texts::FOLLOWED;
+use crate::writing::{Change, Output};
 use std::test::Fail;
 use walrus_body::LocalFunction;
-use walrus_ir::{Instr, InstrLocId, LocalGet, LocalId, ModuleLocals, ValType};
-use wasm_module::{ChangeFunction, Changes, ModuleError, ParsedModule};
+use walrus_ir::{Instr, LocalGet, ModuleLocals, ValType};
+use wasm_module::{ChangeFunction, ModuleError};
 
 /// Adds an i64 and an f32 to the locals of each function. Those with an even index first push and
 /// drop both, the i64 before the f32.
-#[derive(Clone, Copy, Drop)]
-struct NewLocals;
-
-/// Lets a sequence push a local and drop it, before all else.
-fn push_first(instrs: &mut Vec<(Instr, InstrLocId)>, local: LocalId) -> Result<(), AllocError> {
-    let nowhere = InstrLocId::default();
-    instrs.insert(0, (Instr::Drop, nowhere))?;
-    instrs.insert(0, (Instr::LocalGet(LocalGet { local }), nowhere))?;
-    Ok(())
-}
+#[derive(Drop)]
+pub(crate) struct NewLocals;
 
 impl ChangeFunction for NewLocals {
     ghost use Rattle.std.specs.Prelude.{◌≡◌, ◌++◌, [], ◌∷◌};
@@ -39,11 +32,11 @@ impl ChangeFunction for NewLocals {
     ) -> Result<(), ModuleError> {
         let i64 = locals.add(ValType::I64)?;
         let f32 = locals.add(ValType::F32)?;
-        if index % 2 == 0 && function.has_entry() {
-            let entry = function.entry_block();
-            let instrs = &mut function.block_mut(entry).instrs;
-            push_first(instrs, f32)?;
-            push_first(instrs, i64)?;
+        if index % 2 == 0 {
+            for local in [f32, i64] {
+                put_first(function, Instr::Drop)?;
+                put_first(function, Instr::LocalGet(LocalGet { local }))?;
+            }
         }
         Ok(())
     }
@@ -59,17 +52,6 @@ const FOLLOWED_WITH_LOCALS: &str =
     004f046e616d650004036d6f64010a0300016601016702016802180300010003696d7001030001700101620201\
     610201000179031601010300056f757465720104636f6e6402046c617374040401010176 \
     001710736f757263654d617070696e6755524c05782e6d6170";
-
-/// The module with the new locals, in hexadecimal; or its first fault.
-pub(crate) fn with_locals_text(
-    alloc: Global,
-    parsed: &mut ParsedModule<'_>,
-) -> Result<String, Fail> {
-    match parsed.change_all(&mut NewLocals, Changes::new(alloc)) {
-        Ok(module) => written_text(alloc, parsed, &module),
-        Err(error) => fault_text(alloc, error),
-    }
-}
 
 /// The locals of a function are declared by type, and those of one type in the order of their ids,
 /// so that new ones follow its own; one that it doesn't use isn't declared. Names of locals follow.
@@ -93,5 +75,6 @@ fn adds_locals(rt: HostRuntime) -> Result<(), Fail> {
             "0061736d01000000 010401600000 03020100 0a0e010c02017e017d 20001a20011a 0b",
         ),
     ];
-    check_modules(&rt, rt.alloc(), Query::WithLocals, &cases)
+    let query = Query::Written(&[], Change::AddLocals, Output::Module);
+    check(&rt, rt.alloc(), query, &cases)
 }

@@ -1,8 +1,11 @@
 //! Modules as text, for these tests and those of the tools: their bytes in hexadecimal, and a module
 //! whose custom sections change along with its code.
+use hex::FromHexError;
 use std::alloc::Global;
 use std::test::Fail;
-use wasm_module::{BodyWriter, ModuleError, ParsedModule, RewrittenModule, WriteError};
+use wasm_module::{
+    BodyWriter, ModuleError, ModuleFault, ParsedModule, RewrittenModule, WriteError,
+};
 
 /// Two functions after an imported one, with names and branch hints. The functions have the names
 /// f, g and h. The locals have the names imp in f; p, a, unused and b in g; y in h. The labels of g
@@ -30,14 +33,24 @@ pub const FOLLOWED_REWRITTEN: &str =
     610201000179031601010300056f757465720104636f6e6402046c617374040401010176 \
     001710736f757263654d617070696e6755524c05782e6d6170";
 
-/// The bytes of a module that is written as its preamble and its sections in hexadecimal, with spaces
-/// between them.
-pub fn bytes_of(alloc: Global, module: &str) -> Result<Vec<u8>, Fail> {
-    let mut bytes = Vec::new(alloc);
+/// Appends the bytes of a module, or of a part of it, that is written in hexadecimal, with spaces
+/// between its sections.
+pub fn push_bytes(bytes: &mut Vec<u8>, module: &str) -> Result<(), FromHexError> {
+    let alloc = *bytes.allocator();
     for part in module.split(' ') {
         bytes.extend_from_slice(&hex::decode(alloc, part)?)?;
     }
-    Ok(bytes)
+    Ok(())
+}
+
+/// The bytes of a module that is written as its preamble and its sections in hexadecimal, with spaces
+/// between them.
+pub fn bytes_of(alloc: Global, module: &str) -> Result<Vec<u8>, FromHexError> {
+    let mut bytes = Vec::new(alloc);
+    match push_bytes(&mut bytes, module) {
+        Ok(()) => Ok(bytes),
+        Err(error) => Err(error),
+    }
 }
 
 /// The module without the spaces between its sections.
@@ -52,6 +65,32 @@ pub fn fault_text(alloc: Global, error: ModuleError) -> Result<String, Fail> {
     Ok(format!(in alloc; "{name} at {}", error.at)?)
 }
 
+/// Appends bytes in hexadecimal.
+pub fn push_hex(text: &mut String, bytes: &[u8]) -> Result<(), ModuleError> {
+    for byte in bytes {
+        write!(text, "{byte:02x}")?;
+    }
+    Ok(())
+}
+
+/// Appends the module that is written, in hexadecimal. The error is that of a change that isn't the
+/// same both times.
+pub fn push_written<B: BodyWriter>(
+    text: &mut String,
+    parsed: &mut ParsedModule<'_>,
+    rewritten: &RewrittenModule<'_, B>,
+) -> Result<(), ModuleError> {
+    let mut out = Vec::new(*text.allocator());
+    match parsed.write_module(rewritten, &mut out) {
+        Ok(()) => push_hex(text, &out),
+        Err(WriteError::Module(error)) => Err(error),
+        Err(WriteError::Io(_)) => Err(ModuleError {
+            fault: ModuleFault::Memory,
+            at: 0,
+        }),
+    }
+}
+
 /// The module that is written, in hexadecimal; or the fault of a change that isn't the same both
 /// times.
 pub fn written_text<B: BodyWriter>(
@@ -59,10 +98,9 @@ pub fn written_text<B: BodyWriter>(
     parsed: &mut ParsedModule<'_>,
     rewritten: &RewrittenModule<'_, B>,
 ) -> Result<String, Fail> {
-    let mut out = Vec::new(alloc);
-    match parsed.write_module(rewritten, &mut out) {
-        Ok(()) => Ok(hex::encode(alloc, out)?),
-        Err(WriteError::Module(error)) => fault_text(alloc, error),
-        Err(WriteError::Io(error)) => Err(Fail::from(error)),
+    let mut text = String::new(alloc);
+    match push_written(&mut text, parsed, rewritten) {
+        Ok(()) => Ok(text),
+        Err(error) => fault_text(alloc, error),
     }
 }

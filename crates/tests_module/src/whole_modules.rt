@@ -1,10 +1,14 @@
 //! Whole modules: their sections, and the custom sections that are changed along with their code.
-use crate::cases::{Query, check, check_modules, found};
-use crate::texts::{FOLLOWED, FOLLOWED_REWRITTEN, bytes_of, fault_text, written_text};
+use crate::cases::{Query, REWRITTEN, check, push_found};
+use crate::texts::{FOLLOWED, FOLLOWED_REWRITTEN, bytes_of};
+use crate::writing::{Change, Output, push_changed};
 use std::alloc::Global;
-use std::io::Write;
+use std::process::Abort;
 use std::test::Fail;
-use wasm_module::{BodyWriter, Note, ParsedModule, RewrittenModule, Scratch, Sections};
+use wasm_module::{
+    BodyWriter, ModuleError, ModuleFault, Note, ParsedModule, RewrittenModule, Scratch, Sections,
+    WriteError,
+};
 
 /// A section of each kind, in order, with custom sections between them, and bodies that are written
 /// unchanged. The types are: from nothing to nothing; from an i32 to an i32; a group of two
@@ -32,52 +36,36 @@ const HANDLERS_REWRITTEN: &str =
     "0061736d01000000 010c0360000060017f006000017f 0303020202 0d03010001 0709020167000001680001 \
     0a1d020e00067f4107080007000b41016a0b0c00067f410308001941090b0b";
 
-/// The module that is written for this one, in hexadecimal; or the first fault of its bodies.
-pub(crate) fn rewritten_text(alloc: Global, parsed: &mut ParsedModule<'_>) -> Result<String, Fail> {
-    match parsed.rewrite_all() {
-        Ok(rewritten) => written_text(alloc, parsed, &rewritten),
-        Err(error) => fault_text(alloc, error),
-    }
-}
-
-/// Everything outside the code is copied byte for byte; names of locals and labels, and branch
-/// hints, are changed along with the code; a type that only a handler needs isn't written. The
-/// written module is written again unchanged.
-#[test]
-fn rewrites_modules(rt: HostRuntime) -> Result<(), Fail> {
-    let cases = [
-        ("0061736d01000000", "0061736d01000000"),
-        (EVERY_SECTION, EVERY_SECTION),
-        (FOLLOWED, FOLLOWED_REWRITTEN),
-        (HANDLERS, HANDLERS_REWRITTEN),
-        // Numbers that are longer than necessary, in sections that are copied and in code.
-        (
-            "0061736d01000000 0184800001600000 03020100 0a8b008100870080004181001a0b",
-            "0061736d01000000 0184800001600000 03020100 0a0701050041011a0b",
-        ),
-        // A parameter of i32, and an i64, an i32 and an i64, which are named from the last on.
-        (
-            "0061736d01000000 01050160017f00 03020100 \
-             0a16011403017e017f017e20031a20021a20011a20001a0b",
-            "0061736d01000000 01050160017f00 03020100 \
-             0a14011202017f027e20031a20011a20021a20001a0b",
-        ),
-        // Of 4,000 locals the last is named, and of 5,000 the last and the second.
-        (
-            "0061736d01000000 010401600000 03020100 0a0b010901a01f7f209f1f1a0b",
-            "0061736d01000000 010401600000 03020100 0a09010701017f20001a0b",
-        ),
-        (
-            "0061736d01000000 010401600000 03020100 0a0e010c0188277f2087271a20011a0b",
-            "0061736d01000000 010401600000 03020100 0a0c010a01027f20011a20001a0b",
-        ),
-    ];
-    check_modules(&rt, rt.alloc(), Query::Rewritten, &cases)?;
-    for (_, expected) in cases {
-        check_modules(&rt, rt.alloc(), Query::Rewritten, &[(expected, expected)])?;
-    }
-    Ok(())
-}
+/// Modules, and what is written for them. Everything outside the code is copied byte for byte; names of
+/// locals and labels, and branch hints, are changed along with the code; a type that only a handler
+/// needs isn't written.
+const WRITTEN: [(&str, &str); 8] = [
+    ("0061736d01000000", "0061736d01000000"),
+    (EVERY_SECTION, EVERY_SECTION),
+    (FOLLOWED, FOLLOWED_REWRITTEN),
+    (HANDLERS, HANDLERS_REWRITTEN),
+    // Numbers that are longer than necessary, in sections that are copied and in code.
+    (
+        "0061736d01000000 0184800001600000 03020100 0a8b008100870080004181001a0b",
+        "0061736d01000000 0184800001600000 03020100 0a0701050041011a0b",
+    ),
+    // A parameter of i32, and an i64, an i32 and an i64, which are named from the last on.
+    (
+        "0061736d01000000 01050160017f00 03020100 \
+         0a16011403017e017f017e20031a20021a20011a20001a0b",
+        "0061736d01000000 01050160017f00 03020100 \
+         0a14011202017f027e20031a20011a20021a20001a0b",
+    ),
+    // Of 4,000 locals the last is named, and of 5,000 the last and the second.
+    (
+        "0061736d01000000 010401600000 03020100 0a0b010901a01f7f209f1f1a0b",
+        "0061736d01000000 010401600000 03020100 0a09010701017f20001a0b",
+    ),
+    (
+        "0061736d01000000 010401600000 03020100 0a0e010c0188277f2087271a20011a0b",
+        "0061736d01000000 010401600000 03020100 0a0c010a01027f20011a20001a0b",
+    ),
+];
 
 // Modules, and the faults of their sections.
 const FAULTS_OF_SECTIONS: [(&str, &str); 38] = [
@@ -126,12 +114,6 @@ const FAULTS_OF_SECTIONS: [(&str, &str); 38] = [
     ("0061736d01000000 010401600000 03020100", "BodyCount at 18"),
     ("0061736d01000000 0c0101", "DataCount at 10"),
 ];
-
-/// The faults of sections, and their places.
-#[test]
-fn names_faults_of_sections(rt: HostRuntime) -> Result<(), Fail> {
-    check(&rt, rt.alloc(), Query::Rewritten, &FAULTS_OF_SECTIONS)
-}
 
 // Modules, and the faults of their bodies.
 const FAULTS_OF_BODIES: [(&str, &str); 11] = [
@@ -182,171 +164,154 @@ const FAULTS_OF_BODIES: [(&str, &str); 11] = [
     ),
 ];
 
-/// The faults of bodies, and their places in the file.
-#[test]
-fn names_faults_of_bodies(rt: HostRuntime) -> Result<(), Fail> {
-    check(&rt, rt.alloc(), Query::Rewritten, &FAULTS_OF_BODIES)
-}
+/// Modules, and the notes on the sections of what is written for them: those with old offsets, and one
+/// that can't be read, of names of locals that are cut off.
+const NOTES: [(&str, &str); 2] = [
+    (FOLLOWED, "sourceMappingURL SourceMap, "),
+    (
+        "0061736d01000000 000c0b2e64656275675f6c696e65 000b0a2e64656275675f737472 \
+            0008046e616d65020101",
+        ".debug_line DebugInfo, name NotFollowed, ",
+    ),
+];
 
-/// Appends the places where the sections of a module end.
-fn push_ends(ends: &mut Vec<usize>, bytes: &[u8]) -> Result<(), Fail> {
-    let sections = match Sections::new(bytes) {
-        Ok(sections) => sections,
-        Err(error) => return Err(Fail::from(error)),
-    };
-    for section in sections {
-        match section {
-            Ok(section) => ends.push(section.at.saturating_add(section.whole.len()))?,
-            Err(error) => return Err(Fail::from(error)),
-        }
+/// Modules, and old and new offsets from the start of the file; or the faults of bodies, by function.
+const MAPS_OR_FAULTS: [(&str, &str); 2] = [
+    (
+        FOLLOWED,
+        "5c 59\n5e 5b\n60 5d\n63 5f\n65 61\n67 63\n6c 64\n6d 65\n6e 66\n70 68\n72 6a\n74 6c\n\
+            76 6e\n77 6f\n79 71\n7f 76\n81 78\n82 79\n",
+    ),
+    (
+        "0061736d01000000 010401600000 020701016d01660000 030403000000 \
+            0a0f0304000c010b02000b050020001a0b",
+        "function 1: 0x22: a label is not open (NoSuchLabel)\n\
+            function 3: 0x2a: an index is out of bounds for the function's locals \
+            (LocalOutOfRange)\n",
+    ),
+];
+
+/// Modules are rewritten, and the faults of sections and of bodies have their places in the file. The
+/// written module is written again unchanged.
+#[test]
+fn rewrites_modules(rt: HostRuntime) -> Result<(), Fail> {
+    for (query, cases) in [
+        (REWRITTEN, WRITTEN.as_slice()),
+        (REWRITTEN, FAULTS_OF_SECTIONS.as_slice()),
+        (REWRITTEN, FAULTS_OF_BODIES.as_slice()),
+        (
+            Query::Written(&[], Change::Rewrite, Output::Notes),
+            NOTES.as_slice(),
+        ),
+        (Query::MapOrFaults, MAPS_OR_FAULTS.as_slice()),
+    ] {
+        check(&rt, rt.alloc(), query, cases)?;
+    }
+    for (_, expected) in WRITTEN {
+        check(&rt, rt.alloc(), REWRITTEN, &[(expected, expected)])?;
     }
     Ok(())
 }
 
-/// The places where the preamble and the sections of a module end.
-fn section_ends(alloc: Global, bytes: &[u8]) -> Result<Vec<usize>, Fail> {
-    let mut ends = vec![in alloc; 8]?;
-    push_ends(&mut ends, bytes)?;
-    Ok(ends)
+// Whether the preamble or a section of a module ends at this place.
+fn is_end(bytes: &[u8], place: usize) -> bool {
+    match Sections::new(bytes) {
+        Ok(sections) => {
+            let mut is_end = place == 8;
+            for section in sections {
+                if let Ok(section) = section {
+                    is_end |= section.at.saturating_add(section.whole.len()) == place;
+                }
+            }
+            is_end
+        }
+        Err(_) => false,
+    }
 }
 
-fn is_read(alloc: Global, bytes: &[u8]) -> Result<bool, Fail> {
-    let found = found(alloc, Query::Read, bytes)?;
-    Ok(found.as_str() == "read")
+// Whether a module is read that is cut to this length.
+fn is_read(alloc: Global, bytes: &[u8], len: usize) -> bool {
+    let mut text = String::new(alloc);
+    push_found(&mut text, Query::Read, &bytes[..len]).is_ok()
 }
 
-/// The lengths, other than these, to which a module can be cut and is still read.
-fn lengths_read(alloc: Global, bytes: &[u8], ends: &[usize]) -> Result<Vec<usize>, Fail> {
-    let mut lengths = Vec::new(alloc);
+// Checks that a module that is cut off is refused, unless it is cut after a section.
+fn check_cut(rt: &impl Abort, alloc: Global, bytes: &[u8]) {
     for (len, _) in bytes.iter().enumerate() {
-        if !ends.contains(&len) && is_read(alloc, &bytes[..len])? {
-            lengths.push(len)?;
+        if !is_end(bytes, len) {
+            assert!(rt; !is_read(alloc, bytes, len), "of length {len}");
         }
     }
-    Ok(lengths)
-}
-
-/// The lengths to which a module can be cut and is still read, other than the ends of its sections.
-fn read_lengths(alloc: Global, module: &str) -> Result<Vec<usize>, Fail> {
-    let bytes = bytes_of(alloc, module)?;
-    let ends = section_ends(alloc, &bytes)?;
-    lengths_read(alloc, &bytes, &ends)
 }
 
 /// A module that is cut off is refused, unless it is cut after a section.
 #[test]
 fn refuses_truncated_modules(rt: HostRuntime) -> Result<(), Fail> {
     for module in [EVERY_SECTION, FOLLOWED, HANDLERS] {
-        let lengths = read_lengths(rt.alloc(), module)?;
-        assert_eq!(rt; lengths.len(), 0, "of {module}");
+        let bytes = bytes_of(rt.alloc(), module)?;
+        check_cut(&rt, rt.alloc(), &bytes);
     }
     Ok(())
 }
 
-fn notes_text(alloc: Global, notes: &[Note<'_>]) -> Result<String, Fail> {
-    let mut text = String::new(alloc);
+/// Appends the notes on the sections of a module that is rewritten.
+pub(crate) fn push_notes(text: &mut String, notes: &[Note<'_>]) -> Result<(), ModuleError> {
     for note in notes {
         let Note { name, kind } = note;
         write!(text, "{name} {kind:?}, ")?;
     }
-    Ok(text)
+    Ok(())
 }
 
-/// The notes on the sections of a module that is rewritten.
-pub(crate) fn notes_of(alloc: Global, parsed: &mut ParsedModule<'_>) -> Result<String, Fail> {
-    match parsed.rewrite_all() {
-        Ok(rewritten) => notes_text(alloc, &rewritten.notes),
-        Err(error) => Err(Fail::from(error)),
-    }
-}
-
-/// Appends the location map of the module that is written for a source.
-pub(crate) fn push_map_with<B: BodyWriter>(
-    alloc: Global,
+// Appends the lines of the location map of a module that is written.
+fn push_lines<B: BodyWriter>(
+    lines: &mut Vec<u8>,
     parsed: &mut ParsedModule<'_>,
     rewritten: &RewrittenModule<'_, B>,
-    out: &mut Vec<u8>,
-) -> Result<(), Fail> {
-    let mut module = Vec::new(alloc);
-    match parsed.write_module_with_map(rewritten, &mut module, out) {
+) -> Result<(), ModuleError> {
+    let mut module = Vec::new(*lines.allocator());
+    match parsed.write_module_with_map(rewritten, &mut module, lines) {
         Ok(()) => Ok(()),
-        Err(error) => Err(Fail::from(error)),
+        Err(WriteError::Module(error)) => Err(error),
+        Err(WriteError::Io(_)) => Err(ModuleError {
+            fault: ModuleFault::Memory,
+            at: 0,
+        }),
     }
 }
 
-/// Appends the location map of a module that is rewritten.
-fn push_map(alloc: Global, parsed: &mut ParsedModule<'_>, out: &mut Vec<u8>) -> Result<(), Fail> {
-    match parsed.rewrite_all() {
-        Ok(rewritten) => push_map_with(alloc, parsed, &rewritten, out),
-        Err(error) => Err(Fail::from(error)),
-    }
-}
-
-/// Appends the bodies that are refused.
-fn push_faults(
-    alloc: Global,
+/// Appends the location map of a module that is written.
+pub(crate) fn push_map<B: BodyWriter>(
+    text: &mut String,
     parsed: &mut ParsedModule<'_>,
-    out: &mut Vec<u8>,
-) -> Result<(), Fail> {
-    let mut scratch = Scratch::new(alloc);
+    rewritten: &RewrittenModule<'_, B>,
+) -> Result<(), ModuleError> {
+    let mut lines = Vec::new(*text.allocator());
+    match push_lines(&mut lines, parsed, rewritten) {
+        Ok(()) => Ok(text.push_str(std::str::from_utf8(&lines).unwrap_or("not UTF-8"))?),
+        Err(error) => Err(error),
+    }
+}
+
+// Appends the bodies that are refused.
+fn push_faults(text: &mut String, parsed: &mut ParsedModule<'_>) -> Result<(), ModuleError> {
+    let mut scratch = Scratch::new(*text.allocator());
     for body in parsed.bodies() {
         if let Err(error) = parsed.parse(body, &mut scratch) {
-            writeln!(out, "function {}: {error}", body.func)?;
+            writeln!(text, "function {}: {error}", body.func)?;
         }
     }
     Ok(())
 }
 
 /// Appends the bodies that are refused; if there are none, the location map.
-fn push_map_or_faults(
-    alloc: Global,
+pub(crate) fn push_map_or_faults(
+    text: &mut String,
     parsed: &mut ParsedModule<'_>,
-    out: &mut Vec<u8>,
-) -> Result<(), Fail> {
-    push_faults(alloc, parsed, out)?;
-    if out.is_empty() {
-        push_map(alloc, parsed, out)?;
+) -> Result<(), ModuleError> {
+    push_faults(text, parsed)?;
+    if text.is_empty() {
+        push_changed(text, parsed, &[], Change::Rewrite, Output::Map)?;
     }
     Ok(())
-}
-
-/// The bodies that are refused; if there are none, the location map.
-pub(crate) fn map_or_faults(alloc: Global, parsed: &mut ParsedModule<'_>) -> Result<String, Fail> {
-    let mut out = Vec::new(alloc);
-    push_map_or_faults(alloc, parsed, &mut out)?;
-    Ok(String::from_utf8_lossy(alloc, &out)?)
-}
-
-/// Sections with old offsets, and one that can't be read: names of locals that are cut off.
-#[test]
-fn notes_sections(rt: HostRuntime) -> Result<(), Fail> {
-    let cases = [
-        (FOLLOWED, "sourceMappingURL SourceMap, "),
-        (
-            "0061736d01000000 000c0b2e64656275675f6c696e65 000b0a2e64656275675f737472 \
-            0008046e616d65020101",
-            ".debug_line DebugInfo, name NotFollowed, ",
-        ),
-    ];
-    check(&rt, rt.alloc(), Query::Notes, &cases)
-}
-
-/// Old and new offsets from the start of the file; and the faults of bodies, by function.
-#[test]
-fn maps_and_checks(rt: HostRuntime) -> Result<(), Fail> {
-    let cases = [
-        (
-            FOLLOWED,
-            "5c 59\n5e 5b\n60 5d\n63 5f\n65 61\n67 63\n6c 64\n6d 65\n6e 66\n70 68\n72 6a\n74 6c\n\
-            76 6e\n77 6f\n79 71\n7f 76\n81 78\n82 79\n",
-        ),
-        (
-            "0061736d01000000 010401600000 020701016d01660000 030403000000 \
-            0a0f0304000c010b02000b050020001a0b",
-            "function 1: 0x22: a label is not open (NoSuchLabel)\n\
-            function 3: 0x2a: an index is out of bounds for the function's locals \
-            (LocalOutOfRange)\n",
-        ),
-    ];
-    check(&rt, rt.alloc(), Query::MapOrFaults, &cases)
 }
