@@ -22,68 +22,49 @@ pub(crate) enum Made {
     Br(usize),
     /// A call of this function.
     Call(usize),
-    /// An access to this local.
-    Local(Access, usize),
+    /// `local.get` of this local.
+    LocalGet(usize),
+    /// `local.set` of this local.
+    LocalSet(usize),
+    /// `local.tee` of this local.
+    LocalTee(usize),
     /// An `i32.load` with this alignment, in bytes.
     Load(u32),
-}
-
-/// An access to a local.
-#[derive(Clone, Copy)]
-pub(crate) enum Access {
-    /// `local.get`.
-    Get,
-    /// `local.set`.
-    Set,
-    /// `local.tee`.
-    Tee,
-}
-
-fn on_local(access: Access, local: LocalId) -> Instr {
-    match access {
-        Access::Get => Instr::LocalGet(LocalGet { local }),
-        Access::Set => Instr::LocalSet(LocalSet { local }),
-        Access::Tee => Instr::LocalTee(LocalTee { local }),
-    }
-}
-
-fn load(align: u32) -> Instr {
-    Instr::Load(Load {
-        memory: MemoryId::new(0),
-        kind: LoadKind::I32 { atomic: false },
-        arg: MemArg { align, offset: 0 },
-    })
-}
-
-fn if_else(consequent: usize, alternative: usize) -> Instr {
-    let (consequent, alternative) = (InstrSeqId::new(consequent), InstrSeqId::new(alternative));
-    Instr::IfElse(IfElse {
-        consequent,
-        alternative,
-    })
-}
-
-fn constant(value: u16) -> Instr {
-    let value = Value::I32(i32::from(value));
-    Instr::Const(Const { value })
 }
 
 pub(crate) fn instr(made: Made) -> Instr {
     match made {
         Made::Drop => Instr::Drop,
-        Made::Const(value) => constant(value),
+        Made::Const(value) => Instr::Const(Const {
+            value: Value::I32(i32::from(value)),
+        }),
         Made::Block(n) => Instr::Block(Block {
             seq: InstrSeqId::new(n),
         }),
-        Made::IfElse(consequent, alternative) => if_else(consequent, alternative),
+        Made::IfElse(consequent, alternative) => Instr::IfElse(IfElse {
+            consequent: InstrSeqId::new(consequent),
+            alternative: InstrSeqId::new(alternative),
+        }),
         Made::Br(n) => Instr::Br(Br {
             block: InstrSeqId::new(n),
         }),
         Made::Call(n) => Instr::Call(Call {
             func: FunctionId::new(n),
         }),
-        Made::Local(access, n) => on_local(access, LocalId::new(n)),
-        Made::Load(align) => load(align),
+        Made::LocalGet(n) => Instr::LocalGet(LocalGet {
+            local: LocalId::new(n),
+        }),
+        Made::LocalSet(n) => Instr::LocalSet(LocalSet {
+            local: LocalId::new(n),
+        }),
+        Made::LocalTee(n) => Instr::LocalTee(LocalTee {
+            local: LocalId::new(n),
+        }),
+        Made::Load(align) => Instr::Load(Load {
+            memory: MemoryId::new(0),
+            kind: LoadKind::I32 { atomic: false },
+            arg: MemArg { align, offset: 0 },
+        }),
     }
 }
 
@@ -133,20 +114,16 @@ pub(crate) fn function(
     Ok(builder)
 }
 
-// A `try` with the sequence 4 as its body, 5 for a `catch` and 6 for a `catch_all`.
-fn legacy_try(alloc: Global) -> Result<Instr, AllocError> {
-    let clauses = [
-        LegacyCatch::Catch {
-            tag: TagId::new(0),
-            handler: InstrSeqId::new(5),
-        },
-        LegacyCatch::CatchAll {
-            handler: InstrSeqId::new(6),
-        },
-    ];
-    let seq = InstrSeqId::new(4);
-    let catches = Vec::from_slice(alloc, &clauses)?;
-    Ok(Instr::Try(Try { seq, catches }))
+/// Appends to the first sequence a `try` with the body in this slot and these clauses.
+pub(crate) fn put_try(
+    builder: &mut FunctionBuilder,
+    body: usize,
+    clauses: &[LegacyCatch],
+    location: u16,
+) -> Result<(), AllocError> {
+    let seq = InstrSeqId::new(body);
+    let catches = Vec::from_slice(builder.allocator(), clauses)?;
+    put(builder, 0, Instr::Try(Try { seq, catches }), location)
 }
 
 /// The instructions of `example` before its `try`.
@@ -175,10 +152,20 @@ const BEFORE_TRY: [Item; 22] = [
     (7, Made::Drop, 0),
 ];
 
-// Appends the instructions of `example`.
+// Appends the instructions of `example`, of which the `try` has the sequence 4 as its body, 5 for a
+// `catch` and 6 for a `catch_all`.
 fn put_example(builder: &mut FunctionBuilder) -> Result<(), AllocError> {
     put_all(builder, &BEFORE_TRY)?;
-    put(builder, 0, legacy_try(builder.allocator())?, 0)?;
+    let clauses = [
+        LegacyCatch::Catch {
+            tag: TagId::new(0),
+            handler: InstrSeqId::new(5),
+        },
+        LegacyCatch::CatchAll {
+            handler: InstrSeqId::new(6),
+        },
+    ];
+    put_try(builder, 4, &clauses, 0)?;
     put_all(builder, &[(0, Made::Const(10), 10), (0, Made::Drop, 0)])
 }
 

@@ -1,5 +1,5 @@
 //! Writing functions that were made by hand or parsed.
-use crate::by_hand::{Access, Item, Made, function};
+use crate::by_hand::{Item, Made, function};
 use crate::cases::check_written;
 use crate::function_text::At;
 use crate::small_module::types;
@@ -36,45 +36,23 @@ fn set_all(numbers: &mut IdsToIndices) -> Result<(), IndexError> {
     Ok(())
 }
 
-fn numbers(alloc: Global) -> Result<IdsToIndices, IndexError> {
-    let mut numbers = IdsToIndices::new(alloc);
-    set_all(&mut numbers)?;
-    Ok(numbers)
-}
-
-// The local 5 has the number 300, and the local 6 has 0.
-fn local_numbers(alloc: Global) -> Result<IdHashMap<LocalId, u32>, AllocError> {
-    let mut locals = IdHashMap::new(alloc);
-    for (local, number) in [(5, 300), (6, 0)] {
-        locals.insert(LocalId::new(local), number)?;
-    }
-    Ok(locals)
-}
-
-// Writes a function, if its entry is a sequence of its builder.
+// Writes a function, and appends the fault.
 fn write(
+    text: &mut String,
     function: &LocalFunction,
     types: &ModuleTypes,
     indices: &IdsToIndices,
     locals: &IdHashMap<LocalId, u32>,
     encoder: &mut FunctionEncoder,
     map: &mut Vec<(InstrLocId, usize)>,
-) -> Option<Result<(), EmitError>> {
-    let builder = function.builder();
-    if !builder.has(builder.entry()?) {
-        return None;
+) -> Result<(), AllocError> {
+    if !function.has_entry() {
+        return text.push_str("no entry ");
     }
-    Some(function.emit_instructions(types, indices, locals, encoder, Some(map)))
-}
-
-// Appends the fault, if there is one.
-fn push_fault(text: &mut String, returned: Option<Result<(), EmitError>>) -> Result<(), Fail> {
-    match returned {
-        Some(Ok(())) => {}
-        Some(Err(error)) => write!(text, "{error:?} ")?,
-        None => text.push_str("no entry ")?,
+    match function.emit_instructions(types, indices, locals, encoder, Some(map)) {
+        Ok(()) => Ok(()),
+        Err(error) => write!(text, "{error:?} "),
     }
-    Ok(())
 }
 
 // Writes a function with these numbers and the types of the module of other tests, and appends the
@@ -86,21 +64,22 @@ fn write_under(
     locals: &IdHashMap<LocalId, u32>,
     encoder: &mut FunctionEncoder,
     map: &mut Vec<(InstrLocId, usize)>,
-) -> Result<(), Fail> {
+) -> Result<(), AllocError> {
     let types = types(*text.allocator())?;
-    let returned = write(function, &types, numbers, locals, encoder, map);
-    push_fault(text, returned)
+    write(text, function, &types, numbers, locals, encoder, map)
 }
 
-// The same with the tests' numbers of locals.
+// The same with these numbers of locals: the local 5 has 300, and the local 6 has 0.
 fn write_with(
     text: &mut String,
     function: &LocalFunction,
     numbers: &IdsToIndices,
     encoder: &mut FunctionEncoder,
     map: &mut Vec<(InstrLocId, usize)>,
-) -> Result<(), Fail> {
-    let locals = local_numbers(*text.allocator())?;
+) -> Result<(), AllocError> {
+    let mut locals = IdHashMap::new(*text.allocator());
+    locals.insert(LocalId::new(5), 300)?;
+    locals.insert(LocalId::new(6), 0)?;
     write_under(text, function, numbers, &locals, encoder, map)
 }
 
@@ -111,8 +90,9 @@ fn write_into(
     encoder: &mut FunctionEncoder,
     map: &mut Vec<(InstrLocId, usize)>,
 ) -> Result<(), Fail> {
-    let numbers = numbers(*text.allocator())?;
-    write_with(text, function, &numbers, encoder, map)
+    let mut numbers = IdsToIndices::new(*text.allocator());
+    set_all(&mut numbers)?;
+    Ok(write_with(text, function, &numbers, encoder, map)?)
 }
 
 // Appends bytes and pairs.
@@ -209,22 +189,22 @@ const WRITTEN: [(&[Item], &str); 19] = [
     // would be written.
     (
         &[
-            (0, Made::Local(Access::Get, 5), 1),
-            (0, Made::Local(Access::Set, 6), 2),
-            (0, Made::Local(Access::Tee, 5), 3),
+            (0, Made::LocalGet(5), 1),
+            (0, Made::LocalSet(6), 2),
+            (0, Made::LocalTee(5), 3),
         ],
         "0020ac02210022ac020b 9@9 1@1 2@4 3@6 -@9",
     ),
     (
         &[
             (0, Made::Drop, 1),
-            (0, Made::Local(Access::Set, 7), 2),
+            (0, Made::LocalSet(7), 2),
             (0, Made::Call(0), 3),
         ],
         "UnnumberedLocal 00 9@9",
     ),
     (
-        &[(0, Made::Call(0), 1), (0, Made::Local(Access::Tee, 7), 2)],
+        &[(0, Made::Call(0), 1), (0, Made::LocalTee(7), 2)],
         "Index(Unnumbered { space: Funcs }) 00 9@9",
     ),
     // An alignment in bytes is written as the exponent of the greatest power of two that is not
@@ -256,59 +236,24 @@ fn set_head(function: &mut LocalFunction, slot: usize, ty: &InstrSeqType, end: &
     sequence.end = *end;
 }
 
-// The same for both sequences of the `if` of a function. The first one ends at the location 77.
-fn set_heads(function: &mut LocalFunction, ty: &InstrSeqType, end: &InstrLocId) {
-    set_head(function, 1, ty, &InstrLocId::new(77));
-    set_head(function, 2, ty, end);
-}
-
-// The sequences of a function with an `if` whose alternative has an instruction.
-fn saying(alloc: Global) -> Result<FunctionBuilder, AllocError> {
-    let items = [
-        (0, Made::IfElse(1, 2), 1),
-        (1, Made::Drop, 2),
-        (2, Made::Const(5), 3),
-    ];
-    function(alloc, 3, &items)
-}
-
-// The same with an alternative that has none.
-fn saying_nothing(alloc: Global) -> Result<FunctionBuilder, AllocError> {
-    let items = [(0, Made::IfElse(1, 2), 1), (1, Made::Drop, 2)];
-    function(alloc, 3, &items)
-}
-
-// The one or the other.
-fn choice(alloc: Global, says_something: bool) -> Result<FunctionBuilder, AllocError> {
-    if says_something {
-        saying(alloc)
-    } else {
-        saying_nothing(alloc)
-    }
-}
-
-// A function with an `if` whose sequences have this type, and whose ends have the locations 77 and
-// this one.
-fn choosing(
-    alloc: Global,
-    builder: FunctionBuilder,
-    ty: &InstrSeqType,
-    end: &InstrLocId,
-) -> LocalFunction {
-    let mut function = LocalFunction::new(Vec::new(alloc), builder);
-    set_heads(&mut function, ty, end);
-    function
-}
-
-// The bytes that are written for it.
+// The bytes that are written for a function with an `if` whose sequences have this type, and whose
+// ends have the locations 77 and this one. The alternative has an instruction if it says something.
 fn written_choice(
     alloc: Global,
     ty: &InstrSeqType,
     end: &InstrLocId,
     says_something: bool,
 ) -> Result<String, Fail> {
-    let builder = choice(alloc, says_something)?;
-    let function = choosing(alloc, builder, ty, end);
+    let items = [
+        (0, Made::IfElse(1, 2), 1),
+        (1, Made::Drop, 2),
+        (2, Made::Const(5), 3),
+    ];
+    let count = if says_something { 3 } else { 2 };
+    let builder = function(alloc, 3, &items[..count])?;
+    let mut function = LocalFunction::new(Vec::new(alloc), builder);
+    set_head(&mut function, 1, ty, &InstrLocId::new(77));
+    set_head(&mut function, 2, ty, end);
     written_text(alloc, &function)
 }
 

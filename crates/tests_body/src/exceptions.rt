@@ -1,13 +1,10 @@
 //! The `try` of the legacy proposal, made by hand.
-use crate::by_hand::put;
+use crate::by_hand::{put_try, sequences};
 use crate::emitting::written_text;
 use std::alloc::{AllocError, Global};
-use std::process::Abort;
 use std::test::Fail;
 use walrus_body::LocalFunction;
-use walrus_ir::{
-    FunctionBuilder, Instr, InstrSeqId, InstrSeqType, LegacyCatch, TagId, Try, TypeId,
-};
+use walrus_ir::{FunctionBuilder, InstrSeqId, InstrSeqType, LegacyCatch, TagId, TypeId};
 
 /// A clause for a `try` in a test; a handler is a slot.
 #[derive(Clone, Copy)]
@@ -16,14 +13,6 @@ enum Clause {
     CatchAll(usize),
     Delegate,
 }
-
-// Lists of clauses in orders that aren't allowed.
-const UNLAWFUL: [[Clause; 2]; 4] = [
-    [Clause::CatchAll(2), Clause::Catch(3)],
-    [Clause::CatchAll(2), Clause::CatchAll(3)],
-    [Clause::Catch(2), Clause::Delegate],
-    [Clause::Delegate, Clause::CatchAll(2)],
-];
 
 fn legacy_catch(clause: Clause) -> LegacyCatch {
     match clause {
@@ -46,21 +35,18 @@ fn legacy_catches(alloc: Global, clauses: &[Clause]) -> Result<Vec<LegacyCatch>,
     Ok(catches)
 }
 
-// Appends to the sequence 0 a `try` with the sequence 1 and these clauses.
-fn put_try(builder: &mut FunctionBuilder, clauses: &[Clause]) -> Result<(), AllocError> {
-    let seq = InstrSeqId::new(1);
-    let catches = legacy_catches(builder.allocator(), clauses)?;
-    put(builder, 0, Instr::Try(Try { seq, catches }), 1)
-}
-
-// Four sequences: the second has this type, and the others have no parameters and results.
-fn alloc_four(builder: &mut FunctionBuilder, ty: InstrSeqType) -> Result<(), AllocError> {
-    builder.alloc(InstrSeqType::Simple(None))?;
-    builder.alloc(ty)?;
-    for _ in 2..4 {
-        builder.alloc(InstrSeqType::Simple(None))?;
+// Appends a `try` with these clauses and with a body of this type.
+fn put_typed_try(
+    builder: &mut FunctionBuilder,
+    ty: InstrSeqType,
+    clauses: &[Clause],
+) -> Result<(), AllocError> {
+    let body = InstrSeqId::new(1);
+    if builder.has(body) {
+        builder.seq_mut(body).ty = ty;
     }
-    Ok(())
+    let catches = legacy_catches(builder.allocator(), clauses)?;
+    put_try(builder, 1, &catches, 1)
 }
 
 // A builder whose entry is a `try` with these clauses and with a body of this type.
@@ -69,10 +55,8 @@ fn with_try(
     ty: InstrSeqType,
     clauses: &[Clause],
 ) -> Result<FunctionBuilder, AllocError> {
-    let mut builder = FunctionBuilder::without_entry(alloc, TypeId::new(0));
-    alloc_four(&mut builder, ty)?;
-    builder.set_entry(InstrSeqId::new(0));
-    put_try(&mut builder, clauses)?;
+    let mut builder = sequences(alloc, 4)?;
+    put_typed_try(&mut builder, ty, clauses)?;
     Ok(builder)
 }
 
@@ -83,23 +67,67 @@ fn written_try(alloc: Global, ty: InstrSeqType, clauses: &[Clause]) -> Result<St
     written_text(alloc, &function)
 }
 
-// Checks that no `try` with a body of this type is written, and that bytes and pairs are unchanged.
-fn refuses_unlawful(rt: &impl Abort, alloc: Global, ty: &InstrSeqType) -> Result<(), Fail> {
-    for clauses in &UNLAWFUL {
-        let text = written_try(alloc, *ty, clauses)?;
-        assert_eq!(rt; text.as_str(), "BadClauses 00 9@9");
-    }
-    Ok(())
-}
+// What is written for a `try`: whether its body has a type without a number, and its clauses.
+const WRITTEN: [(bool, &[Clause], &str); 9] = [
+    (
+        false,
+        &[Clause::CatchAll(2), Clause::Catch(3)],
+        "BadClauses 00 9@9",
+    ),
+    (
+        false,
+        &[Clause::CatchAll(2), Clause::CatchAll(3)],
+        "BadClauses 00 9@9",
+    ),
+    (
+        false,
+        &[Clause::Catch(2), Clause::Delegate],
+        "BadClauses 00 9@9",
+    ),
+    (
+        false,
+        &[Clause::Delegate, Clause::CatchAll(2)],
+        "BadClauses 00 9@9",
+    ),
+    (
+        true,
+        &[Clause::CatchAll(2), Clause::Catch(3)],
+        "BadClauses 00 9@9",
+    ),
+    (
+        true,
+        &[Clause::CatchAll(2), Clause::CatchAll(3)],
+        "BadClauses 00 9@9",
+    ),
+    (
+        true,
+        &[Clause::Catch(2), Clause::Delegate],
+        "BadClauses 00 9@9",
+    ),
+    (
+        true,
+        &[Clause::Delegate, Clause::CatchAll(2)],
+        "BadClauses 00 9@9",
+    ),
+    (
+        false,
+        &[Clause::CatchAll(2)],
+        "000640190b0b 9@9 1@1 -@3 -@4 -@5",
+    ),
+];
 
-/// A `try` whose clauses are in an order that isn't allowed isn't written. This fault comes before
-/// that of a type without a number. A `catch_all` alone is allowed.
+/// A `try` whose clauses are in an order that isn't allowed isn't written, and bytes and pairs are
+/// unchanged. This fault comes before that of a type without a number. A `catch_all` alone is
+/// allowed.
 #[test]
 fn refuses_unlawful_clauses(rt: HostRuntime) -> Result<(), Fail> {
-    refuses_unlawful(&rt, rt.alloc(), &InstrSeqType::Simple(None))?;
-    refuses_unlawful(&rt, rt.alloc(), &InstrSeqType::MultiValue(TypeId::new(77)))?;
-    let ty = InstrSeqType::Simple(None);
-    let text = written_try(rt.alloc(), ty, &[Clause::CatchAll(2)])?;
-    assert_eq!(rt; text.as_str(), "000640190b0b 9@9 1@1 -@3 -@4 -@5");
+    for (is_unnumbered, clauses, expected) in &WRITTEN {
+        let ty = match *is_unnumbered {
+            true => InstrSeqType::MultiValue(TypeId::new(77)),
+            false => InstrSeqType::Simple(None),
+        };
+        let text = written_try(rt.alloc(), ty, clauses)?;
+        assert_eq!(rt; text.as_str(), *expected);
+    }
     Ok(())
 }
