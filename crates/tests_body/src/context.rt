@@ -24,13 +24,9 @@ enum Step {
     Put(Made, u16),
     /// `alloc_instr` of a `try` of a sequence, without clauses.
     PutTry(usize),
-    /// `alloc_instr_in_control` of the innermost frame.
-    PutHere(Made, u16),
-    /// `push_control` of a block, and `alloc_instr_in_control` of the frame around it, with the
-    /// start of the block before and after.
-    PutAround(Made, u16),
-    /// The same with two blocks, and for the frame around both.
-    PutOutside(Made, u16),
+    /// `push_control` of so many blocks, and `alloc_instr_in_control` of the frame around them, with
+    /// the starts of the blocks before and after.
+    PutIn(usize, Made, u16),
     /// `add_legacy_catch`.
     Delegate(u32),
 }
@@ -83,55 +79,38 @@ fn show(context: &ValidationContext<'_>, n: usize, text: &mut String) -> Result<
     }
 }
 
-// Appends where the instructions of the n-th frame from the innermost begin.
-fn push_start(
+// Appends where the instructions of the innermost frames begin, the outer of them first.
+fn push_starts(
     context: &ValidationContext<'_>,
-    n: usize,
+    count: usize,
     text: &mut String,
 ) -> Result<(), AllocError> {
-    match context.control(n) {
-        Ok(frame) => write!(text, " {}", frame.start),
-        Err(error) => write!(text, " {error:?}"),
+    for n in 0..count {
+        match context.control(count - 1 - n) {
+            Ok(frame) => write!(text, " {}", frame.start)?,
+            Err(error) => write!(text, " {error:?}")?,
+        }
     }
+    Ok(())
 }
 
-fn at(location: u16) -> InstrLocId {
-    InstrLocId::new(u32::from(location))
-}
-
-fn put_around(
+fn put_in(
     context: &mut ValidationContext<'_>,
+    depth: usize,
     made: Made,
     location: u16,
     text: &mut String,
 ) -> Result<(), AllocError> {
-    if let Err(error) = context.push_control(BlockKind::Block, &[], &[]) {
-        return write!(text, " {error:?}");
+    for _ in 0..depth {
+        if let Err(error) = context.push_control(BlockKind::Block, &[], &[]) {
+            return write!(text, " {error:?}");
+        }
     }
-    push_start(context, 0, text)?;
-    let returned = context.alloc_instr_in_control(1, instr(made), at(location));
+    push_starts(context, depth, text)?;
+    let location = InstrLocId::new(u32::from(location));
+    let returned = context.alloc_instr_in_control(depth, instr(made), location);
     push_done(text, returned)?;
-    push_start(context, 0, text)
-}
-
-fn put_outside(
-    context: &mut ValidationContext<'_>,
-    made: Made,
-    location: u16,
-    text: &mut String,
-) -> Result<(), AllocError> {
-    if let Err(error) = context.push_control(BlockKind::Block, &[], &[]) {
-        return write!(text, " {error:?}");
-    }
-    if let Err(error) = context.push_control(BlockKind::Block, &[], &[]) {
-        return write!(text, " {error:?}");
-    }
-    push_start(context, 1, text)?;
-    push_start(context, 0, text)?;
-    let returned = context.alloc_instr_in_control(2, instr(made), at(location));
-    push_done(text, returned)?;
-    push_start(context, 1, text)?;
-    push_start(context, 0, text)
+    push_starts(context, depth, text)
 }
 
 // Makes a call, and appends its result.
@@ -154,20 +133,16 @@ fn call(
         Step::Kill => push_done(text, context.unreachable()),
         Step::Show(n) => show(context, n, text),
         Step::Put(made, location) => {
-            push_done(text, context.alloc_instr(instr(made), at(location)))
+            let location = InstrLocId::new(u32::from(location));
+            push_done(text, context.alloc_instr(instr(made), location))
         }
         Step::PutTry(seq) => {
             let seq = InstrSeqId::new(seq);
             let catches = Vec::new(alloc);
             let made = Instr::Try(Try { seq, catches });
-            push_done(text, context.alloc_instr(made, at(0)))
+            push_done(text, context.alloc_instr(made, InstrLocId::new(0)))
         }
-        Step::PutHere(made, location) => push_done(
-            text,
-            context.alloc_instr_in_control(0, instr(made), at(location)),
-        ),
-        Step::PutAround(made, location) => put_around(context, made, location, text),
-        Step::PutOutside(made, location) => put_outside(context, made, location, text),
+        Step::PutIn(depth, made, location) => put_in(context, depth, made, location, text),
         Step::Delegate(relative_depth) => {
             let clause = LegacyCatch::Delegate { relative_depth };
             push_done(text, context.add_legacy_catch(clause))
@@ -188,14 +163,6 @@ fn make_calls(
     Ok(())
 }
 
-// Appends open frames.
-fn push_frames(text: &mut String, controls: &[ControlFrame]) -> Result<(), AllocError> {
-    for frame in controls {
-        push_frame(text, frame)?;
-    }
-    Ok(())
-}
-
 // Appends a bar, the open frames, and all sequences.
 fn push_parts(
     text: &mut String,
@@ -203,7 +170,9 @@ fn push_parts(
     builder: &FunctionBuilder,
 ) -> Result<(), AllocError> {
     text.push_str(" |")?;
-    push_frames(text, controls)?;
+    for frame in controls {
+        push_frame(text, frame)?;
+    }
     push_sequences(text, builder)
 }
 
@@ -230,16 +199,11 @@ fn push_called(text: &mut String, example: &Example, steps: &[Step]) -> Result<(
     }
 }
 
-fn called(alloc: Global, example: &Example, steps: &[Step]) -> Result<String, AllocError> {
-    let mut text = String::new(alloc);
-    push_called(&mut text, example, steps)?;
-    Ok(text)
-}
-
 // Makes the calls with a module.
 fn check_calls(rt: &impl Abort, alloc: Global, example: &Example) -> Result<(), Fail> {
     for (steps, expected) in &CALLS {
-        let found = called(alloc, example, steps)?;
+        let mut found = String::new(alloc);
+        push_called(&mut found, example, steps)?;
         assert_eq!(rt; found.as_str(), *expected);
     }
     Ok(())
@@ -288,11 +252,11 @@ const CALLS: [(&[Step], &str); 12] = [
     (
         &[
             ENTRY,
-            Step::PutAround(Made::Drop, 6),
-            Step::PutHere(Made::Call(3), 7),
+            Step::PutIn(1, Made::Drop, 6),
+            Step::PutIn(0, Made::Call(3), 7),
             Step::Pop,
             Step::Kill,
-            Step::PutAround(Made::Drop, 8),
+            Step::PutIn(1, Made::Drop, 8),
             Step::Pop,
             Step::Pop,
         ],
@@ -304,7 +268,7 @@ const CALLS: [(&[Step], &str); 12] = [
         &[
             ENTRY,
             Step::Put(Made::Drop, 6),
-            Step::PutAround(Made::Block(1), 7),
+            Step::PutIn(1, Made::Block(1), 7),
             Step::Put(Made::Const(5), 8),
             Step::Pop,
             Step::Pop,
@@ -316,7 +280,7 @@ const CALLS: [(&[Step], &str); 12] = [
         &[
             ENTRY,
             Step::Put(Made::Drop, 6),
-            Step::PutOutside(Made::Call(3), 7),
+            Step::PutIn(2, Made::Call(3), 7),
             Step::Pop,
             Step::Pop,
             Step::Pop,
@@ -329,7 +293,7 @@ const CALLS: [(&[Step], &str); 12] = [
             ENTRY,
             Step::Put(Made::Drop, 6),
             Step::Kill,
-            Step::PutOutside(Made::Call(3), 7),
+            Step::PutIn(2, Made::Call(3), 7),
         ],
         " 0 ok ok 1 1 ok 1 1 | FunctionEntry 0 dead [] [] 0 Block 1 alive [] [] 1 \
         Block 2 alive [] [] 1 ()[ ]- ()[ ]- ()[ ]-",
@@ -379,12 +343,12 @@ const CALLS: [(&[Step], &str); 12] = [
     (
         &[
             Step::Put(Made::Drop, 1),
-            Step::PutHere(Made::Drop, 1),
+            Step::PutIn(0, Made::Drop, 1),
             Step::Pop,
             Step::Kill,
             Step::Show(0),
             Step::Delegate(0),
-            Step::PutAround(Made::Drop, 1),
+            Step::PutIn(1, Made::Drop, 1),
         ],
         " NoFrame NoSuchLabel NoFrame NoFrame NoSuchLabel NoSuchLabel 0 NoSuchLabel 0 | \
         Block 0 alive [] [] 0 ()[ ]-",
