@@ -2,12 +2,12 @@
 use crate::by_hand::{Item, function};
 use crate::emitting::written_text;
 use crate::reading::push_read;
-use crate::small_module::{Setting, push_entry, push_noted, push_parsed, push_parsed_by};
+use crate::small_module::{Setting, push_entry, push_noted, push_parsed};
 use crate::validators::{Counting, Keeping};
-use std::alloc::{AllocError, Global};
+use std::alloc::Global;
 use std::process::Abort;
 use std::test::Fail;
-use walrus_body::LocalFunction;
+use walrus_body::{AcceptAll, LocalFunction};
 
 /// What is checked about a text.
 #[derive(Clone, Copy)]
@@ -26,36 +26,19 @@ pub(crate) enum About {
     Read(u32),
 }
 
-fn push_kept(found: &mut String, text: &str) -> Result<(), AllocError> {
-    let places = Vec::new(*found.allocator());
-    push_parsed_by(found, Setting::PLAIN, text, Keeping { places })
-}
-
-fn or_fail(returned: Result<(), AllocError>) -> Result<(), Fail> {
-    Ok(returned?)
-}
-
 // Appends the result for a text.
 fn push_result(found: &mut String, about: About, text: &str) -> Result<(), Fail> {
     match about {
-        About::Function(setting) => or_fail(push_parsed(found, setting, text)),
+        About::Function(setting) => push_parsed(found, setting, text, AcceptAll),
         About::Entry => push_entry(found, text),
-        About::Counted => or_fail(push_parsed_by(
-            found,
-            Setting::PLAIN,
-            text,
-            Counting { left: 2 },
-        )),
-        About::Kept => or_fail(push_kept(found, text)),
-        About::Noted => or_fail(push_noted(found, text)),
+        About::Counted => push_parsed(found, Setting::PLAIN, text, Counting { left: 2 }),
+        About::Kept => {
+            let places = Vec::new(*found.allocator());
+            push_parsed(found, Setting::PLAIN, text, Keeping { places })
+        }
+        About::Noted => push_noted(found, text),
         About::Read(start) => push_read(found, text, start),
     }
-}
-
-fn returned(alloc: Global, about: About, text: &str) -> Result<String, Fail> {
-    let mut found = String::new(alloc);
-    push_result(&mut found, about, text)?;
-    Ok(found)
 }
 
 /// Checks texts, each of which comes before its expected result.
@@ -66,7 +49,8 @@ pub(crate) fn check(
     cases: &[(&str, &str)],
 ) -> Result<(), Fail> {
     for (text, expected) in cases {
-        let found = returned(alloc, about, text)?;
+        let mut found = String::new(alloc);
+        push_result(&mut found, about, text)?;
         assert_eq!(rt; found.as_str(), *expected, "of {text}");
     }
     Ok(())

@@ -1,6 +1,6 @@
 //! Bodies that are refused with their first fault and its place.
 use crate::cases::{About, check};
-use crate::small_module::{Setting, push_parsed_by};
+use crate::small_module::{Setting, push_parsed};
 use crate::validators::Exhausted;
 use std::test::Fail;
 
@@ -140,7 +140,7 @@ fn calls_the_validator(rt: HostRuntime) -> Result<(), Fail> {
 #[test]
 fn runs_out_of_memory_as_the_validator_does(rt: HostRuntime) -> Result<(), Fail> {
     let mut text = String::new(rt.alloc());
-    push_parsed_by(&mut text, Setting::PLAIN, "0b", Exhausted)?;
+    push_parsed(&mut text, Setting::PLAIN, "0b", Exhausted)?;
     assert!(rt; text.as_str().starts_with("Memory at "));
     Ok(())
 }

@@ -2,9 +2,8 @@
 use crate::cases::{About, check};
 use crate::function_text::push_parsed_function;
 use crate::small_module::{Setting, parse_lent};
-use std::alloc::{AllocError, Global};
 use std::test::Fail;
-use walrus_body::{AcceptAll, LocalFunction};
+use walrus_body::AcceptAll;
 use walrus_ir::{Instr, InstrLocId};
 
 // Trees of bodies that begin at the place 0, with the location of each operator.
@@ -206,31 +205,21 @@ fn asks_for_locations(rt: HostRuntime) -> Result<(), Fail> {
     Ok(())
 }
 
-// A list with an instruction.
-fn some_instrs(alloc: Global) -> Result<Vec<(Instr, InstrLocId)>, AllocError> {
-    let mut instrs = Vec::new(alloc);
-    instrs.push((Instr::Return, InstrLocId::new(70)))?;
-    Ok(instrs)
-}
-
-fn function_text(alloc: Global, function: &LocalFunction) -> Result<String, AllocError> {
-    let mut text = String::new(alloc);
-    push_parsed_function(&mut text, function)?;
-    Ok(text)
-}
-
-// The function that is parsed from an `if` with this list.
-fn lent_text(instrs: &mut Vec<(Instr, InstrLocId)>) -> Result<String, Fail> {
+// Appends the function that is parsed from an `if` with this list.
+fn push_lent(text: &mut String, instrs: &mut Vec<(Instr, InstrLocId)>) -> Result<(), Fail> {
     let alloc = *instrs.allocator();
     let function = parse_lent(alloc, Setting::PLAIN, "410104400b0b", AcceptAll, instrs)?;
-    Ok(function_text(alloc, &function)?)
+    push_parsed_function(text, &function)?;
+    Ok(())
 }
 
 /// The contents of the caller's list make no difference.
 #[test]
 fn clears_the_lent_list(rt: HostRuntime) -> Result<(), Fail> {
-    let mut instrs = some_instrs(rt.alloc())?;
-    let found = lent_text(&mut instrs)?;
+    let mut found = String::new(rt.alloc());
+    let mut instrs = Vec::new(rt.alloc());
+    instrs.push((Instr::Return, InstrLocId::new(70)))?;
+    push_lent(&mut found, &mut instrs)?;
     assert_eq!(rt;
         found.as_str(),
         "0..6 0:0 2:2 4:4 5:5 type4[ i32.const 1@0 if 1 2@2 ]5 ()[ ]4 ()[ ]-"

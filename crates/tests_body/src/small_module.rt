@@ -74,12 +74,6 @@ fn push_ids(indices: &mut IndicesToIds) -> Result<(), IndexError> {
     Ok(())
 }
 
-fn indices(alloc: Global) -> Result<IndicesToIds, IndexError> {
-    let mut indices = IndicesToIds::new(alloc);
-    push_ids(&mut indices)?;
-    Ok(indices)
-}
-
 fn module(alloc: Global, code_section_offset: usize) -> Result<Module, AllocError>
     ensures { IfOk result (λ m. m.code_section_offset ≡ code_section_offset) }
 {
@@ -99,7 +93,8 @@ impl Example {
         ensures { IfOk result (λ example.
             example.module.code_section_offset ≡ code_section_offset) }
     {
-        let indices = indices(alloc)?;
+        let mut indices = IndicesToIds::new(alloc);
+        push_ids(&mut indices)?;
         match module(alloc, code_section_offset) {
             Ok(module) => Ok(Example { module, indices }),
             Err(_) => Err(IndexError::Memory),
@@ -203,52 +198,33 @@ fn parse_by<V: OpCheck>(
 }
 
 /// Appends the result of a parse: the function, or the fault and its place.
-pub(crate) fn push_parsed_by<V: OpCheck>(
+pub(crate) fn push_parsed<V: OpCheck>(
     text: &mut String,
     setting: Setting,
     body: &str,
     validator: V,
-) -> Result<(), AllocError> {
-    match parse_by(*text.allocator(), setting, body, validator) {
+) -> Result<(), Fail> {
+    let pushed = match parse_by(*text.allocator(), setting, body, validator) {
         Ok(function) => push_parsed_function(text, &function),
         Err(failure) => write!(text, "{} at {}", Fault(failure.error), failure.at),
-    }
-}
-
-/// Appends the result of a parse with a validator that accepts all operators.
-pub(crate) fn push_parsed(
-    text: &mut String,
-    setting: Setting,
-    body: &str,
-) -> Result<(), AllocError> {
-    push_parsed_by(text, setting, body, AcceptAll)
-}
-
-// The places at which a validator is called.
-fn noted(alloc: Global, body: &str) -> Vec<usize> {
-    let mut noted = Vec::new(alloc);
-    let recording = RecordingCheck { noted: &mut noted };
-    let _ = parse_by(alloc, Setting::PLAIN, body, recording).is_ok();
-    noted
+    };
+    Ok(pushed?)
 }
 
 /// Appends the places at which a validator is called.
-pub(crate) fn push_noted(text: &mut String, body: &str) -> Result<(), AllocError> {
-    let noted = noted(*text.allocator(), body);
-    write!(text, "{noted:?}")
-}
-
-// Appends the first sequence of a function.
-fn push_first(text: &mut String, function: &LocalFunction) -> Result<(), AllocError> {
-    if function.has_entry() {
-        push_sequence(text, function.block(function.entry_block()))
-    } else {
-        Ok(())
-    }
+pub(crate) fn push_noted(text: &mut String, body: &str) -> Result<(), Fail> {
+    let mut noted = Vec::new(*text.allocator());
+    let recording = RecordingCheck { noted: &mut noted };
+    let _ = parse_by(*text.allocator(), Setting::PLAIN, body, recording).is_ok();
+    write!(text, "{noted:?}")?;
+    Ok(())
 }
 
 /// Appends the first sequence of the function with these operators.
 pub(crate) fn push_entry(text: &mut String, body: &str) -> Result<(), Fail> {
     let function = parse_by(*text.allocator(), Setting::PLAIN, body, AcceptAll)?;
-    Ok(push_first(text, &function)?)
+    if function.has_entry() {
+        push_sequence(text, function.block(function.entry_block()))?;
+    }
+    Ok(())
 }
