@@ -83,20 +83,15 @@ fn emit_three(nop: &Nop, cx: &mut EmitContext<'_>) -> usize {
     count
 }
 
-// How many parts were written, the bytes, and the pairs.
-fn written_text(alloc: Global, count: usize, cx: &EmitContext<'_>) -> Result<String, AllocError> {
+// How many of three parts were written, the bytes, and the pairs.
+fn emitted_text(alloc: Global, cx: &mut EmitContext<'_>) -> Result<String, AllocError> {
+    let location = InstrLocId::new(7);
+    let count = emit_three(&Nop { location }, cx);
     let mut text = format!(in alloc; "{count} {:?}", cx.bytes.as_slice())?;
     for (location, place) in &cx.code_transform {
         write!(text, " {}@{place}", At(*location))?;
     }
     Ok(text)
-}
-
-// The same for the three parts.
-fn emitted_text(alloc: Global, cx: &mut EmitContext<'_>) -> Result<String, AllocError> {
-    let location = InstrLocId::new(7);
-    let count = emit_three(&Nop { location }, cx);
-    written_text(alloc, count, cx)
 }
 
 fn emitted_in(alloc: Global, module: &Module) -> Result<String, AllocError> {

@@ -60,20 +60,7 @@ fn push_counted(
     write!(text, "{returned:?} {}", visitor.size)
 }
 
-// The same, and then the facts of a visitor that begins at that number.
-fn counted_from(
-    alloc: Global,
-    builder: &FunctionBuilder,
-    before: u64,
-) -> Result<String, AllocError> {
-    let mut text = String::new(alloc);
-    push_counted(&mut text, builder, before)?;
-    text.push_str("; ")?;
-    push_gathered(&mut text, builder, before)?;
-    Ok(text)
-}
-
-// Checks counts from several numbers, up to the limit of 64 bits.
+// Checks counts, and then the facts of a visitor, from several numbers, up to the limit of 64 bits.
 fn check_counts(rt: &impl Abort, alloc: Global, builder: &FunctionBuilder) -> Result<(), Fail> {
     for (before, expected) in [
         (0, "Ok(()) 23; 23"),
@@ -86,7 +73,10 @@ fn check_counts(rt: &impl Abort, alloc: Global, builder: &FunctionBuilder) -> Re
             "Err(TooLarge) 18446744073709551615; 18446744073709551615 TooLarge",
         ),
     ] {
-        let found = counted_from(alloc, builder, before)?;
+        let mut found = String::new(alloc);
+        push_counted(&mut found, builder, before)?;
+        found.push_str("; ")?;
+        push_gathered(&mut found, builder, before)?;
         assert_eq!(rt; found.as_str(), expected);
     }
     Ok(())

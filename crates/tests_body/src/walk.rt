@@ -24,17 +24,6 @@ fn push_walk(
     }
 }
 
-fn walked(
-    alloc: Global,
-    builder: &FunctionBuilder,
-    start: usize,
-    calls: u32,
-) -> Result<String, AllocError> {
-    let mut text = String::new(alloc);
-    push_walk(&mut text, builder, start, calls)?;
-    Ok(text)
-}
-
 // Checks the whole walk, one that the visitor refuses at its third call, and one from a sequence
 // that doesn't exist.
 fn check_walks(rt: &impl Abort, alloc: Global, builder: &FunctionBuilder) -> Result<(), Fail> {
@@ -46,7 +35,8 @@ fn check_walks(rt: &impl Abort, alloc: Global, builder: &FunctionBuilder) -> Res
         (0, 2, " start0 const1 TooLarge"),
         (9, 1000, " UnknownSequence"),
     ] {
-        let found = walked(alloc, builder, start, calls)?;
+        let mut found = String::new(alloc);
+        push_walk(&mut found, builder, start, calls)?;
         assert_eq!(rt; found.as_str(), expected);
     }
     Ok(())

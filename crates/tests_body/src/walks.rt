@@ -8,55 +8,49 @@ use walrus_ir::{
 };
 use walrus_walks::{Listener, Listening, VisitInstr, for_each_instr, map_instrs};
 
-/// The locations of constants, each below 16, as the hexadecimal digits of a number.
+/// The locations of constants, each below 16, as the hexadecimal digits of a number, and their sum.
 #[derive(Drop)]
-struct Locations(u64);
+struct Constants {
+    locations: u64,
+    sum: i32,
+}
 
-impl VisitInstr for Locations {
+impl VisitInstr for Constants {
     fn visit(&mut self, instr: &Instr, location: InstrLocId) {
-        if let Instr::Const(_) = instr {
-            self.0 = self.0.wrapping_mul(16) | u64::from(location.data());
+        if let Instr::Const(constant) = instr
+            && let Value::I32(value) = constant.value
+        {
+            self.locations = self.locations.wrapping_mul(16) | u64::from(location.data());
+            self.sum = self.sum.wrapping_add(value);
         }
     }
 }
 
-fn locations_of(builder: &FunctionBuilder, start: usize) -> Result<u64, WalkError> {
-    match for_each_instr(builder, InstrSeqId::new(start), Locations(0)) {
-        Ok(visited) => Ok(visited.0),
+fn visited(builder: &FunctionBuilder, start: usize) -> Result<(u64, i32), WalkError> {
+    let none = Constants {
+        locations: 0,
+        sum: 0,
+    };
+    match for_each_instr(builder, InstrSeqId::new(start), none) {
+        Ok(visited) => Ok((visited.locations, visited.sum)),
         Err(error) => Err(error),
     }
 }
 
 /// Constants are visited in the order of the walk, from a sequence on; and none if there is no such
-/// sequence.
+/// sequence. The sequence 7 isn't reached from the first.
 #[test]
 fn visits_each_instruction(rt: HostRuntime) -> Result<(), Fail> {
     let builder = example(rt.alloc())?;
-    assert_eq!(rt; locations_of(&builder, 0), Ok(0x12_3456_789a));
-    assert_eq!(rt; locations_of(&builder, 1), Ok(0x2345));
-    assert_eq!(rt; locations_of(&builder, 9), Err(WalkError::UnknownSequence));
+    for (start, returned) in [
+        (0, Ok((0x12_3456_789a, 55))),
+        (1, Ok((0x2345, 14))),
+        (7, Ok((0xb, 11))),
+        (9, Err(WalkError::UnknownSequence)),
+    ] {
+        assert_eq!(rt; visited(&builder, start), returned);
+    }
     Ok(())
-}
-
-/// The sum of constants.
-#[derive(Drop)]
-struct Sum(i32);
-
-impl VisitInstr for Sum {
-    fn visit(&mut self, instr: &Instr, _location: InstrLocId) {
-        if let Instr::Const(constant) = instr
-            && let Value::I32(value) = constant.value
-        {
-            self.0 = self.0.wrapping_add(value);
-        }
-    }
-}
-
-fn sum_of(builder: &FunctionBuilder, start: usize) -> Result<i32, WalkError> {
-    match for_each_instr(builder, InstrSeqId::new(start), Sum(0)) {
-        Ok(visited) => Ok(visited.0),
-        Err(error) => Err(error),
-    }
 }
 
 /// Each constant becomes 7, also in the sequence 7, which isn't reached from the first. Locations
@@ -64,16 +58,14 @@ fn sum_of(builder: &FunctionBuilder, start: usize) -> Result<i32, WalkError> {
 #[test]
 fn changes_each_instruction(rt: HostRuntime) -> Result<(), Fail> {
     let mut builder = example(rt.alloc())?;
-    assert_eq!(rt; sum_of(&builder, 0), Ok(55));
-    assert_eq!(rt; sum_of(&builder, 7), Ok(11));
     map_instrs(&mut builder, |instr: &mut Instr, _location: InstrLocId| {
         if let Instr::Const(constant) = instr {
             constant.value = Value::I32(7);
         }
     });
-    assert_eq!(rt; sum_of(&builder, 0), Ok(70));
-    assert_eq!(rt; sum_of(&builder, 7), Ok(7));
-    assert_eq!(rt; locations_of(&builder, 1), Ok(0x2345));
+    for (start, returned) in [(0, (0x12_3456_789a, 70)), (1, (0x2345, 28)), (7, (0xb, 7))] {
+        assert_eq!(rt; visited(&builder, start), Ok(returned));
+    }
     Ok(())
 }
 
