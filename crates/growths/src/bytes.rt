@@ -1,4 +1,6 @@
 //! Bytes that are written: operators, declarations, and bytes as they are.
+ghost use Rattle.wasm_encode.specs.Writable.{IsWritable};
+ghost use Rattle.wasm_operators.specs.Meaning.{meaning};
 
 use crate::scenario::{Scenario, Selection};
 use crate::text::{Text, push_bytes};
@@ -8,25 +10,25 @@ use walrus_ir::LoadKind;
 use wasm_encode::{FunctionEncoder, OutClauses, OutOp, OutTable, write_op};
 use wasm_ops::{BlockType, RawCatch, RawMemArg, RawValType};
 
-/// An operator without lists.
+/// An operator.
 #[derive(Clone, Copy)]
-enum Plain {
+enum Written {
     Const,
     Load,
     Loop,
     If,
     BrIf,
     CallIndirect,
+    Table,
+    Clauses,
+    Bits,
 }
 
 /// Which call is made.
 #[derive(Clone, Copy)]
 enum Kind {
-    Plain(Plain),
-    Table,
-    Clauses,
+    Write(Written),
     New,
-    Instruction,
     Raw,
 }
 
@@ -38,42 +40,38 @@ struct Output {
     kind: Kind,
 }
 
-fn write_load(bytes: &mut Vec<u8>) -> Result<(), AllocError> {
-    let kind = LoadKind::I32 { atomic: false };
-    let memarg = RawMemArg {
-        exponent: 2,
-        memory: 0,
-        offset: 4294967296,
-    };
-    write_op(&OutOp::Load { kind, memarg }, bytes)
-}
-
-fn write_opener(ty: BlockType, is_loop: bool, bytes: &mut Vec<u8>) -> Result<(), AllocError> {
-    match is_loop {
-        true => write_op(&OutOp::Loop { ty }, bytes),
-        false => write_op(&OutOp::If { ty }, bytes),
+/// The operator, with these labels of a table or these clauses.
+fn operator<'a>(written: Written, targets: &'a [u32], clauses: &'a [RawCatch]) -> OutOp<'a>
+    ensures { IsWritable (meaning result) }
+{
+    match written {
+        Written::Const => OutOp::I32Const { value: 624485 },
+        Written::Load => OutOp::Load {
+            kind: LoadKind::I32 { atomic: false },
+            memarg: RawMemArg {
+                exponent: 2,
+                memory: 0,
+                offset: 4294967296,
+            },
+        },
+        Written::Loop => OutOp::Loop {
+            ty: BlockType::FuncType(64),
+        },
+        Written::If => OutOp::If {
+            ty: BlockType::Value(RawValType::F64),
+        },
+        Written::BrIf => OutOp::BrIf { label: 128 },
+        Written::CallIndirect => OutOp::CallIndirect { ty: 3, table: 1 },
+        Written::Table => OutOp::BrTable(OutTable {
+            targets,
+            default: 1,
+        }),
+        Written::Clauses => OutOp::TryTable {
+            ty: BlockType::Empty,
+            catches: OutClauses { clauses },
+        },
+        Written::Bits => OutOp::V128Const { bits: 1 },
     }
-}
-
-fn write_plain(plain: Plain, bytes: &mut Vec<u8>) -> Result<(), AllocError> {
-    match plain {
-        Plain::Const => write_op(&OutOp::I32Const { value: 624485 }, bytes),
-        Plain::Load => write_load(bytes),
-        Plain::Loop => write_opener(BlockType::FuncType(64), true, bytes),
-        Plain::If => write_opener(BlockType::Value(RawValType::F64), false, bytes),
-        Plain::BrIf => write_op(&OutOp::BrIf { label: 128 }, bytes),
-        Plain::CallIndirect => write_op(&OutOp::CallIndirect { ty: 3, table: 1 }, bytes),
-    }
-}
-
-fn add_instruction(encoder: &mut FunctionEncoder) -> Result<(), AllocError> {
-    encoder.instruction(&OutOp::V128Const { bits: 1 })
-}
-
-fn write_table(bytes: &mut Vec<u8>) -> Result<(), AllocError> {
-    let targets = &[0, 300];
-    let default = 1;
-    write_op(&OutOp::BrTable(OutTable { targets, default }), bytes)
 }
 
 /// A clause with this tag, or one that catches all and passes a reference.
@@ -85,11 +83,15 @@ fn clause(tag: Option<u32>, label: u32) -> RawCatch {
     }
 }
 
-fn write_clauses(bytes: &mut Vec<u8>) -> Result<(), AllocError> {
-    let clauses = &[clause(Some(5), 0), clause(None, 2)];
-    let ty = BlockType::Empty;
-    let catches = OutClauses { clauses };
-    write_op(&OutOp::TryTable { ty, catches }, bytes)
+/// Appends an operator to the list, or the constant of a vector to the encoder.
+fn write(output: &mut Output, written: Written) -> Result<(), AllocError> {
+    let clauses = [clause(Some(5), 0), clause(None, 2)];
+    let targets = [0, 300];
+    let op = operator(written, &targets, &clauses);
+    match written {
+        Written::Bits => output.encoder.instruction(&op),
+        _ => write_op(&op, &mut output.bytes),
+    }
 }
 
 /// Appends the bytes of an encoder of five declarations.
@@ -102,11 +104,8 @@ fn push_declaring(text: &mut Text, alloc: Global) -> Result<(), AllocError> {
 impl Scenario for Output {
     fn call(&mut self, returned: &mut Text) -> Result<(), AllocError> {
         match self.kind {
-            Kind::Plain(plain) => write_plain(plain, &mut self.bytes),
-            Kind::Table => write_table(&mut self.bytes),
-            Kind::Clauses => write_clauses(&mut self.bytes),
+            Kind::Write(written) => write(self, written),
             Kind::New => push_declaring(returned, *self.bytes.allocator()),
-            Kind::Instruction => add_instruction(&mut self.encoder),
             Kind::Raw => self.encoder.raw(&[1, 2, 3, 4, 5, 6, 7, 8]),
         }
     }
@@ -120,29 +119,39 @@ impl Scenario for Output {
 /// The calls, each with a row and how many calls are made before: so that a list grows which is
 /// empty, or whose room is used up.
 const CALLS: [(&str, &str, Kind, usize); 15] = [
-    ("write_op-const", "first", Kind::Plain(Plain::Const), 0),
-    ("write_op-const", "full", Kind::Plain(Plain::Const), 2),
-    ("write_op-load", "first", Kind::Plain(Plain::Load), 0),
-    ("write_op-loop", "first", Kind::Plain(Plain::Loop), 0),
-    ("write_op-if", "first", Kind::Plain(Plain::If), 0),
-    ("write_op-br_if", "first", Kind::Plain(Plain::BrIf), 0),
+    ("write_op-const", "first", Kind::Write(Written::Const), 0),
+    ("write_op-const", "full", Kind::Write(Written::Const), 2),
+    ("write_op-load", "first", Kind::Write(Written::Load), 0),
+    ("write_op-loop", "first", Kind::Write(Written::Loop), 0),
+    ("write_op-if", "first", Kind::Write(Written::If), 0),
+    ("write_op-br_if", "first", Kind::Write(Written::BrIf), 0),
     (
         "write_op-call_indirect",
         "first",
-        Kind::Plain(Plain::CallIndirect),
+        Kind::Write(Written::CallIndirect),
         0,
     ),
-    ("write_op-table", "first", Kind::Table, 0),
-    ("write_op-table", "full", Kind::Table, 2),
-    ("write_op-clauses", "first", Kind::Clauses, 0),
+    ("write_op-table", "first", Kind::Write(Written::Table), 0),
+    ("write_op-table", "full", Kind::Write(Written::Table), 2),
+    (
+        "write_op-clauses",
+        "first",
+        Kind::Write(Written::Clauses),
+        0,
+    ),
     ("FunctionEncoder::new", "first", Kind::New, 0),
     (
         "FunctionEncoder::instruction",
         "first",
-        Kind::Instruction,
+        Kind::Write(Written::Bits),
         0,
     ),
-    ("FunctionEncoder::instruction", "full", Kind::Instruction, 3),
+    (
+        "FunctionEncoder::instruction",
+        "full",
+        Kind::Write(Written::Bits),
+        3,
+    ),
     ("FunctionEncoder::raw", "first", Kind::Raw, 0),
     ("FunctionEncoder::raw", "full", Kind::Raw, 3),
 ];
