@@ -63,8 +63,8 @@ fn table(alloc: Global) -> Result<BrTable, AllocError> {
     Ok(BrTable { blocks, default })
 }
 
-/// The first instruction.
-fn wrong_instr(alloc: Global, wrong: Wrong) -> Result<Instr, AllocError> {
+/// The last instruction.
+fn last_instr(alloc: Global, wrong: Wrong) -> Result<Instr, AllocError> {
     let entry = InstrSeqId::new(0);
     let other = InstrSeqId::new(1);
     let instr = match wrong {
@@ -92,37 +92,32 @@ fn entry(wrong: Wrong) -> Option<InstrSeqId> {
     }
 }
 
-/// Appends an instruction with this location.
-fn put(sequence: &mut InstrSeq, instr: Instr, location: InstrLocId) -> Result<(), AllocError> {
-    sequence.instrs.push((instr, location))?;
+/// Gives a sequence its instructions. A function without a fault drops the local 1, with locations of
+/// its own. An unknown local comes before an unknown sequence, whose fault comes first.
+fn put_all(alloc: Global, sequence: &mut InstrSeq, wrong: Wrong) -> Result<(), AllocError> {
+    let one = InstrLocId::new(1);
+    let (local, first, last) = match wrong {
+        Wrong::Nothing => (Some(1), InstrLocId::new(5), InstrLocId::new(6)),
+        Wrong::Unknown => (Some(99), one, one),
+        _ => (None, one, one),
+    };
+    if let Some(local) = local {
+        let local = LocalId::new(local);
+        let instr = Instr::LocalGet(LocalGet { local });
+        sequence.instrs.push((instr, first))?;
+    }
+    sequence.instrs.push((last_instr(alloc, wrong)?, last))?;
+    if let Wrong::Nothing = wrong {
+        sequence.end = InstrLocId::new(7);
+    }
     Ok(())
 }
 
-fn put_local(
-    sequence: &mut InstrSeq,
-    local: usize,
-    location: InstrLocId,
-) -> Result<(), AllocError> {
-    let local = LocalId::new(local);
-    put(sequence, Instr::LocalGet(LocalGet { local }), location)
-}
-
-/// Gives a sequence its instruction, after an unknown local if the function has an unknown sequence
-/// too, whose fault comes first.
-fn put_wrong(alloc: Global, sequence: &mut InstrSeq, wrong: Wrong) -> Result<(), AllocError> {
-    if let Wrong::Unknown = wrong {
-        put_local(sequence, 99, InstrLocId::new(1))?;
-    }
-    put(sequence, wrong_instr(alloc, wrong)?, InstrLocId::new(1))
-}
-
-/// Gives a function four sequences, of which the first has the instruction, and its entry.
-fn fill_wrong(
-    alloc: Global,
-    builder: &mut FunctionBuilder,
-    wrong: Wrong,
-) -> Result<(), AllocError> {
-    for _ in 0..4 {
+/// Gives a function its entry and its sequences: one without a fault has one, the others have four.
+/// The first has the instructions.
+fn fill(alloc: Global, builder: &mut FunctionBuilder, wrong: Wrong) -> Result<(), AllocError> {
+    let count = if let Wrong::Nothing = wrong { 1 } else { 4 };
+    for _ in 0..count {
         builder.alloc(InstrSeqType::Simple(None))?;
     }
     if let Some(entry) = entry(wrong) {
@@ -130,36 +125,9 @@ fn fill_wrong(
     }
     let first = InstrSeqId::new(0);
     if builder.has(first) {
-        put_wrong(alloc, builder.seq_mut(first), wrong)
+        put_all(alloc, builder.seq_mut(first), wrong)
     } else {
         Ok(())
-    }
-}
-
-/// Gives a sequence two instructions, which drop the local 1, at locations 5 and 6, and its end
-/// location 7.
-fn fill_sequence(sequence: &mut InstrSeq) -> Result<(), AllocError> {
-    put_local(sequence, 1, InstrLocId::new(5))?;
-    put(sequence, Instr::Drop, InstrLocId::new(6))?;
-    sequence.end = InstrLocId::new(7);
-    Ok(())
-}
-
-/// Gives a function an entry, which drops the local 1.
-fn fill_entry(builder: &mut FunctionBuilder) -> Result<(), AllocError> {
-    let entry = builder.alloc(InstrSeqType::Simple(None))?;
-    builder.set_entry(entry);
-    if builder.has(entry) {
-        fill_sequence(builder.seq_mut(entry))
-    } else {
-        Ok(())
-    }
-}
-
-fn fill(alloc: Global, builder: &mut FunctionBuilder, wrong: Wrong) -> Result<(), AllocError> {
-    match wrong {
-        Wrong::Nothing => fill_entry(builder),
-        _ => fill_wrong(alloc, builder, wrong),
     }
 }
 
