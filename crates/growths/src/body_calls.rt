@@ -185,9 +185,9 @@ impl OfBody<'_> {
     }
 
     /// Rewrites the body into the lists, without a tree.
-    fn rewrite_flat(&mut self, args: &[LocalId]) -> Result<(), RewriteError> {
+    fn rewrite_flat(&mut self, args: &[LocalId], returned: &mut Text) -> Result<(), AllocError> {
         let demo = self.demo;
-        rewrite_flat(
+        match rewrite_flat(
             demo.module,
             demo.indices,
             demo.function,
@@ -200,11 +200,7 @@ impl OfBody<'_> {
             &mut self.flat,
             &mut self.bytes,
             Some(&mut self.pairs),
-        )
-    }
-
-    fn push_flat(&mut self, args: &[LocalId], returned: &mut Text) -> Result<(), AllocError> {
-        match self.rewrite_flat(args) {
+        ) {
             Ok(()) => Ok(()),
             Err(error) => push_rewrite_error(returned, error),
         }
@@ -255,7 +251,7 @@ impl Scenario for OfBody<'_> {
                 self.parse(args, Keeping { places }, returned)
             }
             Kind::Read => self.read(returned),
-            Kind::Flat => self.push_flat(&arguments(alloc)?, returned),
+            Kind::Flat => self.rewrite_flat(&arguments(alloc)?, returned),
             _ => self.push_rewritten(arguments(alloc)?, returned),
         }
     }
@@ -430,40 +426,35 @@ fn run_calls(
     demo: &Demo<'_>,
     row: &str,
     source: &[u8],
+    calls: &[(&str, Kind)],
 ) -> io::Result<()> {
-    for (call, kind) in &CALLS {
+    for (call, kind) in calls {
         run_one(selection, demo, call, row, source, *kind)?;
     }
     Ok(())
 }
 
-fn run_row(selection: Selection<'_>, demo: &Demo<'_>, row: &str, digits: &str) -> io::Result<()> {
-    let source = bytes_of(selection.alloc(), digits)?;
-    run_calls(selection, demo, row, &source)
-}
-
-fn run_digits(
+/// Runs the scenarios of these calls on the body with these bytes.
+fn run_row(
     selection: Selection<'_>,
     demo: &Demo<'_>,
-    call: &str,
     row: &str,
     digits: &str,
-    kind: Kind,
+    calls: &[(&str, Kind)],
 ) -> io::Result<()> {
     let source = bytes_of(selection.alloc(), digits)?;
-    run_one(selection, demo, call, row, &source, kind)
+    run_calls(selection, demo, row, &source, calls)
 }
 
 /// Runs the scenarios of these calls that are selected.
 pub(crate) fn run(selection: Selection<'_>, demo: &Demo<'_>) -> io::Result<()> {
-    for (row, digits) in &ACCEPTED {
-        run_row(selection, demo, row, digits)?;
-    }
-    for (row, digits) in &REFUSED {
-        run_row(selection, demo, row, digits)?;
+    for rows in [ACCEPTED.as_slice(), REFUSED.as_slice()] {
+        for (row, digits) in rows {
+            run_row(selection, demo, row, digits, &CALLS)?;
+        }
     }
     for (call, row, digits, kind) in &REWRITTEN {
-        run_digits(selection, demo, call, row, digits, *kind)?;
+        run_row(selection, demo, row, digits, &[(*call, *kind)])?;
     }
     Ok(())
 }

@@ -61,16 +61,6 @@ fn push_facts(text: &mut Text, facts: &EmitFacts) {
     }
 }
 
-/// Appends the size of a function, and whether it is constant.
-fn push_size(text: &mut Text, function: &LocalFunction, size: u64)
-    requires { HasEntry function.now.builder }
-{
-    write!(text, " {size}");
-    if function.is_const() {
-        text.push_str(" const");
-    }
-}
-
 fn push_segments(text: &mut Text, segments: &IdHashSet<DataId>) {
     push_numbers(text, &[segments.len()]);
     for segment in 0..SHOWN {
@@ -80,12 +70,16 @@ fn push_segments(text: &mut Text, segments: &IdHashSet<DataId>) {
     }
 }
 
+/// Appends the size of a function, and whether it is constant.
 fn find_size(text: &mut Text, function: &LocalFunction) -> Result<(), WalkError>
     requires { HasEntry function.now.builder }
 {
     match function.size() {
-        Ok(size) => push_size(text, function, size),
+        Ok(size) => write!(text, " {size}"),
         Err(fault) => return Err(fault),
+    }
+    if function.is_const() {
+        text.push_str(" const");
     }
     Ok(())
 }
@@ -225,29 +219,6 @@ fn run_one(
     selection.run(name(kind), row, &mut of)
 }
 
-/// Makes these calls on a function whose used locals these are, with these numbers of locals.
-fn run_numbered(
-    selection: Selection<'_>,
-    demo: &Demo<'_>,
-    function: &LocalFunction,
-    used: &IdHashSet<LocalId>,
-    numbers: &IdHashMap<LocalId, u32>,
-    row: &str,
-    calls: &[Kind],
-) -> io::Result<()> {
-    for kind in calls {
-        let numbered = Numbered {
-            module: demo.module,
-            indices: demo.numbers,
-            function,
-            used,
-            numbers,
-        };
-        run_one(selection, row, numbered, *kind)?;
-    }
-    Ok(())
-}
-
 /// The numbers of a function's locals, of which it uses these. They have none if the module doesn't
 /// have them, or if the type of one has no new index.
 fn numbers_of(
@@ -272,7 +243,17 @@ fn run_used(
     calls: &[Kind],
 ) -> io::Result<()> {
     let numbers = numbers_of(selection.alloc(), demo, function, used);
-    run_numbered(selection, demo, function, used, &numbers, row, calls)
+    let numbered = Numbered {
+        module: demo.module,
+        indices: demo.numbers,
+        function,
+        used,
+        numbers: &numbers,
+    };
+    for kind in calls {
+        run_one(selection, row, numbered, *kind)?;
+    }
+    Ok(())
 }
 
 /// The locals that a function uses; none where its sequences are no tree.

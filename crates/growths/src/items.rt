@@ -73,18 +73,6 @@ fn push_types(text: &mut Text, types: &ModuleTypes) {
     }
 }
 
-fn push_tag(text: &mut Text, tags: &ModuleTags, id: usize) {
-    if let Some(ty) = tags.get(TagId::new(id)) {
-        write!(text, " tag{}", ty.index());
-    }
-}
-
-fn push_local(text: &mut Text, locals: &ModuleLocals, id: usize) {
-    if let Some(ty) = locals.get(LocalId::new(id)) {
-        write!(text, " {ty:?}");
-    }
-}
-
 impl Scenario for Items {
     fn call(&mut self, returned: &mut Text) -> Result<(), AllocError> {
         push_numbers(returned, &[self.add()?]);
@@ -94,8 +82,12 @@ impl Scenario for Items {
     fn show(&self, text: &mut Text) {
         push_types(text, &self.types);
         for id in 0..SHOWN {
-            push_tag(text, &self.tags, id);
-            push_local(text, &self.locals, id);
+            if let Some(ty) = self.tags.get(TagId::new(id)) {
+                write!(text, " tag{}", ty.index());
+            }
+            if let Some(ty) = self.locals.get(LocalId::new(id)) {
+                write!(text, " {ty:?}");
+            }
         }
         push_numbers(text, &[self.builder.count()]);
     }

@@ -141,36 +141,21 @@ const SPACES: [Space; 8] = [
 /// How many indices are looked up in each space.
 const SHOWN: u32 = 12;
 
-/// Appends the id of an old index, if it has one.
-fn push_id(text: &mut Text, indices: &IndicesToIds, space: Space, index: u32) {
-    if let Ok(id) = id_of(indices, space, index) {
-        write!(text, " {space}{index}={id}");
-    }
-}
-
-/// Appends the id of a local of a function, if it has one, after this name.
-fn push_local(
-    text: &mut Text,
-    indices: &IndicesToIds,
-    name: &str,
-    function: FunctionId,
-    index: u32,
-) {
-    if let Ok(id) = indices.get_local(function, index) {
-        write!(text, " {name}{index}={}", id.index());
-    }
-}
-
-/// Appends the ids of old indices.
+/// Appends the ids of old indices, and those of the locals of two functions.
 pub(crate) fn push_ids(text: &mut Text, indices: &IndicesToIds) {
     for space in &SPACES {
         for index in 0..SHOWN {
-            push_id(text, indices, *space, index);
+            if let Ok(id) = id_of(indices, *space, index) {
+                write!(text, " {space}{index}={id}");
+            }
         }
     }
     for index in 0..SHOWN {
-        push_local(text, indices, "local", FunctionId::new(0), index);
-        push_local(text, indices, "other", FunctionId::new(3), index);
+        for (name, function) in &[("local", 0), ("other", 3)] {
+            if let Ok(id) = indices.get_local(FunctionId::new(*function), index) {
+                write!(text, " {name}{index}={}", id.index());
+            }
+        }
     }
 }
 

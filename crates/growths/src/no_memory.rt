@@ -62,67 +62,31 @@ fn read_operators(text: &mut Text) {
     push_flags(text, &[reader.eof()]);
 }
 
-fn push_id(text: &mut Text, id: Option<TypeId>) {
-    write!(text, " {:?}", id.map(TypeId::index));
-}
-
-/// The function type of a sequence, if it has one.
-fn function_type(ty: InstrSeqType) -> Option<TypeId> {
-    match ty {
-        InstrSeqType::MultiValue(id) => Some(id),
-        InstrSeqType::Simple(_) => None,
+/// Looks at types: finds some, and appends how many values a function type takes and gives.
+fn look_at_types(text: &mut Text, types: &ModuleTypes) {
+    let existing = match InstrSeqType::existing(types, &[ValType::I32], &[]) {
+        Some(InstrSeqType::MultiValue(id)) => Some(id),
+        _ => None,
+    };
+    let (empty, entry) = (types.find(&[], &[]), types.find_for_function_entry(&[]));
+    for id in [existing, empty, entry] {
+        write!(text, " {:?}", id.map(TypeId::index));
     }
-}
-
-/// The type of a sequence that takes a number and gives nothing.
-fn existing_type(types: &ModuleTypes) -> Option<TypeId> {
-    match InstrSeqType::existing(types, &[ValType::I32], &[]) {
-        Some(ty) => function_type(ty),
-        None => None,
-    }
-}
-
-/// Appends how many values a function type takes and gives.
-fn push_sizes(text: &mut Text, types: &ModuleTypes, id: TypeId) {
+    let id = TypeId::new(2);
     if types.is_func(id) {
         let (params, results) = types.params_results(id);
         push_numbers(text, &[params.len(), results.len()]);
         push_numbers(text, &[types.params(id).len(), types.results(id).len()]);
     }
-}
-
-/// Looks at types: finds some, and appends how many values a function type takes and gives.
-fn look_at_types(text: &mut Text, types: &ModuleTypes) {
-    push_id(text, existing_type(types));
-    push_id(text, types.find(&[], &[]));
-    push_id(text, types.find_for_function_entry(&[]));
-    push_sizes(text, types, TypeId::new(2));
     push_flags(text, &[types.is_func(TypeId::new(9))]);
 }
 
 /// Looks at tags, locals and new indices.
 fn look_at_items(text: &mut Text, demo: &Demo<'_>) {
-    push_id(text, demo.module.tags.get(TagId::new(1)));
+    let tag = demo.module.tags.get(TagId::new(1)).map(TypeId::index);
     let local = demo.module.locals.get(LocalId::new(1));
-    write!(text, " {local:?}");
+    write!(text, " {tag:?} {local:?}");
     push_new_indices(text, demo.numbers);
-}
-
-/// The sizes with which visitors begin.
-fn first_sizes(alloc: Global) -> [u64; 2] {
-    let size = FactsVisitor::new(alloc).facts.size;
-    [size, SizeVisitor::new().size]
-}
-
-/// How many segments a visitor begins with.
-fn first_segments(alloc: Global) -> usize {
-    DataSegmentsVisitor::new(alloc).segments.len()
-}
-
-/// Whether a function without sequences has an entry.
-fn has_entry(alloc: Global, ty: TypeId) -> bool {
-    let builder = FunctionBuilder::without_entry(alloc, ty);
-    LocalFunction::new(Vec::new(alloc), builder).has_entry()
 }
 
 /// The lengths of the parts of a context.
@@ -131,13 +95,19 @@ fn lengths(context: ValidationContext<'_>) -> [usize; 3] {
     [builder.count(), controls.len(), instrs.len()]
 }
 
-/// Makes empty collections.
+/// Makes empty collections: appends the sizes and the number of segments with which visitors begin,
+/// and whether a function without sequences has an entry.
 fn make_collections(text: &mut Text, alloc: Global, demo: &Demo<'_>) {
     Items::new(alloc, Item::Tag).show(text);
     Maps::new(alloc, Kind::OldLocal, 0).show(text);
-    write!(text, " {:?}", first_sizes(alloc));
-    push_numbers(text, &[first_segments(alloc)]);
-    push_flags(text, &[has_entry(alloc, demo.ty)]);
+    let size = FactsVisitor::new(alloc).facts.size;
+    write!(text, " {:?}", [size, SizeVisitor::new().size]);
+    push_numbers(text, &[DataSegmentsVisitor::new(alloc).segments.len()]);
+    let builder = FunctionBuilder::without_entry(alloc, demo.ty);
+    push_flags(
+        text,
+        &[LocalFunction::new(Vec::new(alloc), builder).has_entry()],
+    );
     push_numbers(text, &lengths(without_frame(alloc, demo)));
 }
 
@@ -186,8 +156,9 @@ fn change(function: &mut LocalFunction) {
     }
 }
 
-/// Appends a function's type and sequences: number, length and end.
-fn push_blocks(text: &mut Text, function: &LocalFunction) {
+/// Appends a function's type, its sequences (number, length and end), its arguments, and the range
+/// and the number of places of its body.
+fn push_function(text: &mut Text, function: &LocalFunction) {
     push_numbers(text, &[function.ty().index()]);
     for slot in 0..4 {
         let id = InstrSeqId::new(slot);
@@ -198,10 +169,6 @@ fn push_blocks(text: &mut Text, function: &LocalFunction) {
             push_location(text, seq.end);
         }
     }
-}
-
-/// Appends the arguments of a function, and the range and the number of places of its body.
-fn push_origin(text: &mut Text, function: &LocalFunction) {
     for local in &function.args {
         write!(text, " local{}", local.index());
     }
@@ -218,15 +185,9 @@ impl Scenario for LocalFunction {
             push_numbers(returned, &[self.entry_block().index()]);
             push_flags(returned, &[self.is_const()]);
         }
-        push_blocks(returned, self);
-        push_origin(returned, self);
+        push_function(returned, self);
         Ok(())
     }
-}
-
-/// Whether the innermost frame is a loop.
-fn is_loop(context: &ValidationContext<'_>) -> bool {
-    context.kind_at(0) == Ok(BlockKind::Loop)
 }
 
 /// Whether code can't be reached in the innermost frame.
@@ -237,25 +198,22 @@ fn is_dead(context: &ValidationContext<'_>) -> bool {
     }
 }
 
-/// The id of the local with the old index 2.
-fn local_of(context: &ValidationContext<'_>) -> Option<usize> {
-    match context.local(2) {
-        Ok(local) => Some(local.index()),
-        Err(_) => None,
-    }
-}
-
 impl Scenario for ValidationContext<'_> {
+    /// Looks at a type, the innermost frame, whether it has another around it, and the local with the
+    /// old index 2.
     fn call(&mut self, returned: &mut Text) -> Result<(), AllocError> {
         let has_type = self.has_block_type(BlockType::FuncType(1)).is_ok();
-        let is_loop = is_loop(self);
+        let is_loop = self.kind_at(0) == Ok(BlockKind::Loop);
         let is_marked = self.unreachable().is_ok();
         let (is_dead, has_outer) = (is_dead(self), self.control(1).is_ok());
         push_flags(
             returned,
             &[has_type, is_loop, is_marked, is_dead, has_outer],
         );
-        write!(returned, " {:?}", local_of(self));
+        match self.local(2) {
+            Ok(local) => write!(returned, " {:?}", Some(local.index())),
+            Err(_) => returned.push_str(" None"),
+        }
         Ok(())
     }
 }
@@ -310,21 +268,15 @@ fn run_function(selection: Selection<'_>, demo: &Demo<'_>, digits: &str) -> io::
     selection.run(CALL, "function", &mut function)
 }
 
-/// Runs the scenario of a function that is made by hand.
-fn run_made(selection: Selection<'_>) -> io::Result<()> {
-    let mut function = function(selection.alloc(), Wrong::Outside)?;
-    selection.run(CALL, "made", &mut function)
-}
-
-/// Runs the scenario of a function that has no entry, and so isn't written.
-fn run_without_entry(
-    selection: Selection<'_>,
-    demo: &Demo<'_>,
-    row: &str,
-    wrong: Wrong,
-) -> io::Result<()> {
-    let function = function(selection.alloc(), wrong)?;
-    entries::run(selection, demo.module, &function, CALL, row)
+/// Runs the scenario of a function that is made by hand, or that it isn't written.
+fn run_made(selection: Selection<'_>, demo: &Demo<'_>, row: &str, wrong: Wrong) -> io::Result<()> {
+    let mut function = function(selection.alloc(), wrong)?;
+    match wrong {
+        Wrong::NoEntry | Wrong::OtherEntry => {
+            entries::run(selection, demo.module, &function, CALL, row)
+        }
+        _ => selection.run(CALL, row, &mut function),
+    }
 }
 
 fn run_named(selection: Selection<'_>, demo: &Demo<'_>, digits: &str) -> io::Result<()> {
@@ -356,9 +308,9 @@ pub(crate) fn run(selection: Selection<'_>, demo: &Demo<'_>) -> io::Result<()> {
     run_indices(selection)?;
     run_numbers(selection)?;
     run_function(selection, demo, BODY)?;
-    run_made(selection)?;
+    run_made(selection, demo, "made", Wrong::Outside)?;
     for (row, wrong) in &WITHOUT_ENTRY {
-        run_without_entry(selection, demo, row, *wrong)?;
+        run_made(selection, demo, row, *wrong)?;
     }
     run_named(selection, demo, BODY)?;
     run_context(selection, demo)?;
