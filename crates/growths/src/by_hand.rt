@@ -83,15 +83,6 @@ fn last_instr(alloc: Global, wrong: Wrong) -> Result<Instr, AllocError> {
     Ok(instr)
 }
 
-/// The entry that is set.
-fn entry(wrong: Wrong) -> Option<InstrSeqId> {
-    match wrong {
-        Wrong::NoEntry => None,
-        Wrong::OtherEntry => Some(InstrSeqId::new(9)),
-        _ => Some(InstrSeqId::new(0)),
-    }
-}
-
 /// Gives a sequence its instructions. A function without a fault drops the local 1, with locations of
 /// its own. An unknown local comes before an unknown sequence, whose fault comes first.
 fn put_all(alloc: Global, sequence: &mut InstrSeq, wrong: Wrong) -> Result<(), AllocError> {
@@ -120,10 +111,12 @@ fn fill(alloc: Global, builder: &mut FunctionBuilder, wrong: Wrong) -> Result<()
     for _ in 0..count {
         builder.alloc(InstrSeqType::Simple(None))?;
     }
-    if let Some(entry) = entry(wrong) {
-        builder.set_entry(entry);
-    }
     let first = InstrSeqId::new(0);
+    match wrong {
+        Wrong::NoEntry => (),
+        Wrong::OtherEntry => builder.set_entry(InstrSeqId::new(9)),
+        _ => builder.set_entry(first),
+    }
     if builder.has(first) {
         put_all(alloc, builder.seq_mut(first), wrong)
     } else {

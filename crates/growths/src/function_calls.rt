@@ -181,28 +181,21 @@ impl Scenario for OfFunction<'_> {
 }
 
 /// The calls, of which the first three find facts.
-const CALLS: [Kind; 6] = [
-    Kind::Size,
-    Kind::Segments,
-    Kind::Facts,
-    Kind::Locals,
-    Kind::Emit,
-    Kind::EmitWithMap,
+const CALLS: [(&str, Kind); 6] = [
+    ("LocalFunction::size", Kind::Size),
+    ("LocalFunction::used_data_segments", Kind::Segments),
+    ("LocalFunction::emit_facts", Kind::Facts),
+    ("LocalFunction::emit_locals", Kind::Locals),
+    ("LocalFunction::emit_instructions", Kind::Emit),
+    (
+        "LocalFunction::emit_instructions-with-map",
+        Kind::EmitWithMap,
+    ),
 ];
-
-fn name(kind: Kind) -> &'static str {
-    match kind {
-        Kind::Size => "LocalFunction::size",
-        Kind::Segments => "LocalFunction::used_data_segments",
-        Kind::Facts => "LocalFunction::emit_facts",
-        Kind::Locals => "LocalFunction::emit_locals",
-        Kind::Emit => "LocalFunction::emit_instructions",
-        Kind::EmitWithMap => "LocalFunction::emit_instructions-with-map",
-    }
-}
 
 fn run_one(
     selection: Selection<'_>,
+    call: &str,
     row: &str,
     numbered: Numbered<'_>,
     kind: Kind,
@@ -216,7 +209,7 @@ fn run_one(
         pairs,
         kind,
     };
-    selection.run(name(kind), row, &mut of)
+    selection.run(call, row, &mut of)
 }
 
 /// The numbers of a function's locals, of which it uses these. They have none if the module doesn't
@@ -240,7 +233,7 @@ fn run_used(
     function: &LocalFunction,
     used: &IdHashSet<LocalId>,
     row: &str,
-    calls: &[Kind],
+    calls: &[(&str, Kind)],
 ) -> io::Result<()> {
     let numbers = numbers_of(selection.alloc(), demo, function, used);
     let numbered = Numbered {
@@ -250,8 +243,8 @@ fn run_used(
         used,
         numbers: &numbers,
     };
-    for kind in calls {
-        run_one(selection, row, numbered, *kind)?;
+    for (call, kind) in calls {
+        run_one(selection, call, row, numbered, *kind)?;
     }
     Ok(())
 }
@@ -272,7 +265,7 @@ fn run_calls(
     demo: &Demo<'_>,
     function: &LocalFunction,
     row: &str,
-    calls: &[Kind],
+    calls: &[(&str, Kind)],
 ) -> io::Result<()> {
     if !function.has_entry() {
         return Ok(());

@@ -20,21 +20,6 @@ struct Execution<'a> {
     turns: u64,
 }
 
-fn push_event(text: &mut Text, event: &Event) {
-    match event {
-        Event::Op(i) => write!(text, " {i}"),
-        Event::Taken { i, clause, .. } => write!(text, " {i}:taken{clause}"),
-    }
-}
-
-fn ending_name(ending: &Ending) -> &'static str {
-    match ending {
-        Ending::Returned => " returned",
-        Ending::Escaped(_) => " escaped",
-        _ => " otherwise",
-    }
-}
-
 /// The outcome of a letter, as in the arguments of `wbody trace`; `r` raises the first tag.
 fn outcome(alloc: Global, letter: char) -> Result<Outcome, AllocError> {
     match letter {
@@ -67,9 +52,16 @@ fn push_outcomes(
 
 fn push_run(text: &mut Text, run: &Run) {
     for event in &run.events {
-        push_event(text, event);
+        match event {
+            Event::Op(i) => write!(text, " {i}"),
+            Event::Taken { i, clause, .. } => write!(text, " {i}:taken{clause}"),
+        }
     }
-    text.push_str(ending_name(&run.ending));
+    match &run.ending {
+        Ending::Returned => text.push_str(" returned"),
+        Ending::Escaped(_) => text.push_str(" escaped"),
+        _ => text.push_str(" otherwise"),
+    }
 }
 
 fn run_named(

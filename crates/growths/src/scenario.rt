@@ -76,11 +76,6 @@ fn make_with_room<S: Scenario>(rt: &HostRuntime, scenario: &mut S, before: &str)
     make_once(rt, scenario, before, &mut returned)
 }
 
-/// Prints what a call was made on.
-fn print_after(rt: &HostRuntime, after: &Text) -> io::Result<()> {
-    println!(rt; "after:{}", after.whole()?)
-}
-
 /// Which scenarios are run: all, or that of one call on one row.
 #[derive(Clone, Copy)]
 pub(crate) struct Selection<'a> {
@@ -122,7 +117,8 @@ impl<'a> Selection<'a> {
         let rt = self.rt;
         println!(rt; "call: {call} {row}\nbefore:{before}")?;
         make_with_room(rt, scenario, before)?;
-        print_after(rt, &shown(rt.alloc(), scenario))
+        let after = shown(rt.alloc(), scenario);
+        println!(rt; "after:{}", after.whole()?)
     }
 
     /// Runs a scenario if it is selected.

@@ -153,16 +153,6 @@ fn run_one(
     selection.run(call, row, &mut walk)
 }
 
-fn run_both(
-    selection: Selection<'_>,
-    builder: &FunctionBuilder,
-    all: &[Event],
-    row: &str,
-) -> io::Result<()> {
-    run_one(selection, builder, all, "dfs_in_order", row, 60)?;
-    run_one(selection, builder, all, "dfs_in_order-recording", row, 0)
-}
-
 /// Runs the scenarios of these calls that are selected, on a function.
 pub(crate) fn run(
     selection: Selection<'_>,
@@ -170,5 +160,8 @@ pub(crate) fn run(
     row: &str,
 ) -> io::Result<()> {
     let all = all_events(selection.alloc(), builder)?;
-    run_both(selection, builder, &all, row)
+    for (call, room) in &[("dfs_in_order", 60), ("dfs_in_order-recording", 0)] {
+        run_one(selection, builder, &all, call, row, *room)?;
+    }
+    Ok(())
 }
