@@ -9,7 +9,7 @@ ghost use Rattle.wasm_body.specs.declared.error.ParseError.{ParseError as ParseF
 ghost use Rattle.walrus_parser.specs.Ranges.{range_of};
 ghost use Rattle.walrus_body.specs.LocalFunctions.{HasEntry, first_slot, first_instrs, is_const, LendsBuilder, LendsBlock};
 ghost use Rattle.walrus_parser.specs.Bodies.{body_input, AcceptsBody, RefusesBody, IfAccepted, IfFirstFault};
-ghost use Rattle.walrus_parser.specs.Locating.{MayCall};
+ghost use Rattle.walrus_validators.specs.Locating.{MayCall};
 ghost use Rattle.walrus_facts.specs.Facts.{count, segments, AreFacts, TreeHas};
 ghost use Rattle.walrus_facts.specs.Sizes.{IsTooLarge};
 ghost use Rattle.walrus_numbering.specs.EmittedLocals.{Declares, IsNotDeclared};

@@ -13,7 +13,7 @@ use Rattle.wasm_body.specs.Naming.{NamedOperation, Occurrence, named_in}
 use Rattle.wasm_body.specs.Parsing.Accepted.{mark, location_at, has_location, Setting, Handled, handled}
 use Rattle.wasm_body.specs.Parsing.Lists.{failure, continue_from, parsed_from}
 use Rattle.wasm_body.specs.Parsing.Progress.{Layer, Progress, Within, Whole, nothing_read, frames_of, further, progress_after}
-use Rattle.walrus_parser.specs.Checking.{placed_at}
+use Rattle.walrus_validators.specs.Checking.{placed_at}
 use Rattle.walrus_parser.specs.Advancing.{occurrence}
 use Rattle.walrus_parser.proofs.ParsedSoFar.{progress-append}
 

@@ -21,10 +21,10 @@ use Rattle.wasm_body.proofs.Parsing.Parses.{Over, one_over}
 use Rattle.wasm_body.proofs.Parsing.Stops.{passed}
 use Rattle.wasm_body.proofs.ReadBack.FrameNames.{after_frames, moves_frames, named_of, shapes, named_same}
 use Rattle.walrus_parser.specs.Bodies.{ParseInput, setting_with}
-use Rattle.walrus_parser.specs.Locating.{Locates}
+use Rattle.walrus_validators.specs.Locating.{Locates}
 use Rattle.wasm_body.specs.Parsing.Accepted.{has_location}
 use Rattle.walrus_parser.proofs.ParsedSoFar.{Reads, occurrence, goes_over, progress-append}
-use Rattle.walrus_parser.proofs.Taking.{is_admitted, located_fits}
+use Rattle.walrus_validators.proofs.Taking.{is_admitted, located_fits}
 use Rattle.wasm_flat.specs.Flat.{Named}
 
 -- ---- the frames of what was read, by the names of their openers

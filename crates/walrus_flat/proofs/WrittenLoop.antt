@@ -32,7 +32,7 @@ use Rattle.walrus_maps.specs.Environments.{environment_of}
 use Rattle.walrus_numbering.specs.NumberMaps.{numbers_by}
 use Rattle.walrus_flat.specs.UsedLocals.{entries_of}
 use Rattle.walrus_parser.specs.Bodies.{ParseInput, setting_with}
-use Rattle.walrus_parser.specs.Locating.{MayCall, Locates, HasNoLocation}
+use Rattle.walrus_validators.specs.Locating.{MayCall, Locates, HasNoLocation}
 use Rattle.walrus_parser.specs.Settings.{operators_of}
 use Rattle.walrus_parser.proofs.Bodies.{is_whole, whole_mapping}
 use Rattle.walrus_parser.proofs.ParsedSoFar.{begins, occurrence, progress-append}

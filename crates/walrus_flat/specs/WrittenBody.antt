@@ -16,7 +16,7 @@ use Rattle.wasm_body.specs.Parsing.Accepted.{Accepted}
 use Rattle.wasm_body.specs.Translation.{Located}
 use Rattle.walrus_parser.specs.Bodies.{ParseInput, setting_with, operators_input, mapped_by, operators_parsed}
 use Rattle.walrus_parser.specs.Settings.{operators_of, IsMapping}
-use Rattle.walrus_parser.specs.Locating.{Locates, HasNoLocation}
+use Rattle.walrus_validators.specs.Locating.{Locates, HasNoLocation}
 use Rattle.walrus_emit_state.specs.TreeWriting.Drafts.{Drafted}
 use Rattle.walrus_flat.specs.declared.writer.Writer.{Writer}
 use Rattle.walrus_flat.specs.Writers.{StepsWriter}

@@ -2,7 +2,7 @@
 ghost use Rattle.std.specs.Prelude.{◌≢◌, ◌<◌, [], IfErr, OnOk, Ok, Err, true, false};
 ghost use Rattle.wasm_operators.specs.Meaning.{meaning};
 ghost use Rattle.wasm_ops.specs.CommonOperators.{listed};
-ghost use Rattle.walrus_parser.specs.Checking.{Checks, placed_at};
+ghost use Rattle.walrus_validators.specs.Checking.{Checks, placed_at};
 ghost use Rattle.walrus_flat.specs.Controls.{control_listed};
 ghost use Rattle.walrus_flat.specs.Checked.{env_of};
 ghost use Rattle.walrus_flat.specs.CheckedBody.{BeginsBody, setting_at, ChecksOperators, ChecksNextAtOnce, RefusesTaking, IsTaken};

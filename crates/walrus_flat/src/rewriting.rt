@@ -11,7 +11,7 @@ ghost use Rattle.wasm_body.specs.SourceTree.{Body};
 ghost use Rattle.wasm_body.specs.Naming.{Occurrence};
 ghost use Rattle.wasm_body.specs.Parsing.Accepted.{Accepted, FirstFault};
 ghost use Rattle.walrus_parser.specs.Bodies.{input_of, body_input, body_setting, body_operators};
-ghost use Rattle.walrus_parser.specs.Locating.{MayCall};
+ghost use Rattle.walrus_validators.specs.Locating.{MayCall};
 ghost use Rattle.walrus_parser.specs.Settings.{BothOrNone};
 ghost use Rattle.walrus_body.specs.EmittedInstructions.{KeepsPairs};
 ghost use Rattle.walrus_numbering.specs.NumberMaps.{numbers_by};

@@ -18,7 +18,7 @@ use Rattle.walrus_parser.specs.declared.body_parser.BodyParser.{BodyParser}
 use Rattle.walrus_parser.specs.Advancing.{Keeps, KeepsProgress}
 use Rattle.walrus_parser.specs.Bodies.{ParseInput, mapped_by, operators_parsed, IsRefusedAnyway}
 use Rattle.walrus_parser.specs.BodyParsers.{Begins, state_of}
-use Rattle.walrus_parser.specs.Locating.{Locates, MayCall}
+use Rattle.walrus_validators.specs.Locating.{Locates, MayCall}
 use Rattle.walrus_parser.specs.NextOperator.{TakesNext, RefusesNext, not_admitted as not_admitted_at, breaks_rule}
 use Rattle.walrus_context.specs.OpenTrees.{env_of}
 use Rattle.walrus_parser.specs.Settings.{BothOrNone, locations_in, operators_of, IsMapping}

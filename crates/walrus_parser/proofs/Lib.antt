@@ -21,7 +21,6 @@ pub mod Sealing
 pub mod AnyLocations
 pub mod Mappings
 pub mod ParsedSoFar
-pub mod Taking
 pub mod Beginnings
 pub mod Bodies
 pub mod BodyResults

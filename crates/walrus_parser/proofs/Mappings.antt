@@ -9,7 +9,7 @@ use Rattle.std.proofs.lemmas.Bool.{eq-eqb}
 use Rattle.std.proofs.Common.{refl, ap, sym, ◌∙◌, arith, inl, inr}
 use Rattle.wasm_body.specs.Naming.{Occurrence}
 use Rattle.wasm_body.specs.Parsing.Accepted.{location_at}
-use Rattle.walrus_parser.specs.Locating.{Locates, MayCall}
+use Rattle.walrus_validators.specs.Locating.{Locates, MayCall}
 use Rattle.walrus_parser.specs.Settings.{pair_of, found, locations_in, BothOrNone, RiseFrom, IsMapping}
 
 pub all-append : {A : Type 0} (P : A → Type 0) (xs : List A) (x : A) → AllByRecursion P xs → P x → AllByRecursion P (xs ++ x ∷ [])

@@ -20,7 +20,7 @@ use Rattle.wasm_body.specs.Parsing.Accepted.{mark, has_location, location_at, Se
 use Rattle.wasm_body.specs.Parsing.Lists.{failure, continue_from, parsed_from}
 use Rattle.wasm_body.specs.Parsing.Progress.{Layer, Progress, Within, Whole, nothing_read, frames_of, further, progress_after}
 use Rattle.wasm_body.proofs.Structure.ReadTexts.{IsRead, read_text, text_read}
-use Rattle.walrus_parser.specs.Locating.{Locates}
+use Rattle.walrus_validators.specs.Locating.{Locates}
 use Rattle.walrus_parser.specs.Settings.{given_with, BothOrNone, locations_in, operators_of, IsMapping}
 use Rattle.walrus_parser.proofs.Mappings.{all-front, mapping-append, mapped_locations, mapped_both}
 

@@ -1,6 +1,4 @@
 -- The state while a body is parsed.
-pub mod Checking
-pub mod Locating
 pub mod NextOperator
 pub mod Settings
 pub mod Advancing

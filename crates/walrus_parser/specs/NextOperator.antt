@@ -1,4 +1,4 @@
--- The next operator of a body: whether it is admitted, and what taking it does.
+-- What taking the next operator of a body does.
 use Rattle.std.specs.Prelude.{◌≡◌, ◌⊎◌, ℕ, ◌-◌, List, [], ◌∷◌, ◌++◌, Option, IfSome, Result, Ok, Err}
 use Rattle.std.specs.Borrow.{Bor}
 use Rattle.std.specs.Fn.{Shared}
@@ -12,21 +12,12 @@ use Rattle.wasm_ops.specs.declared.common.CommonOperator.{CommonOperator}
 use Rattle.wasm_body.specs.declared.error.ParseError.{ParseError}
 use Rattle.wasm_body.specs.declared.error.ParseError.TheVariants.{Memory}
 use Rattle.wasm_body.specs.declared.error.ParseFailure.{ParseFailure}
-use Rattle.wasm_body.specs.Parsing.Accepted.{Admitted, has_location, admitted}
 use Rattle.walrus_parser.specs.declared.body_parser.BodyParser.{BodyParser}
 use Rattle.walrus_parser.specs.declared.parse.Attempt.{Attempt}
 use Rattle.walrus_parser.specs.declared.parse.Attempt.TheVariants.{Taken, Left}
 use Rattle.walrus_parser.specs.BodyParsers.{Steps, IsSameBody}
-use Rattle.walrus_parser.specs.Locating.{Locates}
-
--- At the front of whatever bytes the operator is read, this is the result of admitting it, by the bytes after it.
-abbrev pub AdmitsAs : {S F : Type 0} → Option F → (S → Placed → Result S ℕ) → S → (place : ℕ) → RawOperation → (List ℕ → Result (Admitted S) ParseError) → Type 0
-AdmitsAs on_instr_pos check s place o r =
-    (bytes rest : List ℕ) → read_operation bytes ≡ Ok (o, rest) → admitted (has_location on_instr_pos) check s place bytes ≡ r rest
-
--- The operator is admitted, and this is the validator's next state.
-abbrev pub IsAdmitted : {S F : Type 0} → Option F → (S → Placed → Result S ℕ) → (s t : S) → (place : ℕ) → RawOperation → Type 0
-IsAdmitted on_instr_pos check s t place o = AdmitsAs on_instr_pos check s place o (λ rest. Ok (record { spelt = o; rest = rest; state = t }))
+use Rattle.walrus_validators.specs.Locating.{Locates}
+use Rattle.walrus_validators.specs.Admitting.{AdmitsAs, IsAdmitted}
 
 -- An operator is taken: it is admitted, its place less the offset is added to the mapping with its location, and the parse advances.
 pub record TakesNext {S F : Type 0} (g : Shared F (Bor ℕ × Unit {0}) ℕ) (on_instr_pos : Option (Bor F)) (check : S → Placed → Result S ℕ) (s t : S) (place offset : ℕ) (o : RawOperation) (old new : BodyParser) (before after : List (ℕ × ℕ)) : Type 0 where

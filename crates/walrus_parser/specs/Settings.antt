@@ -7,7 +7,7 @@ use Rattle.wasm_operators.specs.OperatorList.{Placed}
 use Rattle.wasm_body.specs.SourceTree.{Body, body_text}
 use Rattle.wasm_body.specs.Naming.{Environment, Occurrence}
 use Rattle.wasm_body.specs.Parsing.Accepted.{Setting}
-use Rattle.walrus_parser.specs.Locating.{Locates}
+use Rattle.walrus_validators.specs.Locating.{Locates}
 
 -- ---- the setting
 

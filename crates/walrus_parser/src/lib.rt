@@ -4,14 +4,10 @@
 mod at_once;
 mod body;
 mod body_parser;
-mod check;
 mod legacy_try;
-mod locating;
-mod next;
 mod parse;
 mod try_tables;
 
 pub use body::FunctionBody;
-pub use check::{AcceptAll, CheckError, OpCheck};
-pub use next::{check_common, checked, failure};
 pub use parse::{ParsedOperators, parse_function};
+pub use walrus_validators::{AcceptAll, CheckError, OpCheck, check_common, checked, failure};

@@ -1,19 +1,19 @@
 //! Parsing the operators of a body.
 ghost use Rattle.std.specs.Prelude.{◌≡◌, ◌≤◌, ◌<◌, ◌+◌, ◌^◌, [], length, Some, IfOk, IfErr, Ok};
-ghost use Rattle.walrus_parser.specs.Locating.{MayCall, end_of};
+ghost use Rattle.walrus_validators.specs.Locating.{MayCall, end_of};
 ghost use Rattle.walrus_context.specs.OpenTrees.{env_of};
 ghost use Rattle.walrus_parser.specs.BodyParsers.{Begins};
 ghost use Rattle.walrus_parser.specs.NextOperator.{ParsesAtOnce};
 ghost use Rattle.walrus_parser.specs.Bodies.{input_of, operators_input, ParsesOperators, AcceptsBody, RefusesBody};
 
 use crate::body_parser::BodyParser;
-use crate::check::OpCheck;
-use crate::locating::location_at;
-use crate::next::{accepted_at, check_common, checked, failure, read_other, refused};
 use std::alloc::Global;
 use walrus_context::try_push;
 use walrus_ir::{FunctionBuilder, FunctionId, Instr, InstrLocId, Module, TypeId};
 use walrus_maps::{IndicesToIds, list_with_room};
+use walrus_validators::{
+    OpCheck, accepted_at, check_common, checked, failure, location_at, read_other, refused,
+};
 use wasm_body::{ParseError, ParseFailure};
 use wasm_ops::{Operator, Reader};
 

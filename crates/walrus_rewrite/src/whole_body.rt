@@ -3,7 +3,7 @@ ghost use Rattle.std.specs.Prelude.{◌≡◌, ◌⊎◌, ◌++◌, ◌≤◌, �
 ghost use Rattle.walrus_parser.specs.Ranges.{range_of};
 ghost use Rattle.walrus_body.specs.LocalFunctions.{HasEntry};
 ghost use Rattle.walrus_parser.specs.Bodies.{body_input, IfAccepted, IfFirstFault};
-ghost use Rattle.walrus_parser.specs.Locating.{MayCall};
+ghost use Rattle.walrus_validators.specs.Locating.{MayCall};
 ghost use Rattle.walrus_body.specs.EmittedInstructions.{KeepsPairs};
 ghost use Rattle.walrus_rewrite.specs.declared.error.RewriteError.TheVariants.{Parse};
 ghost use Rattle.walrus_rewrite.specs.Errors.{IsOutOfMemory};

@@ -151,8 +151,8 @@ pub(crate) struct LocalsBelow(pub usize);
 impl LocalsBelow {
     ghost use Rattle.std.specs.Prelude.{◌≡◌, ◌<◌, ◌≤◌, ℕ, OnOk, IfErr};
     ghost use Rattle.wasm_operators.specs.Meaning.{meaning};
-    ghost use Rattle.walrus_parser.specs.Checking.{Checks, placed_at};
-    ghost use Rattle.walrus_parser.specs.declared.check.CheckError.TheVariants.{Refused};
+    ghost use Rattle.walrus_validators.specs.Checking.{Checks, placed_at};
+    ghost use Rattle.walrus_validators.specs.declared.check.CheckError.TheVariants.{Refused};
     ghost use Rattle.wasm_module.specs.LocalsBelow.{locals_below};
 
     /// Checks a local that an operator names.

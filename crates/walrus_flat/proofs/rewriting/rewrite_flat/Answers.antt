@@ -1,7 +1,7 @@
 use Rattle.std.proofs.Common.{◌≡◌, ◌≤◌, ◌<◌, ◌+◌, ◌^◌, ℕ, List, length, drop, true, false, refl, ap, subst, arith}
 use Rattle.std.specs.Prelude.{IfOk, IfErr, OnErr}
 use Rattle.walrus_parser.specs.Bodies.{input_of, body_input}
-use Rattle.walrus_parser.specs.Locating.{MayCall}
+use Rattle.walrus_validators.specs.Locating.{MayCall}
 use Rattle.walrus_rewrite.specs.RewrittenBodies.{RefusesRewriting}
 use Rattle.wasm_body.specs.Pairs.{Pair}
 use Rattle.walrus_flat.specs.RewrittenFlat.{emit_input, Composes, Finishes, FinishesBoth}

@@ -1,7 +1,7 @@
 use Rattle.std.proofs.Common.{◌≡◌, ◌≤◌, ◌<◌, ◌+◌, ◌^◌, ℕ, List, length, false, refl, subst, arith}
 use Rattle.std.specs.Prelude.{IfOk, IfErr}
 use Rattle.walrus_parser.specs.Bodies.{input_of, body_input}
-use Rattle.walrus_parser.specs.Locating.{MayCall}
+use Rattle.walrus_validators.specs.Locating.{MayCall}
 use Rattle.walrus_rewrite.specs.RewrittenBodies.{RefusesRewriting}
 use Rattle.walrus_flat.specs.Sinks.{OfWhole}
 use Rattle.walrus_flat.specs.RewrittenFlat.{emit_input, Composes}

@@ -3,7 +3,7 @@ use Rattle.wasm_ops.specs.Position.{Position}
 use Rattle.wasm_body.specs.declared.error.EmitError.TheVariants.{Memory}
 use Rattle.walrus_maps.specs.Environments.{environment_of}
 use Rattle.walrus_numbering.specs.NumberMaps.{numbers_by}
-use Rattle.walrus_parser.specs.Locating.{MayCall}
+use Rattle.walrus_validators.specs.Locating.{MayCall}
 use Rattle.walrus_flat.specs.UsedLocals.{entries_of}
 use Rattle.walrus_flat.specs.Sinks.{OfWhole}
 use Rattle.walrus_flat.specs.WrittenBody.{again, IsAccepted, WritesBody, RefusesWriting}

@@ -1,6 +1,6 @@
 use Rattle.std.proofs.Common.{◌≡◌, ◌<◌, ◌+◌, suc, length, arith, rules, refl, subst, ℕ}
 use Rattle.std.specs.Bool.{OnTrue}
-use Rattle.walrus_parser.specs.Locating.{MayCall}
+use Rattle.walrus_validators.specs.Locating.{MayCall}
 use Rattle.walrus_flat.specs.Sinks.{IsLeft}
 use Rattle.walrus_flat.specs.Writers.{env_at}
 use Rattle.walrus_flat.specs.WrittenBody.{again}

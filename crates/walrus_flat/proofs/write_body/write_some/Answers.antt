@@ -5,7 +5,7 @@ use Rattle.wasm_ops.specs.Position.{Position, IsAfter}
 use Rattle.wasm_numbers.specs.declared.fault.ReadError.{ReadError}
 use Rattle.wasm_operators.specs.Spelling.{Spells, read_operation}
 use Rattle.wasm_operators.specs.Meaning.{meaning}
-use Rattle.walrus_parser.specs.Locating.{MayCall, Locates, HasNoLocation}
+use Rattle.walrus_validators.specs.Locating.{MayCall, Locates, HasNoLocation}
 use Rattle.walrus_parser.proofs.Mappings.{may_call_next}
 use Rattle.walrus_flat.specs.declared.writer.Writer.{Writer}
 use Rattle.walrus_flat.specs.WrittenBody.{WritesNextAtOnce, WritesNumber}

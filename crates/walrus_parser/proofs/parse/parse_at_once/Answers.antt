@@ -5,10 +5,10 @@ use Rattle.wasm_ops.proofs.Passing.{is_after}
 use Rattle.wasm_body.specs.declared.error.ParseFailure.{ParseFailure}
 use Rattle.wasm_body.specs.declared.error.ParseError.{ParseError}
 use Rattle.wasm_body.specs.Parsing.Accepted.{has_location}
-use Rattle.walrus_parser.specs.Checking.{fault_of}
+use Rattle.walrus_validators.specs.Checking.{fault_of}
 use Rattle.walrus_parser.specs.BodyParsers.{TakesAtOnce}
-use Rattle.walrus_parser.specs.NextOperator.{AdmitsAs}
-use Rattle.walrus_parser.proofs.Taking.{is_admitted, is_not_admitted, located_fits}
+use Rattle.walrus_validators.specs.Admitting.{AdmitsAs}
+use Rattle.walrus_validators.proofs.Taking.{is_admitted, is_not_admitted, located_fits}
 use Rattle.walrus_parser.proofs.parse.parse_at_once.Goals as goal
 
 pub returns-then-not-take_common : goal.returns-then-not-take_common

@@ -17,13 +17,13 @@ use Rattle.walrus_parser.specs.Advancing.{Keeps, KeepsProgress, occurrence}
 use Rattle.walrus_parser.specs.BodyParsers.{state_of}
 use Rattle.walrus_parser.specs.Bodies.{operators_input, HoldsBody}
 use Rattle.walrus_context.specs.OpenTrees.{env_of}
-use Rattle.walrus_parser.specs.Checking.{fault_of_refusal}
-use Rattle.walrus_parser.specs.Locating.{MayCall, Locates}
+use Rattle.walrus_validators.specs.Checking.{fault_of_refusal}
+use Rattle.walrus_validators.specs.Locating.{MayCall, Locates}
 use Rattle.walrus_parser.specs.NextOperator.{TakesNext, ParsesAtOnce}
 use Rattle.wasm_ops.specs.CommonOperators.{listed}
 use Rattle.wasm_ops.specs.Position.{Position, IsAfter}
 use Rattle.std.specs.Prelude.{IfOk, IfErr}
-use Rattle.walrus_parser.proofs.Taking.{is_not_read}
+use Rattle.walrus_validators.proofs.Taking.{is_not_read}
 use Rattle.wasm_body.specs.Naming.{Environment}
 use Rattle.walrus_parser.proofs.SingleInstructions.{no_layers}
 use Rattle.walrus_parser.proofs.Bodies.{begins_parse, still, takes, continues, unread, breaks, ends_early, over_next, over_end, body_at, goes_past, is_whole, whole_mapping, may_call_here}

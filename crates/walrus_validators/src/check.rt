@@ -20,7 +20,7 @@ pub trait OpCheck: Drop {
     ghost use Rattle.std.specs.Prelude.{ℕ, Result};
     ghost use Rattle.wasm_operators.specs.OperatorList.{Placed};
     ghost use Rattle.wasm_operators.specs.Meaning.{meaning};
-    ghost use Rattle.walrus_parser.specs.Checking.{Checks, placed_at};
+    ghost use Rattle.walrus_validators.specs.Checking.{Checks, placed_at};
 
     ghost State: { Type 0 };
 

@@ -5,9 +5,9 @@ ghost use Rattle.wasm_operators.specs.Meaning.{meaning};
 ghost use Rattle.wasm_encode.specs.Writable.{IsWritable};
 ghost use Rattle.wasm_body.specs.declared.error.ParseError.{ParseError as ParseFault};
 ghost use Rattle.wasm_body.specs.Parsing.Lists.{failure};
-ghost use Rattle.walrus_parser.specs.Checking.{Checks, placed_at, fault_of, fault_of_refusal};
-ghost use Rattle.walrus_parser.specs.Locating.{MayCall, Locates, HasNoLocation};
-ghost use Rattle.walrus_parser.specs.NextOperator.{AdmitsAs, IsAdmitted};
+ghost use Rattle.walrus_validators.specs.Checking.{Checks, placed_at, fault_of, fault_of_refusal};
+ghost use Rattle.walrus_validators.specs.Locating.{MayCall, Locates, HasNoLocation};
+ghost use Rattle.walrus_validators.specs.Admitting.{AdmitsAs, IsAdmitted};
 ghost use Rattle.wasm_ops.specs.CommonOperators.{listed};
 ghost use Rattle.wasm_ops.specs.Position.{IsAfter};
 

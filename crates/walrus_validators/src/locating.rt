@@ -1,6 +1,6 @@
 //! Locations of operators.
 ghost use Rattle.std.specs.Prelude.{◌+◌, MatchOption, Some};
-ghost use Rattle.walrus_parser.specs.Locating.{MayCall, Locates, HasNoLocation};
+ghost use Rattle.walrus_validators.specs.Locating.{MayCall, Locates, HasNoLocation};
 
 use walrus_ir::InstrLocId;
 

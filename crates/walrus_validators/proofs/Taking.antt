@@ -11,10 +11,10 @@ use Rattle.wasm_body.specs.declared.error.ParseError.{ParseError}
 use Rattle.wasm_body.specs.declared.error.ParseError.TheVariants.{Read, PlaceTooGreat, Checked, Memory}
 use Rattle.walrus_ir.specs.Results.{◌>>=◌, unless, with_fault}
 use Rattle.wasm_body.specs.Parsing.Accepted.{has_location, Admitted, admitted}
-use Rattle.walrus_parser.specs.declared.check.CheckError.{CheckError}
-use Rattle.walrus_parser.specs.declared.check.CheckError.TheVariants.{Refused, Memory as out_of_memory}
-use Rattle.walrus_parser.specs.Checking.{placed_at, Checks, fault_of}
-use Rattle.walrus_parser.specs.Locating.{Locates}
+use Rattle.walrus_validators.specs.declared.check.CheckError.{CheckError}
+use Rattle.walrus_validators.specs.declared.check.CheckError.TheVariants.{Refused, Memory as out_of_memory}
+use Rattle.walrus_validators.specs.Checking.{placed_at, Checks, fault_of}
+use Rattle.walrus_validators.specs.Locating.{Locates}
 
 -- ---- what is admitted
 

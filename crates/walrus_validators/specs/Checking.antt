@@ -5,10 +5,10 @@ use Rattle.wasm_operators.specs.OperatorList.{Placed}
 use Rattle.wasm_operators.specs.Operations.{RawOperation}
 use Rattle.wasm_body.specs.declared.error.ParseError.{ParseError}
 use Rattle.wasm_body.specs.declared.error.ParseError.TheVariants as parse
-use Rattle.walrus_parser.specs.declared.check.CheckError.{CheckError}
-use Rattle.walrus_parser.specs.declared.check.CheckError.TheVariants.{Refused, Memory}
-use Rattle.walrus_parser.specs.declared.next.Refusal.{Refusal}
-use Rattle.walrus_parser.specs.declared.next.Refusal.TheVariants.{PlaceTooGreat, Checked}
+use Rattle.walrus_validators.specs.declared.check.CheckError.{CheckError}
+use Rattle.walrus_validators.specs.declared.check.CheckError.TheVariants.{Refused, Memory}
+use Rattle.walrus_validators.specs.declared.next.Refusal.{Refusal}
+use Rattle.walrus_validators.specs.declared.next.Refusal.TheVariants.{PlaceTooGreat, Checked}
 
 abbrev pub placed_at : RawOperation → ℕ → Placed
 placed_at o place = record { spelt = o; place = place }

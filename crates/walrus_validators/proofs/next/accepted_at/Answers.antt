@@ -1,9 +1,9 @@
 use Rattle.std.proofs.Common.{inr}
 use Rattle.wasm_operators.specs.Meaning.{meaning}
 use Rattle.wasm_body.specs.Parsing.Accepted.{has_location}
-use Rattle.walrus_parser.specs.Locating.{HasNoLocation, Locates}
-use Rattle.walrus_parser.proofs.Taking.{is_admitted, is_not_admitted, is_too_great, located_fits}
-use Rattle.walrus_parser.proofs.next.accepted_at.Goals as goal
+use Rattle.walrus_validators.specs.Locating.{HasNoLocation, Locates}
+use Rattle.walrus_validators.proofs.Taking.{is_admitted, is_not_admitted, is_too_great, located_fits}
+use Rattle.walrus_validators.proofs.next.accepted_at.Goals as goal
 
 pub returns-in_default-clause-err : goal.returns-in_default-clause-err
 returns-in_default-clause-err g c =

@@ -1,0 +1,2 @@
+-- an operator that is admitted or isn't
+pub mod Taking
