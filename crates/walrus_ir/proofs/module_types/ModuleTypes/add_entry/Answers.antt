@@ -1,4 +1,4 @@
-use Rattle.std.proofs.Common.{◌≡◌, [], ◌∷◌, ◌++◌, List, map, is_some, sym, ap, subst, ◌∙◌}
+use Rattle.std.proofs.Common.{◌≡◌, [], ◌∷◌, ◌++◌, List, length, map, is_some, sym, ap, subst, ◌∙◌}
 use Rattle.std.specs.Prelude.{All}
 use Rattle.std.proofs.lemmas.List.{map-append, length-map}
 use Rattle.walrus_ir.specs.Types.{ModuleType, Entry, find_entry}
@@ -43,3 +43,29 @@ invariant_of-self-in-Ok c =
           number none c.in-Ok.ensures.ok c.add_entry.ensures.functions,
       all,
     )
+
+pub returns-then-is_some-clause-id : goal.returns-then-is_some-clause-id
+returns-then-is_some-clause-id c =
+    let types = c.self.inside.types in
+    c.new-id.ensures ∙ (c.len.ensures ∙ (types.ok.0 ∙ (sym (length-map types.items module_type) ∙ ap length c.self.view_is)))
+
+pub returns-then-is_some-clause-ok : goal.returns-then-is_some-clause-ok
+returns-then-is_some-clause-ok c =
+    let types = c.self.inside.types in
+    let added : map module_type c.push.new.self.items ≡ map module_type types.items ++ Entry c.args.results.now ∷ [] =
+    ap (map module_type) c.in_ok-push.ensures.items
+    ∙ (map-append module_type types.items _ ∙ ap (λ rs. map module_type types.items ++ Entry rs ∷ []) c.in_ok-from_slice.ensures.items) in
+    added ∙ ap (λ (ts : List ModuleType). ts ++ Entry c.args.results.now ∷ []) c.self.view_is
+
+pub returns-in-Ok-clause-id : goal.returns-in-Ok-clause-id
+returns-in-Ok-clause-id c =
+    let types = c.self.inside.types in
+    c.new-id.ensures ∙ (c.len.ensures ∙ (types.ok.0 ∙ (sym (length-map types.items module_type) ∙ ap length c.self.view_is)))
+
+pub returns-in-Ok-clause-ok : goal.returns-in-Ok-clause-ok
+returns-in-Ok-clause-ok c =
+    let types = c.self.inside.types in
+    let added : map module_type c.push-2.new.self.items ≡ map module_type types.items ++ Entry c.args.results.now ∷ [] =
+    ap (map module_type) c.in_ok-push-2.ensures.items
+    ∙ (map-append module_type types.items _ ∙ ap (λ rs. map module_type types.items ++ Entry rs ∷ []) c.in_ok-from_slice.ensures.items) in
+    added ∙ ap (λ (ts : List ModuleType). ts ++ Entry c.args.results.now ∷ []) c.self.view_is

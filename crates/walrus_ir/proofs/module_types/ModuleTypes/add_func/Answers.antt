@@ -1,4 +1,4 @@
-use Rattle.std.proofs.Common.{◌≡◌, [], ◌∷◌, ◌++◌, List, map, Some, None, is_some, sym, ap, subst, ◌∙◌}
+use Rattle.std.proofs.Common.{◌≡◌, [], ◌∷◌, ◌++◌, List, map, Some, None, is_some, length, sym, ap, subst, ◌∙◌}
 use Rattle.std.specs.Prelude.{All}
 use Rattle.std.proofs.lemmas.List.{map-append, length-map}
 use Rattle.walrus_ir.specs.Types.{ModuleType, Func, find}
@@ -52,3 +52,29 @@ invariant_of-self-in-Ok c =
           number none c.in-Ok.ensures.ok c.add_func.ensures.entries,
       all,
     )
+
+pub returns-in_ok-push-in-Some-clause-id : goal.returns-in_ok-push-in-Some-clause-id
+returns-in_ok-push-in-Some-clause-id c =
+    let types = c.self.inside.types in
+    c.new-id.ensures ∙ (c.len.ensures ∙ (types.ok.0 ∙ (sym (length-map types.items module_type) ∙ ap length c.self.view_is)))
+
+pub returns-in_ok-push-in-Some-clause-ok : goal.returns-in_ok-push-in-Some-clause-ok
+returns-in_ok-push-in-Some-clause-ok c =
+    let types = map module_type c.self.inside.types.items in
+    let added : map module_type c.push.new.self.items ≡ types ++ Func c.args.params.now c.args.results.now ∷ [] =
+    ap (map module_type) c.in_ok-push-in-Some.ensures.items
+    ∙ (map-append module_type c.self.inside.types.items _ ∙ ap (λ t. types ++ t ∷ []) c.in_ok-entry-in-Some.ensures.lists) in
+    added ∙ ap (λ (ts : List ModuleType). ts ++ Func c.args.params.now c.args.results.now ∷ []) c.self.view_is
+
+pub returns-in-Ok-clause-id : goal.returns-in-Ok-clause-id
+returns-in-Ok-clause-id c =
+    let types = c.self.inside.types in
+    c.new-id.ensures ∙ (c.len.ensures ∙ (types.ok.0 ∙ (sym (length-map types.items module_type) ∙ ap length c.self.view_is)))
+
+pub returns-in-Ok-clause-ok : goal.returns-in-Ok-clause-ok
+returns-in-Ok-clause-ok c =
+    let types = map module_type c.self.inside.types.items in
+    let added : map module_type c.push-in-None.new.self.items ≡ types ++ Func c.args.params.now c.args.results.now ∷ [] =
+    ap (map module_type) c.in_ok-push-in-None.ensures.items
+    ∙ (map-append module_type c.self.inside.types.items _ ∙ ap (λ t. types ++ t ∷ []) c.in_ok-entry-in-None.ensures.lists) in
+    added ∙ ap (λ (ts : List ModuleType). ts ++ Func c.args.params.now c.args.results.now ∷ []) c.self.view_is
