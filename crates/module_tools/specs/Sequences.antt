@@ -2,7 +2,7 @@
 use Rattle.std.specs.Prelude.{ℕ, [], ◌∷◌, pos}
 use Rattle.walrus_ir.specs.declared.seq.InstrSeq.{InstrSeq}
 use Rattle.walrus_ir.specs.declared.instr.Instr.TheVariants as instr
-use Rattle.walrus_ir.specs.declared.binary.BinaryOp.TheVariants.{I64Add}
+use Rattle.wasm_types.specs.declared.binary.BinaryOp.TheVariants.{I64Add}
 use Rattle.walrus_ir.specs.declared.value.Value.TheVariants.{I64}
 use Rattle.walrus_ir.specs.Function.{Function, with_sequence}
 use Rattle.walrus_ir.specs.Locations.{default_location}

@@ -15,7 +15,7 @@ pub(crate) struct NewLocals;
 
 impl ChangeFunction for NewLocals {
     ghost use Rattle.std.specs.Prelude.{◌≡◌, ◌++◌, [], ◌∷◌};
-    ghost use Rattle.walrus_ir.specs.declared.val_type.ValType.TheVariants.{I64, F32};
+    ghost use Rattle.wasm_types.specs.declared.val_type.ValType.TheVariants.{I64, F32};
 
     ghost State = { Unit {0} };
 

@@ -13,7 +13,7 @@ use Rattle.wasm_body.specs.declared.error.IndexError.TheVariants.{Unnumbered}
 use Rattle.wasm_body.specs.declared.error.ParseError.TheVariants as parse
 use Rattle.wasm_body.specs.declared.error.ParseFailure.{ParseFailure}
 use Rattle.wasm_body.specs.SourceTree.{Body}
-use Rattle.walrus_ir.specs.Results.{◌>>=◌, some_or, with_fault}
+use Rattle.wasm_numbers.specs.Results.{◌>>=◌, some_or, with_fault}
 use Rattle.std.specs.Ordering.{nat_cmp}
 use Rattle.std.specs.FinMap.{empty, get, from_entries, get-empty}
 use Rattle.wasm_operators.specs.declared.types.Space.{Space}

@@ -10,7 +10,7 @@ use Rattle.walrus_ir.specs.declared.control.Try.{Try}
 use Rattle.walrus_ir.specs.declared.instr.Instr.{Instr}
 use Rattle.walrus_ir.specs.declared.instr.Instr.TheVariants as instr
 use Rattle.walrus_ir.specs.declared.seq.InstrSeq.{InstrSeq}
-use Rattle.walrus_ir.specs.Results.{◌>>=◌, some_or}
+use Rattle.wasm_numbers.specs.Results.{◌>>=◌, some_or}
 use Rattle.walrus_ir.specs.Unfolding.{LocatedInstr}
 use Rattle.wasm_body.specs.declared.error.ParseError.{ParseError}
 use Rattle.wasm_body.specs.declared.error.ParseError.TheVariants.{NoSuchLabel, NoTry}

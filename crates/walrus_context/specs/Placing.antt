@@ -9,7 +9,7 @@ use Rattle.walrus_maps.specs.declared.indices_to_ids.IndicesToIds.{IndicesToIds}
 use Rattle.walrus_maps.specs.IndexMaps.{id_of}
 use Rattle.wasm_body.specs.declared.error.ParseError.{ParseError}
 use Rattle.wasm_body.specs.declared.error.ParseError.TheVariants.{NoSuchLabel, RethrowOutsideHandler, Index}
-use Rattle.walrus_ir.specs.Results.{◌>>=◌, some_or, unless, with_fault}
+use Rattle.wasm_numbers.specs.Results.{◌>>=◌, some_or, unless, with_fault}
 use Rattle.wasm_body.specs.Translation.{Translation, keeping_numbers}
 use Rattle.wasm_body.specs.Naming.{Environment, id_at, name_block}
 use Rattle.walrus_context.specs.OpenFrames.{OpenFrame}

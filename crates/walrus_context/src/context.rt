@@ -5,7 +5,7 @@ ghost use Rattle.walrus_ir.specs.declared.val_type.InstrSeqType.TheVariants.{Mul
 ghost use Rattle.wasm_body.specs.declared.error.ParseError.{ParseError as Fault};
 ghost use Rattle.walrus_context.specs.OpenFrames.{AreShown, ShowsAt, marked_dead, with_instr, HasNoFrame, HasNoFrameAt, InnerAreEmpty, with_clause_around};
 ghost use Rattle.wasm_operators.specs.declared.types.BlockType.TheVariants.{Value, FuncType};
-ghost use Rattle.walrus_ir.specs.Results.{with_fault};
+ghost use Rattle.wasm_numbers.specs.Results.{with_fault};
 ghost use Rattle.wasm_body.specs.declared.error.ParseError.TheVariants.{Index};
 ghost use Rattle.walrus_maps.specs.IndexMaps.{local_of};
 ghost use Rattle.walrus_context.specs.Placing.{block_found, kind_at, place_at};

@@ -1,6 +1,6 @@
 //! The labels of a `br_table`, as they are written.
 ghost use Rattle.std.specs.Prelude.{◌≡◌, ◌⊎◌, OnOk, IfOk, IfErr, Ok, Err};
-ghost use Rattle.walrus_ir.specs.Results.{each};
+ghost use Rattle.wasm_numbers.specs.Results.{each};
 ghost use Rattle.wasm_body.specs.declared.error.EmitError.TheVariants.{Memory};
 ghost use Rattle.walrus_emit_state.specs.TreeWriting.Closers.{places_of};
 ghost use Rattle.walrus_emit_state.specs.TreeWriting.ScopeTables.{depth_in};

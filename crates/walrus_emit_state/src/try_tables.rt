@@ -1,6 +1,6 @@
 //! The clauses of a `try_table`, as they are written.
 ghost use Rattle.std.specs.Prelude.{◌≡◌, ◌⊎◌, OnOk, IfOk, IfErr, Ok, Err};
-ghost use Rattle.walrus_ir.specs.Results.{each};
+ghost use Rattle.wasm_numbers.specs.Results.{each};
 ghost use Rattle.wasm_operators.specs.Lists.{clause_of};
 ghost use Rattle.wasm_body.specs.declared.error.EmitError.TheVariants.{Memory};
 ghost use Rattle.wasm_body.specs.Bytes.{numbers_in_32_bits};

@@ -4,19 +4,19 @@ use Rattle.std.specs.Prelude.{◌-◌, ◌||◌, ◌==◌, cond, slice_get, IsSo
 use Rattle.std.specs.HashSet.{HashSet, contains}
 use Rattle.std.proofs.Math.Bool.{and-true}
 use Rattle.std.proofs.lemmas.Cmp.{nat_eq_equiv}
-use Rattle.walrus_ir.specs.declared.val_type.ValType.{ValType}
+use Rattle.wasm_types.specs.declared.val_type.ValType.{ValType}
 use Rattle.walrus_ir.specs.Types.{Signature, signature, signature_of}
 use Rattle.wasm_operators.specs.declared.types.Space.TheVariants.{Tags}
 use Rattle.wasm_body.specs.Naming.{Environment, has_pick}
 use Rattle.walrus_maps.proofs.EntryMaps.{same_id}
 use Rattle.walrus_flat.specs.Checkers.{has_handler_type}
 use Rattle.std.proofs.lemmas.List.{reverse-append}
-use Rattle.walrus_ir.specs.declared.unary.UnaryOp.{UnaryOp}
-use Rattle.walrus_ir.specs.declared.unary.UnaryOp.TheVariants as unary
-use Rattle.walrus_ir.specs.declared.binary.BinaryOp.{BinaryOp}
-use Rattle.walrus_ir.specs.declared.binary.BinaryOp.TheVariants as binary
-use Rattle.walrus_ir.specs.declared.memory.LoadSimdKind.{LoadSimdKind}
-use Rattle.walrus_ir.specs.declared.memory.LoadSimdKind.TheVariants as vector_access
+use Rattle.wasm_types.specs.declared.unary.UnaryOp.{UnaryOp}
+use Rattle.wasm_types.specs.declared.unary.UnaryOp.TheVariants as unary
+use Rattle.wasm_types.specs.declared.binary.BinaryOp.{BinaryOp}
+use Rattle.wasm_types.specs.declared.binary.BinaryOp.TheVariants as binary
+use Rattle.wasm_types.specs.declared.memory.LoadSimdKind.{LoadSimdKind}
+use Rattle.wasm_types.specs.declared.memory.LoadSimdKind.TheVariants as vector_access
 use Rattle.wasm_operators.specs.declared.operator.Op.TheVariants as operator
 use Rattle.wasm_operators.specs.declared.reference_operator.ReferenceOp.{ReferenceOp}
 use Rattle.wasm_operators.specs.declared.reference_operator.ReferenceOp.TheVariants as reference

@@ -6,7 +6,7 @@ use Rattle.walrus_ir.specs.declared.control.BlockKind.{BlockKind}
 use Rattle.walrus_ir.specs.declared.control.BlockKind.TheVariants as kind
 use Rattle.walrus_ir.specs.declared.val_type.InstrSeqType.{InstrSeqType}
 use Rattle.walrus_ir.specs.Types.{Signature, signature_of_type}
-use Rattle.walrus_ir.specs.Results.{◌>>=◌, each}
+use Rattle.wasm_numbers.specs.Results.{◌>>=◌, each}
 use Rattle.walrus_ir.specs.Unfolding.{among}
 use Rattle.wasm_operators.specs.declared.types.BlockType.{BlockType}
 use Rattle.wasm_operators.specs.Operations.{Immediate, RawImmediate, local, block, operation, RawOperation}

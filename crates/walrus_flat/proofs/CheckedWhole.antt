@@ -6,9 +6,9 @@ use Rattle.walrus_ir.specs.Unfolding.{among}
 use Rattle.wasm_operators.specs.Laws.{AreBytes}
 use Rattle.wasm_operators.proofs.ReadingBytes.{reading_agrees}
 use Rattle.wasm_body.specs.declared.error.ParseError.{ParseError}
-use Rattle.walrus_ir.specs.declared.val_type.ValType.{ValType}
+use Rattle.wasm_types.specs.declared.val_type.ValType.{ValType}
 use Rattle.walrus_ir.specs.Types.{ModuleType, Signature, signature_of, find_entry}
-use Rattle.walrus_ir.specs.Results.{◌>>=◌, some_or}
+use Rattle.wasm_numbers.specs.Results.{◌>>=◌, some_or}
 use Rattle.wasm_body.specs.declared.error.ParseError.TheVariants.{NotAFunctionType, EntryTypeMissing}
 use Rattle.wasm_body.specs.declared.error.ParseFailure.{ParseFailure}
 use Rattle.wasm_body.specs.SourceTree.{Body, body_text}

@@ -2,10 +2,10 @@
 use Rattle.std.proofs.Common.{◌≡◌, ◌≢◌, ◌⊎◌, ℕ, List, [], ◌∷◌, Bool, true, Option, Some, None, Result, Ok, Err, OnOk, IfErr, MatchOption, refl, sym, ap, subst}
 use Rattle.walrus_ir.specs.declared.control.BlockKind.{BlockKind}
 use Rattle.walrus_ir.specs.declared.control.BlockKind.TheVariants as kind
-use Rattle.walrus_ir.specs.declared.unary.UnaryOp.{UnaryOp}
-use Rattle.walrus_ir.specs.declared.binary.BinaryOp.{BinaryOp}
+use Rattle.wasm_types.specs.declared.unary.UnaryOp.{UnaryOp}
+use Rattle.wasm_types.specs.declared.binary.BinaryOp.{BinaryOp}
 use Rattle.walrus_ir.specs.Types.{Signature}
-use Rattle.walrus_ir.specs.Results.{◌>>=◌}
+use Rattle.wasm_numbers.specs.Results.{◌>>=◌}
 use Rattle.wasm_operators.specs.declared.types.BlockType.{BlockType}
 use Rattle.wasm_operators.specs.declared.types.Opcode.TheVariants.{Byte}
 use Rattle.wasm_operators.specs.declared.operator.Op.TheVariants as op

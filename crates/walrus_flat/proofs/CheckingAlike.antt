@@ -6,7 +6,7 @@ use Rattle.std.proofs.lemmas.Option.{slice_get_past}
 use Rattle.walrus_ir.specs.declared.control.BlockKind.{BlockKind}
 use Rattle.walrus_ir.specs.declared.control.BlockKind.TheVariants as kind
 use Rattle.walrus_ir.specs.Types.{Signature, ModuleType}
-use Rattle.walrus_ir.specs.Results.{◌>>=◌, some_or, unless, with_fault}
+use Rattle.wasm_numbers.specs.Results.{◌>>=◌, some_or, unless, with_fault}
 use Rattle.wasm_operators.specs.declared.types.BlockType.{BlockType}
 use Rattle.wasm_operators.specs.Operations.{Immediate, operation, RawOperation}
 use Rattle.wasm_body.specs.declared.error.ParseError.{ParseError}

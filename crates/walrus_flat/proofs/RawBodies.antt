@@ -1,6 +1,6 @@
 -- The raw body of an accepted body, from its parts; and why there is none.
 use Rattle.std.proofs.Common.{◌≡◌, List, length, map, Ok, Err, refl, ap, subst, ◌∙◌}
-use Rattle.walrus_ir.specs.Results.{◌>>=◌}
+use Rattle.wasm_numbers.specs.Results.{◌>>=◌}
 use Rattle.walrus_ir.specs.Unfolding.{among}
 use Rattle.wasm_encode.specs.Declarations as encoded
 use Rattle.wasm_body.specs.SourceTree.{Body}

@@ -4,8 +4,8 @@ use Rattle.std.proofs.lemmas.Bool.{lt-ltb}
 use Rattle.std.specs.Prelude.{if◌then◌else◌, ◌%◌, ◌/◌, ◌+◌}
 use Rattle.walrus_ir.specs.declared.val_type.InstrSeqType.{InstrSeqType}
 use Rattle.walrus_ir.specs.declared.val_type.InstrSeqType.TheVariants.{Simple}
-use Rattle.walrus_ir.specs.declared.val_type.ValType.{ValType}
-use Rattle.walrus_ir.specs.declared.val_type.ValType.TheVariants as value
+use Rattle.wasm_types.specs.declared.val_type.ValType.{ValType}
+use Rattle.wasm_types.specs.declared.val_type.ValType.TheVariants as value
 use Rattle.wasm_operators.specs.declared.types.BlockType.TheVariants.{Empty, Value}
 use Rattle.wasm_operators.specs.Shortest.{short_unsigned, short_number}
 use Rattle.walrus_flat.specs.Writers.{IsTypeByte}

@@ -4,7 +4,7 @@ use Rattle.std.specs.Prelude.{is_some, unwrap_or}
 use Rattle.walrus_ir.specs.declared.val_type.InstrSeqType.{InstrSeqType}
 use Rattle.walrus_ir.specs.declared.val_type.InstrSeqType.TheVariants.{Simple}
 use Rattle.walrus_ir.specs.Types.{Signature, pick}
-use Rattle.walrus_ir.specs.Results.{◌>>=◌, gather, unless}
+use Rattle.wasm_numbers.specs.Results.{◌>>=◌, gather, unless}
 use Rattle.walrus_ir.specs.Locations.{default_location}
 use Rattle.wasm_operators.specs.declared.types.BlockType.{BlockType}
 use Rattle.wasm_operators.specs.declared.types.Space.TheVariants.{Tags}

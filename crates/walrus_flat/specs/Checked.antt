@@ -6,7 +6,7 @@ use Rattle.walrus_ir.specs.declared.control.BlockKind.{BlockKind}
 use Rattle.walrus_ir.specs.declared.control.BlockKind.TheVariants as kind
 use Rattle.wasm_operators.specs.Operations.{RawOperation}
 use Rattle.wasm_body.specs.declared.error.ParseError.{ParseError}
-use Rattle.walrus_ir.specs.Results.{◌>>=◌, some_or, unless, with_fault}
+use Rattle.wasm_numbers.specs.Results.{◌>>=◌, some_or, unless, with_fault}
 use Rattle.wasm_body.specs.declared.error.ParseError.TheVariants.{Memory, Index, NoSuchLabel, RethrowOutsideHandler}
 use Rattle.wasm_body.specs.Control.{Marked, control_of}
 use Rattle.wasm_body.specs.Frames.{Frame, OfFunction, OfWrapper, Consequent, Alternative, TryBody, Handler, HandlerOfAll, moves}

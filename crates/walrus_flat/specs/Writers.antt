@@ -6,7 +6,7 @@ use Rattle.wasm_operators.specs.Meaning.{Listed, meaning}
 use Rattle.walrus_parser.specs.OperatorKinds.{is_diverging}
 use Rattle.walrus_emit_state.specs.TreeWriting.Drafts.{with_written, with_bytes}
 use Rattle.walrus_ir.specs.Types.{Signature, pick}
-use Rattle.walrus_ir.specs.Results.{gather}
+use Rattle.wasm_numbers.specs.Results.{gather}
 use Rattle.wasm_operators.specs.declared.types.BlockType.{BlockType}
 use Rattle.wasm_operators.specs.declared.types.Opcode.TheVariants.{Byte}
 use Rattle.wasm_operators.specs.Operations.{block, operation, RawOperation}

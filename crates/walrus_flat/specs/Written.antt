@@ -1,7 +1,7 @@
 -- The operators of a body that is written while it is read.
 use Rattle.std.specs.Prelude.{◌≡◌, ◌⊎◌, ℕ, List, [], ◌∷◌, map, reverse, Bool, true, false, Option, Some, None, Result, Ok, Err}
 use Rattle.walrus_ir.specs.declared.val_type.InstrSeqType.{InstrSeqType}
-use Rattle.walrus_ir.specs.Results.{◌>>=◌, gather, with_fault}
+use Rattle.wasm_numbers.specs.Results.{◌>>=◌, gather, with_fault}
 use Rattle.wasm_operators.specs.Operations.{RawOperation}
 use Rattle.wasm_operators.specs.declared.types.Space.{Space}
 use Rattle.wasm_body.specs.declared.error.EmitError.{EmitError}

@@ -1,6 +1,6 @@
 //! Operators as they are read become operators with new numbers.
 ghost use Rattle.std.specs.Prelude.{◌≡◌, ◌<◌, ◌^◌, IfOk};
-ghost use Rattle.walrus_ir.specs.Results.{some_or};
+ghost use Rattle.wasm_numbers.specs.Results.{some_or};
 ghost use Rattle.wasm_body.specs.declared.error.EmitError.TheVariants.{UnnumberedLocal};
 ghost use Rattle.walrus_numbering.specs.EmittedLocals.{number_in};
 ghost use Rattle.walrus_flat.specs.UsedLocals.{entries_of};

@@ -2,7 +2,7 @@
 ghost use Rattle.std.specs.Prelude.{◌≡◌, ◌⊎◌, ◌<◌, ◌^◌, [], true, IfOk, IfErr, Ok, Err};
 ghost use Rattle.walrus_ir.specs.declared.instr.Instr.TheVariants as instr;
 ghost use Rattle.walrus_ir.specs.Unfolding.{slots_in};
-ghost use Rattle.walrus_ir.specs.Results.{each};
+ghost use Rattle.wasm_numbers.specs.Results.{each};
 ghost use Rattle.wasm_operators.specs.declared.operator.Op.TheVariants as op;
 ghost use Rattle.wasm_operators.specs.Meaning.{meaning};
 ghost use Rattle.wasm_encode.specs.Writable.{IsWritable};

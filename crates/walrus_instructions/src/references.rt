@@ -2,7 +2,7 @@
 //! the order in which they are written.
 ghost use Rattle.std.specs.Prelude.{◌≡◌, [], IfOk};
 ghost use Rattle.walrus_ir.specs.Unfolding.{slots_in};
-ghost use Rattle.walrus_ir.specs.Results.{Gives};
+ghost use Rattle.wasm_numbers.specs.Results.{Gives};
 ghost use Rattle.wasm_operators.specs.ReferenceOperations.{reference_operation};
 ghost use Rattle.wasm_body.specs.InstructionTable.{operation_of, clauses_of_try};
 ghost use Rattle.walrus_instructions.specs.Placed.{cast_by, placed_by};

@@ -5,7 +5,7 @@ use Rattle.std.specs.Option.{option_or}
 use Rattle.std.proofs.lemmas.List.Elements.{All-append, All-weaker}
 use Rattle.walrus_ir.specs.declared.module_types.TypeEntry.{TypeEntry}
 use Rattle.walrus_ir.specs.declared.module_types.TypeEntry.TheVariants as entries
-use Rattle.walrus_ir.specs.declared.val_type.ValType.{ValType}
+use Rattle.wasm_types.specs.declared.val_type.ValType.{ValType}
 use Rattle.walrus_ir.specs.Types.{ModuleType, Func, same_types, is_function, find}
 use Rattle.walrus_ir.specs.TypeEntries.{KnowsFirst}
 use Rattle.walrus_ir.proofs.SameTypes.{same_types-Decides}

@@ -1,5 +1,3 @@
--- results that may be faults, in every crate
-pub mod ResultLemmas
 -- types: the test for equal types decides equality; the first position that passes a test, for the pick; lists that the order
 -- of value types doesn't distinguish are equal; the index of types, and the first type with the lists of each, one type more at
 -- a time

@@ -4,7 +4,7 @@ use Rattle.std.specs.Prelude.{position, MatchOption, IsSomeAnd}
 use Rattle.std.specs.Option.{option_map}
 use Rattle.std.specs.List.{prefix_len}
 use Rattle.std.proofs.lemmas.List.{length-map}
-use Rattle.walrus_ir.specs.declared.val_type.ValType.{ValType}
+use Rattle.wasm_types.specs.declared.val_type.ValType.{ValType}
 use Rattle.walrus_ir.specs.declared.val_type.InstrSeqType.TheVariants.{MultiValue}
 use Rattle.walrus_ir.specs.Types.{ModuleType, find, existing}
 

@@ -13,9 +13,9 @@ use Rattle.std.specs.BTreeMap.{insert_entry, is_at}
 use Rattle.std.proofs.lemmas.Iterator.Adapters.{position_from-zero}
 use Rattle.std.proofs.lemmas.Bool.Decides.{Decides-and}
 use Rattle.std.proofs.lemmas.Cmp.{ranked}
-use Rattle.walrus_ir.specs.declared.val_type.ValType.{ValType}
+use Rattle.wasm_types.specs.declared.val_type.ValType.{ValType}
 use Rattle.walrus_ir.specs.Types.{ModuleType, Func, Entry, Other, same_types, is_function, is_entry, find, find_entry}
-use Rattle.walrus_ir.specs.TypeOrder.{type_order}
+use Rattle.wasm_types.specs.TypeOrder.{type_order}
 use Rattle.walrus_ir.specs.TypeDigest.{func_digest, entry_digest}
 use Rattle.walrus_ir.specs.TypeIndex.{ByList, at_list, at_lists, by_list, ByDigest, at_digest, passes, first_or, TakesDigest, TakesList, TakesLists, AddsFunc, AddsEntry, IsIndexOf}
 use Rattle.walrus_ir.proofs.SameTypes.{same_types-Decides}

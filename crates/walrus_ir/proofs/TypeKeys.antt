@@ -4,12 +4,12 @@ use Rattle.std.specs.Ordering.{is_eq}
 use Rattle.std.specs.declared.cmp.Ordering.{Ordering}
 use Rattle.std.specs.Cmp.Lexicographic.{slice_cmp, pointwise, lists_ties, texts_ties}
 use Rattle.std.proofs.Math.Bool.{and-true}
-use Rattle.walrus_ir.specs.declared.val_type.HeapType.{HeapType}
-use Rattle.walrus_ir.specs.declared.val_type.HeapType.TheVariants.{Abstract, Concrete}
-use Rattle.walrus_ir.specs.declared.val_type.ValType.{ValType}
-use Rattle.walrus_ir.specs.declared.val_type.ValType.TheVariants.{I32, I64, F32, F64, V128, Ref}
-use Rattle.walrus_ir.specs.Types.{rank_of, same_heap, same_bool, same_type, same_types}
-use Rattle.walrus_ir.specs.TypeOrder.{nullable_rank, heap_type_key, type_key, type_order}
+use Rattle.wasm_types.specs.declared.val_type.HeapType.{HeapType}
+use Rattle.wasm_types.specs.declared.val_type.HeapType.TheVariants.{Abstract, Concrete}
+use Rattle.wasm_types.specs.declared.val_type.ValType.{ValType}
+use Rattle.wasm_types.specs.declared.val_type.ValType.TheVariants.{I32, I64, F32, F64, V128, Ref}
+use Rattle.walrus_ir.specs.Types.{same_heap, same_bool, same_type, same_types}
+use Rattle.wasm_types.specs.TypeOrder.{rank_of, nullable_rank, heap_type_key, type_key, type_order}
 use Rattle.walrus_ir.proofs.SameTypes.{same_pointwise}
 
 same_heap_key : (a b : HeapType ℕ) → same_heap a b ≡ pointwise nat_eq (heap_type_key a) (heap_type_key b)

@@ -1,9 +1,5 @@
--- results that may be faults, from left to right, in every crate
-pub mod Results
--- the types of values and of a module, and the pick; the order of value types; the table of types, digests of lists and the
--- index
+-- equal types of values; the types of a module, and the pick; the table of types, digests of lists and the index
 pub mod Types
-pub mod TypeOrder
 pub mod TypeEntries
 pub mod TypeDigest
 pub mod TypeIndex

@@ -1,6 +1,6 @@
 -- The contents of the table of a module's locals, as the list of their types.
 use Rattle.std.specs.Prelude.{◌≡◌, ◌≤◌, ◌-◌, ℕ, List, [], ◌∷◌, ◌++◌, replicate}
-use Rattle.walrus_ir.specs.declared.val_type.ValType.{ValType}
+use Rattle.wasm_types.specs.declared.val_type.ValType.{ValType}
 use Rattle.walrus_ir.specs.declared.module_locals.LocalRun.{LocalRun}
 
 -- the types of the locals of these runs, if this number of locals come before them

@@ -1,12 +1,11 @@
 -- The types of a module, and the type of a sequence with given parameters and results.
 use Rattle.std.specs.Prelude.{ℕ, List, [], ◌∷◌, Bool, true, false, ◌&&◌, ◌==◌, Option, Some, None, slice_get, position, option_and_then}
 use Rattle.std.specs.Option.{option_map}
-use Rattle.walrus_ir.specs.declared.val_type.AbstractHeapType.{AbstractHeapType}
-use Rattle.walrus_ir.specs.declared.val_type.AbstractHeapType.TheVariants as abstract
-use Rattle.walrus_ir.specs.declared.val_type.HeapType.{HeapType}
-use Rattle.walrus_ir.specs.declared.val_type.HeapType.TheVariants.{Abstract, Concrete}
-use Rattle.walrus_ir.specs.declared.val_type.ValType.{ValType}
-use Rattle.walrus_ir.specs.declared.val_type.ValType.TheVariants.{I32, I64, F32, F64, V128, Ref}
+use Rattle.wasm_types.specs.TypeOrder.{rank_of}
+use Rattle.wasm_types.specs.declared.val_type.HeapType.{HeapType}
+use Rattle.wasm_types.specs.declared.val_type.HeapType.TheVariants.{Abstract, Concrete}
+use Rattle.wasm_types.specs.declared.val_type.ValType.{ValType}
+use Rattle.wasm_types.specs.declared.val_type.ValType.TheVariants.{I32, I64, F32, F64, V128, Ref}
 use Rattle.walrus_ir.specs.declared.val_type.InstrSeqType.{InstrSeqType}
 use Rattle.walrus_ir.specs.declared.val_type.InstrSeqType.TheVariants.{Simple, MultiValue}
 
@@ -35,21 +34,6 @@ abbrev pub signature_of : List ModuleType → ℕ → Option Signature
 signature_of types id = option_and_then signature_in (slice_get types id)
 
 -- ---- equal types
-
--- the rank of an abstract heap type in their order
-abbrev pub rank_of : AbstractHeapType → ℕ
-rank_of abstract.NoExn = 0
-rank_of abstract.NoFunc = 1
-rank_of abstract.NoExtern = 2
-rank_of abstract.None = 3
-rank_of abstract.Func = 4
-rank_of abstract.Extern = 5
-rank_of abstract.Any = 6
-rank_of abstract.Eq = 7
-rank_of abstract.I31 = 8
-rank_of abstract.Struct = 9
-rank_of abstract.Array = 10
-rank_of abstract.Exn = 11
 
 abbrev pub same_heap : HeapType ℕ → HeapType ℕ → Bool
 same_heap (Abstract a) (Abstract b) = rank_of a == rank_of b

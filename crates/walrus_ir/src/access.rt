@@ -1,7 +1,8 @@
 //! Instructions on memories.
 
-use crate::id::{DataId, MemoryId};
-use crate::memory::{AtomicOp, AtomicWidth, LoadKind, LoadSimdKind, MemArg, StoreKind};
+use wasm_types::{
+    AtomicOp, AtomicWidth, DataId, LoadKind, LoadSimdKind, MemArg, MemoryId, StoreKind,
+};
 
 /// A load; narrow and atomic loads too.
 #[derive(Clone, Copy)]

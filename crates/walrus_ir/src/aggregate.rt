@@ -1,6 +1,6 @@
 //! Instructions on structs and arrays.
 
-use crate::id::{DataId, ElementId, TypeId};
+use wasm_types::{DataId, ElementId, TypeId};
 
 /// `struct.new`.
 #[derive(Clone, Copy)]

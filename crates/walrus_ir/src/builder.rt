@@ -4,12 +4,12 @@ ghost use Rattle.std.specs.Borrow.{sem};
 ghost use Rattle.walrus_ir.specs.Lending.{LendsSequence};
 ghost use Rattle.walrus_ir.specs.Function.{empty_function, with_new_sequence};
 
-use crate::id::{InstrSeqId, TypeId};
 use crate::location::InstrLocId;
 use crate::seq::InstrSeq;
 use crate::val_type::InstrSeqType;
 use std::alloc::{AllocError, Global};
 use std::marker::Model;
+use wasm_types::{InstrSeqId, TypeId};
 
 /// The sequences of a function. Instructions refer to them by their slots, which are numbered from
 /// 0. In a contract, a builder is the function's type, the list of sequences, and the entry.

@@ -1,6 +1,6 @@
 //! Calls.
 
-use crate::id::{FunctionId, TableId, TypeId};
+use wasm_types::{FunctionId, TableId, TypeId};
 
 /// `call`.
 #[derive(Clone, Copy)]

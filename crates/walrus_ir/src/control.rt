@@ -1,8 +1,7 @@
 //! Instructions of structured control, and branches. In a contract, clauses and targets are lists.
 
-use crate::id::{InstrSeqId, TagId};
-use crate::val_type::HeapType;
 use std::marker::Model;
+use wasm_types::{HeapType, InstrSeqId, TagId};
 
 /// The role of a sequence of instructions in the construct that contains it.
 #[derive(Clone, Copy, Debug, PartialEq, Eq)]

@@ -1,11 +1,11 @@
 //! What a function's body needs to know of its module.
 ghost use Rattle.std.specs.Prelude.{◌≡◌, List, [], ◌∷◌, ◌++◌, length, slice_get, IfOk, OnErr};
 
-use crate::id::{Id, TypeId, kind};
 use crate::module_locals::ModuleLocals;
 use crate::module_types::ModuleTypes;
 use std::alloc::{AllocError, Global};
 use std::marker::{Model, PhantomData};
+use wasm_types::{Id, TypeId, kind};
 
 /// The items of one kind in a module, by id. In a contract, they are a list.
 #[derive(Drop)]

@@ -2,10 +2,9 @@
 ghost use Rattle.std.specs.Prelude.{◌≡◌, [], ◌∷◌, ◌++◌, length, replicate, slice_get, IfOk, OnErr};
 ghost use Rattle.std.specs.Option.{option_map};
 
-use crate::id::LocalId;
-use crate::val_type::ValType;
 use std::alloc::{AllocError, Global};
 use std::marker::Model;
+use wasm_types::{LocalId, ValType};
 
 /// Locals of one type, one after the other.
 #[derive(Clone, Copy)]
@@ -37,7 +36,7 @@ pub struct ModuleLocals {
 
 impl Model for ModuleLocals {
     ghost use Rattle.std.specs.Prelude.{List, ℕ};
-    ghost use Rattle.walrus_ir.specs.declared.val_type.ValType.{ValType as ValueType};
+    ghost use Rattle.wasm_types.specs.declared.val_type.ValType.{ValType as ValueType};
 
     ghost Value = { List (ValueType ℕ) };
 

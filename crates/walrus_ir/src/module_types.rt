@@ -5,13 +5,11 @@ ghost use Rattle.walrus_ir.specs.Types.{same_types, is_function, is_entry, find,
 ghost use Rattle.walrus_ir.specs.TypeEntries.{module_type, KnowsFirst};
 ghost use Rattle.walrus_ir.specs.TypeIndex.{passes};
 
-use crate::id::TypeId;
-use crate::laws::law_type_order;
 use crate::type_digest::{entry_digest, func_digest};
 use crate::type_index::TypeIndex;
-use crate::val_type::ValType;
 use std::alloc::{AllocError, Global};
 use std::marker::Model;
+use wasm_types::{TypeId, ValType, law_type_order};
 
 /// A type of the module.
 #[derive(Drop)]

@@ -1,11 +1,7 @@
 //! Instructions on operands, locals and globals.
 
-use crate::binary::BinaryOp;
-use crate::id::{GlobalId, LocalId};
-use crate::ternary::TernaryOp;
-use crate::unary::UnaryOp;
-use crate::val_type::ValType;
 use crate::value::Value;
+use wasm_types::{BinaryOp, GlobalId, LocalId, TernaryOp, UnaryOp, ValType};
 
 /// A constant.
 #[derive(Clone, Copy)]

@@ -9,11 +9,11 @@ ghost use Rattle.walrus_ir.specs.declared.error.WalkError.TheVariants.{Memory};
 use crate::builder::FunctionBuilder;
 use crate::control::LegacyCatch;
 use crate::error::WalkError;
-use crate::id::InstrSeqId;
 use crate::instr::Instr;
 use crate::location::InstrLocId;
 use crate::seq::InstrSeq;
 use std::alloc::AllocError;
+use wasm_types::InstrSeqId;
 
 /// A part of a function that is still to be processed.
 #[derive(Clone, Copy)]

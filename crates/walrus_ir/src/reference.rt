@@ -1,7 +1,6 @@
 //! Instructions that make and test references.
 
-use crate::id::FunctionId;
-use crate::val_type::{HeapType, RefType};
+use wasm_types::{FunctionId, HeapType, RefType};
 
 /// `ref.null`. Only the heap type is written to a module, not whether the type is nullable.
 #[derive(Clone, Copy)]

@@ -1,11 +1,11 @@
 //! Sequences of instructions.
 ghost use Rattle.std.specs.Prelude.{◌≡◌, ◌==◌, length};
 
-use crate::id::InstrSeqId;
 use crate::instr::Instr;
 use crate::location::InstrLocId;
 use crate::val_type::InstrSeqType;
 use std::marker::Model;
+use wasm_types::InstrSeqId;
 
 /// A sequence of instructions. Instructions refer to it by its slot in its function's builder. In a
 /// contract, its instructions are a list.

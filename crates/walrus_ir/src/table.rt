@@ -1,6 +1,6 @@
 //! Instructions on tables.
 
-use crate::id::{ElementId, TableId};
+use wasm_types::{ElementId, TableId};
 
 /// `table.get`.
 #[derive(Clone, Copy)]

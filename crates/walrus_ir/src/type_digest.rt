@@ -1,10 +1,10 @@
 //! Digests of lists of value types: numbers that differ for most pairs of lists, so that few lists
 //! have to be compared.
 ghost use Rattle.std.specs.Prelude.{◌≡◌};
-ghost use Rattle.walrus_ir.specs.Types.{rank_of};
+ghost use Rattle.wasm_types.specs.TypeOrder.{rank_of};
 ghost use Rattle.walrus_ir.specs.TypeDigest.{mixed, heap_number, type_number, digest_of, func_digest, entry_digest};
 
-use crate::val_type::{AbstractHeapType, HeapType, ValType};
+use wasm_types::{AbstractHeapType, HeapType, ValType};
 
 /// 2^64 divided by the golden ratio: an odd number whose bits have no pattern.
 const FACTOR: u64 = 0x9e37_79b9_7f4a_7c15;

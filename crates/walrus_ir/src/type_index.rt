@@ -3,16 +3,14 @@ ghost use Rattle.std.specs.Prelude.{◌≡◌, [], Some, None, cond, ◌&&◌, O
 ghost use Rattle.std.specs.Option.{option_or};
 ghost use Rattle.walrus_ir.specs.Types.{same_types};
 ghost use Rattle.walrus_ir.specs.TypeDigest.{func_digest, entry_digest};
-ghost use Rattle.walrus_ir.specs.declared.val_type.ValType.{ValType as ValueType};
+ghost use Rattle.wasm_types.specs.declared.val_type.ValType.{ValType as ValueType};
 ghost use Rattle.walrus_ir.specs.TypeIndex.{at_list, at_lists, at_digest, TakesDigest, TakesList, TakesLists, AddsFunc, AddsEntry};
 
-use crate::id::TypeId;
-use crate::laws::law_type_order;
 use crate::type_digest::{entry_digest, func_digest};
-use crate::val_type::ValType;
 use std::alloc::{AllocError, Global};
 use std::collections::BTreeMap;
 use std::marker::Model;
+use wasm_types::{TypeId, ValType, law_type_order};
 
 /// Ids by list of value types, in an ordered map, so that each list is found in logarithmic time.
 /// In a contract, it is each list with its id.

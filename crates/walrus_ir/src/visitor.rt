@@ -1,11 +1,11 @@
 //! Visitors.
 
 use crate::error::WalkError;
-use crate::id::{DataId, LocalId};
 use crate::instr::Instr;
 use crate::location::InstrLocId;
 use crate::reference::RefFunc;
 use crate::seq::InstrSeq;
+use wasm_types::{DataId, LocalId};
 
 /// Receives the events of a walk. Each call may fail, which ends the walk; a call that fails leaves
 /// the visitor as it was.

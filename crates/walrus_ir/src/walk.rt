@@ -11,13 +11,13 @@ use crate::access::{DataDrop, MemoryInit};
 use crate::aggregate::{ArrayInitData, ArrayNewData};
 use crate::builder::FunctionBuilder;
 use crate::error::WalkError;
-use crate::id::InstrSeqId;
 use crate::instr::Instr;
 use crate::location::InstrLocId;
 use crate::plain::{LocalGet, LocalSet, LocalTee};
 use crate::plan::{count_inside, walk_order};
 use crate::seq::InstrSeq;
 use crate::visitor::Visitor;
+use wasm_types::InstrSeqId;
 
 /// A sequence that has started and not ended.
 #[derive(Clone, Copy)]

@@ -14,8 +14,8 @@ use Rattle.wasm_operators.specs.declared.types.Space.TheVariants.{Tables, Types,
 use Rattle.walrus_maps.specs.declared.ids_to_indices.IdsToIndices.{IdsToIndices}
 use Rattle.walrus_maps.specs.IndexMaps.{numbers_in, with_numbers, with_next_number, numbered, number_of}
 use Rattle.wasm_body.specs.declared.error.IndexError.TheVariants.{Unnumbered}
-use Rattle.walrus_ir.specs.Results.{some_or}
-use Rattle.walrus_ir.proofs.ResultLemmas.{some_or_ok}
+use Rattle.wasm_numbers.specs.Results.{some_or}
+use Rattle.wasm_numbers.proofs.ResultLemmas.{some_or_ok}
 use Rattle.walrus_maps.specs.Numbering.{pushed, AreNumberedInOrder, PushesNumberInOrder}
 
 -- the item at a position of a list with one more item

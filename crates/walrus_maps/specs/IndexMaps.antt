@@ -9,7 +9,7 @@ use Rattle.wasm_body.specs.declared.error.IndexError.{IndexError}
 use Rattle.wasm_body.specs.declared.error.IndexError.TheVariants.{OutOfRange, Unnumbered}
 use Rattle.walrus_maps.specs.declared.indices_to_ids.IndicesToIds.{IndicesToIds}
 use Rattle.walrus_maps.specs.declared.ids_to_indices.IdsToIndices.{IdsToIndices}
-use Rattle.walrus_ir.specs.Results.{some_or}
+use Rattle.wasm_numbers.specs.Results.{some_or}
 use Rattle.walrus_maps.specs.Locals.{list_of, with_local, local_in}
 
 -- ---- from old indices to ids

@@ -4,7 +4,7 @@ use Rattle.std.specs.Ordering.{nat_cmp}
 use Rattle.std.specs.FinMap.{FinMap, get, insert}
 use Rattle.wasm_body.specs.declared.error.IndexError.{IndexError}
 use Rattle.wasm_body.specs.declared.error.IndexError.TheVariants.{NoLocals, LocalOutOfRange}
-use Rattle.walrus_ir.specs.Results.{◌>>=◌, some_or}
+use Rattle.wasm_numbers.specs.Results.{◌>>=◌, some_or}
 
 -- the locals of a function; it has none if it has no list
 abbrev pub list_of : FinMap nat_cmp (List ℕ) → ℕ → List ℕ

@@ -1,7 +1,7 @@
 //! The ids of one kind, by old index.
 ghost use Rattle.std.specs.Prelude.{◌≡◌, ◌<◌, ℕ, List, [], ◌∷◌, ◌++◌, length, slice_get, slice_set, IfOk, OnOk, OnErr};
 ghost use Rattle.walrus_maps.specs.Growth.{GrowsFrom};
-ghost use Rattle.walrus_ir.specs.Results.{some_or};
+ghost use Rattle.wasm_numbers.specs.Results.{some_or};
 
 use crate::growth::index_after;
 use std::alloc::Global;

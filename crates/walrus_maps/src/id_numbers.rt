@@ -2,7 +2,7 @@
 ghost use Rattle.std.specs.Prelude.{◌≡◌, ℕ, OnOk, OnErr, IsOkUnless, None, slice_get};
 ghost use Rattle.std.specs.Ordering.{nat_cmp};
 ghost use Rattle.std.specs.FinMap as map;
-ghost use Rattle.walrus_ir.specs.Results.{some_or};
+ghost use Rattle.wasm_numbers.specs.Results.{some_or};
 ghost use Rattle.walrus_maps.specs.Growth.{GrowsFrom};
 
 use crate::growth::index_after;

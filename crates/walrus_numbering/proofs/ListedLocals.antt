@@ -8,7 +8,7 @@ use Rattle.std.specs.Option.{option_flatten, option_or}
 use Rattle.std.specs.Map.{lookup}
 use Rattle.std.proofs.lemmas.Bool.{eqb-true, eq-eqb}
 use Rattle.std.proofs.Math.Bool.{and-true, or-true}
-use Rattle.walrus_ir.specs.declared.val_type.ValType.{ValType}
+use Rattle.wasm_types.specs.declared.val_type.ValType.{ValType}
 use Rattle.walrus_ir.specs.Unfolding.{among}
 use Rattle.wasm_body.specs.LocalNumbers.{Local, AreDeclared, ids_of}
 use Rattle.walrus_maps.proofs.EntryMaps.{same_id, get-entries}

@@ -17,10 +17,10 @@ use Rattle.std.proofs.lemmas.Map.Keys.{IsDistinct-cons, IsDistinct-head, IsDisti
 use Rattle.std.proofs.Math.ListN.{get_or-map}
 use Rattle.std.proofs.Math.Bool.{and-true, and-false, or-true}
 use Rattle.std.proofs.lemmas.List.{take_more, map-append, length-map, drop-map, length-take-le}
-use Rattle.walrus_ir.specs.declared.val_type.ValType.{ValType}
-use Rattle.walrus_ir.specs.Results.{◌>>=◌, some_or, unless, each}
+use Rattle.wasm_types.specs.declared.val_type.ValType.{ValType}
+use Rattle.wasm_numbers.specs.Results.{◌>>=◌, some_or, unless, each}
 use Rattle.walrus_ir.specs.Types.{same_type}
-use Rattle.walrus_ir.specs.TypeOrder.{type_order}
+use Rattle.wasm_types.specs.TypeOrder.{type_order}
 use Rattle.walrus_ir.specs.Unfolding.{among, Apart}
 use Rattle.wasm_body.specs.declared.error.EmitError.{EmitError}
 use Rattle.wasm_body.specs.declared.error.EmitError.TheVariants.{UnknownLocal, TooLarge}

@@ -3,8 +3,8 @@ use Rattle.std.specs.Prelude.{◌≡◌, ◌⊎◌, ℕ, ◌+◌, ◌-◌, ◌^�
 use Rattle.std.specs.List.{filter}
 use Rattle.std.specs.Ordering.{nat_cmp}
 use Rattle.std.specs.FinMap.{get, from_entries}
-use Rattle.walrus_ir.specs.declared.val_type.ValType.{ValType}
-use Rattle.walrus_ir.specs.Results.{◌>>=◌, some_or, each}
+use Rattle.wasm_types.specs.declared.val_type.ValType.{ValType}
+use Rattle.wasm_numbers.specs.Results.{◌>>=◌, some_or, each}
 use Rattle.walrus_ir.specs.Types.{same_type}
 use Rattle.walrus_ir.specs.Unfolding.{among}
 use Rattle.wasm_body.specs.declared.error.EmitError.{EmitError}

@@ -5,7 +5,7 @@ use Rattle.std.specs.FinMap.{get, from_entries}
 use Rattle.walrus_ir.specs.Types.{ModuleType, signature_of_type}
 use Rattle.wasm_body.specs.declared.error.EmitError.TheVariants.{Index, UnnumberedLocal}
 use Rattle.wasm_body.specs.declared.error.IndexError.TheVariants.{Unnumbered}
-use Rattle.walrus_ir.specs.Results.{◌>>=◌, unless, with_fault, some_or}
+use Rattle.wasm_numbers.specs.Results.{◌>>=◌, unless, with_fault, some_or}
 use Rattle.wasm_body.specs.NormalForm.{is_balanced_type}
 use Rattle.wasm_body.specs.Bytes.{Numbers}
 use Rattle.walrus_numbering.specs.declared.number_maps.NumberMaps.{NumberMaps}

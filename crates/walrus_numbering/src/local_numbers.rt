@@ -3,7 +3,7 @@ ghost use Rattle.std.specs.Prelude.{◌≡◌, ◌⊎◌, ◌≤◌, ◌+◌, �
 ghost use Rattle.std.specs.HashSet.{contains};
 ghost use Rattle.std.specs.List.{list_all};
 ghost use Rattle.std.specs.Option.{option_map};
-ghost use Rattle.walrus_ir.specs.Results.{each};
+ghost use Rattle.wasm_numbers.specs.Results.{each};
 ghost use Rattle.walrus_ir.specs.Types.{same_type};
 ghost use Rattle.walrus_ir.specs.Unfolding.{among, Apart};
 ghost use Rattle.wasm_body.specs.declared.error.EmitError.TheVariants.{Memory, UnknownLocal};

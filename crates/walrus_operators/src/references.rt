@@ -1,7 +1,7 @@
 //! The operators of instructions on references, structs and arrays. Ids are looked up in the order
 //! in which their numbers are written.
 ghost use Rattle.std.specs.Prelude.{◌≡◌, true, IfOk};
-ghost use Rattle.walrus_ir.specs.Results.{Gives};
+ghost use Rattle.wasm_numbers.specs.Results.{Gives};
 ghost use Rattle.walrus_ir.specs.declared.val_type.InstrSeqType.{InstrSeqType};
 ghost use Rattle.wasm_operators.specs.ReferenceOperations.{reference_operation};
 ghost use Rattle.wasm_encode.specs.Writable.{IsWritable};

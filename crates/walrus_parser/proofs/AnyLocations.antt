@@ -5,7 +5,7 @@ use Rattle.wasm_operators.specs.Operations.{RawOperation}
 use Rattle.wasm_operators.specs.OperatorList.{Placed}
 use Rattle.wasm_body.specs.declared.error.ParseError.{ParseError}
 use Rattle.wasm_body.specs.declared.error.ParseFailure.{ParseFailure}
-use Rattle.walrus_ir.specs.Results.{◌>>=◌}
+use Rattle.wasm_numbers.specs.Results.{◌>>=◌}
 use Rattle.wasm_body.specs.Control.{control_of}
 use Rattle.wasm_body.specs.SourceTree.{Sequence, Body}
 use Rattle.wasm_body.specs.Frames.{Frame, moves}

@@ -3,7 +3,7 @@ use Rattle.std.specs.Prelude.{◌≡◌, ◌≤◌, ℕ, List, [], ◌∷◌, le
 use Rattle.std.proofs.lemmas.List.Quantifiers.{position-Some}
 use Rattle.std.proofs.lemmas.Option.{slice_get-get_or}
 use Rattle.std.proofs.Common.{refl, ap, sym, subst, ◌∙◌, arith, reverse}
-use Rattle.walrus_ir.specs.declared.val_type.ValType.{ValType}
+use Rattle.wasm_types.specs.declared.val_type.ValType.{ValType}
 use Rattle.walrus_ir.specs.declared.val_type.InstrSeqType.TheVariants.{MultiValue}
 use Rattle.walrus_ir.specs.declared.control.BlockKind.TheVariants as kind
 use Rattle.walrus_ir.specs.InstructionSequence.{empty_sequence}
@@ -12,8 +12,8 @@ use Rattle.walrus_ir.specs.Types.{ModuleType, Func, Entry, Other, Signature, sig
 use Rattle.walrus_ir.specs.Unfolding.{are_no_items}
 use Rattle.walrus_ir.specs.Tree.{no_items}
 use Rattle.wasm_body.specs.declared.error.ParseError.TheVariants.{NotAFunctionType, EntryTypeMissing}
-use Rattle.walrus_ir.specs.Results.{◌>>=◌, some_or}
-use Rattle.walrus_ir.proofs.ResultLemmas.{bind_ok, some_or_ok}
+use Rattle.wasm_numbers.specs.Results.{◌>>=◌, some_or}
+use Rattle.wasm_numbers.proofs.ResultLemmas.{bind_ok, some_or_ok}
 use Rattle.wasm_body.specs.SourceTree.{Empty}
 use Rattle.wasm_body.specs.Naming.{Environment, entry_type_id}
 use Rattle.wasm_body.specs.NormalForm.{entry_type}

@@ -4,7 +4,7 @@ use Rattle.std.proofs.lemmas.Option.{slice_get_within}
 use Rattle.walrus_ir.specs.declared.control.BlockKind.{BlockKind}
 use Rattle.walrus_ir.specs.declared.control.BlockKind.TheVariants as kind
 use Rattle.walrus_ir.specs.declared.control.LegacyCatch.TheVariants.{Delegate}
-use Rattle.walrus_ir.specs.Results.{◌>>=◌, some_or, unless}
+use Rattle.wasm_numbers.specs.Results.{◌>>=◌, some_or, unless}
 use Rattle.wasm_body.specs.declared.error.ParseError.{ParseError}
 use Rattle.wasm_body.specs.declared.error.ParseError.TheVariants.{DelegateOutsideTry, NoSuchLabel}
 use Rattle.wasm_body.specs.Control.{delegate_operation}

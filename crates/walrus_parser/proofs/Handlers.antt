@@ -8,9 +8,9 @@ use Rattle.walrus_ir.specs.declared.seq.InstrSeq.{InstrSeq}
 use Rattle.walrus_ir.specs.declared.control.Try.{Try}
 use Rattle.walrus_ir.specs.declared.instr.Instr.TheVariants as instr
 use Rattle.walrus_ir.specs.declared.val_type.InstrSeqType.{InstrSeqType}
-use Rattle.walrus_ir.specs.declared.val_type.ValType.{ValType}
+use Rattle.wasm_types.specs.declared.val_type.ValType.{ValType}
 use Rattle.walrus_ir.specs.InstructionSequence.{empty_sequence}
-use Rattle.walrus_ir.specs.Results.{◌>>=◌, some_or, unless}
+use Rattle.wasm_numbers.specs.Results.{◌>>=◌, some_or, unless}
 use Rattle.walrus_ir.specs.Types.{Signature, signature, signature_of, existing, pick}
 use Rattle.walrus_ir.specs.Unfolding.{LocatedInstr}
 use Rattle.wasm_operators.specs.declared.types.Space.TheVariants.{Tags}

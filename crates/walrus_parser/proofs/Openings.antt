@@ -6,7 +6,7 @@ use Rattle.walrus_ir.specs.declared.control.BlockKind.{BlockKind}
 use Rattle.walrus_ir.specs.declared.control.BlockKind.TheVariants as kind
 use Rattle.walrus_ir.specs.declared.val_type.InstrSeqType.{InstrSeqType}
 use Rattle.walrus_ir.specs.declared.val_type.InstrSeqType.TheVariants.{Simple}
-use Rattle.walrus_ir.specs.declared.val_type.ValType.{ValType}
+use Rattle.wasm_types.specs.declared.val_type.ValType.{ValType}
 use Rattle.walrus_ir.specs.Tree.{no_sequences}
 use Rattle.walrus_ir.specs.Types.{Signature, pick}
 use Rattle.walrus_ir.specs.InstructionSequence.{empty_sequence}
@@ -20,7 +20,7 @@ use Rattle.wasm_body.specs.declared.error.ParseError.TheVariants.{Memory, NoSuch
 use Rattle.wasm_operators.specs.Operations.{RawOperation}
 use Rattle.wasm_body.specs.Control.{Clause, Construct, Block, Loop, If, Try, TryTable, Opens as OpensConstruct, control_of}
 use Rattle.wasm_body.specs.SourceTree.{Sequence}
-use Rattle.walrus_ir.specs.Results.{◌>>=◌}
+use Rattle.wasm_numbers.specs.Results.{◌>>=◌}
 use Rattle.wasm_body.specs.Naming.{Occurrence, Environment, NamedOperation, block_signature, name_block, has_pick, named_in}
 use Rattle.wasm_body.specs.NormalForm.{typing_of, construct_type, kept_operation, instruction, name_at}
 use Rattle.wasm_body.specs.InstructionTable.{operation_of, clauses_of_try}

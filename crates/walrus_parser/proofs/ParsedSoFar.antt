@@ -11,7 +11,7 @@ use Rattle.wasm_operators.specs.OperatorList.{Placed}
 use Rattle.wasm_body.specs.declared.error.ParseError.{ParseError}
 use Rattle.wasm_body.specs.declared.error.ParseError.TheVariants.{Trailing, MissingEnd}
 use Rattle.wasm_body.specs.declared.error.ParseFailure.{ParseFailure}
-use Rattle.walrus_ir.specs.Results.{◌>>=◌}
+use Rattle.wasm_numbers.specs.Results.{◌>>=◌}
 use Rattle.wasm_body.specs.Control.{Marked}
 use Rattle.wasm_body.specs.SourceTree.{Sequence, Body, body_text}
 use Rattle.wasm_body.specs.Frames.{Frame}

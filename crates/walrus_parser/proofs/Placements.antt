@@ -9,7 +9,7 @@ use Rattle.wasm_operators.specs.Operations.{Immediate, operation, RawOperation}
 use Rattle.walrus_ir.specs.Types.{Signature}
 use Rattle.wasm_body.specs.declared.error.ParseError.{ParseError}
 use Rattle.wasm_body.specs.declared.error.ParseError.TheVariants.{NoSuchLabel}
-use Rattle.walrus_ir.specs.Results.{◌>>=◌, infallible, some_or, unless}
+use Rattle.wasm_numbers.specs.Results.{◌>>=◌, infallible, some_or, unless}
 use Rattle.wasm_body.specs.Frames.{Frame, outside}
 use Rattle.wasm_body.specs.Translation.{translate, translate_immediates}
 use Rattle.wasm_body.specs.Naming.{Environment, NamedOperation, naming, id_at, name_block, open_label, block_types}

@@ -1,19 +1,19 @@
 -- What the supported operators do to the control.
 use Rattle.std.specs.Prelude.{◌≡◌, ◌≢◌, ℕ, List, ◌∷◌, Bool, true, false, Option, Some, None}
 use Rattle.std.proofs.Common.{refl, ap, ◌∙◌}
-use Rattle.walrus_ir.specs.declared.unary.UnaryOp.{UnaryOp}
-use Rattle.walrus_ir.specs.declared.unary.UnaryOp.TheVariants as unary
-use Rattle.walrus_ir.specs.declared.binary.BinaryOp.{BinaryOp}
-use Rattle.walrus_ir.specs.declared.binary.BinaryOp.TheVariants as binary
-use Rattle.walrus_ir.specs.declared.ternary.TernaryOp.{TernaryOp}
-use Rattle.walrus_ir.specs.declared.ternary.TernaryOp.TheVariants as ternary
-use Rattle.walrus_ir.specs.declared.memory.ExtendedLoad.TheVariants.{SignExtend, ZeroExtend, ZeroExtendAtomic}
-use Rattle.walrus_ir.specs.declared.memory.LoadKind.{LoadKind}
-use Rattle.walrus_ir.specs.declared.memory.LoadKind.TheVariants as load
-use Rattle.walrus_ir.specs.declared.memory.StoreKind.{StoreKind}
-use Rattle.walrus_ir.specs.declared.memory.StoreKind.TheVariants as store
-use Rattle.walrus_ir.specs.declared.memory.LoadSimdKind.{LoadSimdKind}
-use Rattle.walrus_ir.specs.declared.memory.LoadSimdKind.TheVariants as vector_access
+use Rattle.wasm_types.specs.declared.unary.UnaryOp.{UnaryOp}
+use Rattle.wasm_types.specs.declared.unary.UnaryOp.TheVariants as unary
+use Rattle.wasm_types.specs.declared.binary.BinaryOp.{BinaryOp}
+use Rattle.wasm_types.specs.declared.binary.BinaryOp.TheVariants as binary
+use Rattle.wasm_types.specs.declared.ternary.TernaryOp.{TernaryOp}
+use Rattle.wasm_types.specs.declared.ternary.TernaryOp.TheVariants as ternary
+use Rattle.wasm_types.specs.declared.memory.ExtendedLoad.TheVariants.{SignExtend, ZeroExtend, ZeroExtendAtomic}
+use Rattle.wasm_types.specs.declared.memory.LoadKind.{LoadKind}
+use Rattle.wasm_types.specs.declared.memory.LoadKind.TheVariants as load
+use Rattle.wasm_types.specs.declared.memory.StoreKind.{StoreKind}
+use Rattle.wasm_types.specs.declared.memory.StoreKind.TheVariants as store
+use Rattle.wasm_types.specs.declared.memory.LoadSimdKind.{LoadSimdKind}
+use Rattle.wasm_types.specs.declared.memory.LoadSimdKind.TheVariants as vector_access
 use Rattle.wasm_operators.specs.declared.types.AtomicKind.{AtomicKind}
 use Rattle.wasm_operators.specs.declared.types.AtomicKind.TheVariants as atomic
 use Rattle.wasm_operators.specs.declared.operator.Op.TheVariants as operator

@@ -9,7 +9,7 @@ use Rattle.wasm_operators.specs.declared.types.Space.TheVariants.{Tags}
 use Rattle.wasm_operators.specs.Operations.{CatchClause, index, block, clauses, operation, RawOperation}
 use Rattle.wasm_body.specs.declared.error.ParseError.{ParseError}
 use Rattle.wasm_body.specs.declared.error.ParseError.TheVariants.{ElseOutsideIf, CatchOutsideTry, DelegateOutsideTry}
-use Rattle.walrus_ir.specs.Results.{◌>>=◌, unless, each}
+use Rattle.wasm_numbers.specs.Results.{◌>>=◌, unless, each}
 use Rattle.wasm_body.specs.Control.{Construct, Does, Opens, Action, control_of, end_operation, else_operation, catch_opcode, catch_all_operation, delegate_operation}
 use Rattle.wasm_body.specs.Frames.{Frame, else_moves, catch_moves, catch_all_moves, delegate_moves}
 use Rattle.wasm_body.specs.Translation.{translate, translate_clause}

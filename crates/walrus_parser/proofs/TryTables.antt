@@ -4,7 +4,7 @@ use Rattle.walrus_ir.specs.declared.instr.Instr.{Instr}
 use Rattle.walrus_ir.specs.declared.instr.Instr.TheVariants as instr
 use Rattle.walrus_ir.specs.declared.control.BlockKind.TheVariants as kind
 use Rattle.walrus_ir.specs.declared.control.TryTableCatch.{TryTableCatch}
-use Rattle.walrus_ir.specs.Results.{◌>>=◌, each, unless}
+use Rattle.wasm_numbers.specs.Results.{◌>>=◌, each, unless}
 use Rattle.walrus_ir.specs.Types.{Signature}
 use Rattle.wasm_operators.specs.declared.types.BlockType.{BlockType}
 use Rattle.wasm_operators.specs.declared.types.Opcode.TheVariants.{Byte}

@@ -5,8 +5,8 @@ use Rattle.walrus_ir.specs.declared.control.BlockKind.{BlockKind}
 use Rattle.walrus_ir.specs.declared.control.BlockKind.TheVariants as kind
 use Rattle.walrus_ir.specs.declared.control.LegacyCatch.{LegacyCatch}
 use Rattle.walrus_ir.specs.declared.control.LegacyCatch.TheVariants.{Catch, CatchAll}
-use Rattle.walrus_ir.specs.declared.val_type.ValType.{ValType}
-use Rattle.walrus_ir.specs.Results.{◌>>=◌}
+use Rattle.wasm_types.specs.declared.val_type.ValType.{ValType}
+use Rattle.wasm_numbers.specs.Results.{◌>>=◌}
 use Rattle.wasm_operators.specs.declared.types.Space.TheVariants.{Tags}
 use Rattle.wasm_operators.specs.Operations.{index, operation, Operation}
 use Rattle.wasm_body.specs.declared.error.ParseError.{ParseError}

@@ -6,7 +6,7 @@ ghost use Rattle.wasm_body.specs.Control.{delegate_operation};
 ghost use Rattle.walrus_parser.specs.BodyParsers.{IsSameBody, Steps};
 ghost use Rattle.walrus_parser.specs.Handlers.{clause_operation, caught, handler_kind, clause_of, has_clauses};
 ghost use Rattle.walrus_context.specs.OpenTrees.{env_of};
-ghost use Rattle.walrus_ir.specs.Results.{Gives};
+ghost use Rattle.wasm_numbers.specs.Results.{Gives};
 
 use crate::body_parser::BodyParser;
 use walrus_ir::{BlockKind, Instr, InstrLocId, InstrSeqId, LegacyCatch, TagId, Try, ValType};

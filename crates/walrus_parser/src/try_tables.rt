@@ -1,6 +1,6 @@
 //! `try_table`, and its clauses.
 ghost use Rattle.std.specs.Prelude.{◌≡◌, ◌⊎◌, [], ◌∷◌, map, IfOk, IfErr, OnOk, Ok, Err};
-ghost use Rattle.walrus_ir.specs.Results.{each, Gives};
+ghost use Rattle.wasm_numbers.specs.Results.{each, Gives};
 ghost use Rattle.wasm_operators.specs.declared.types.Opcode.TheVariants.{Byte};
 ghost use Rattle.wasm_operators.specs.Operations.{operation, block, clauses};
 ghost use Rattle.wasm_body.specs.declared.error.ParseError.{ParseError as ParseFault};

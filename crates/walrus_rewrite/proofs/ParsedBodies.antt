@@ -6,7 +6,7 @@ use Rattle.std.specs.FinMap.{get}
 use Rattle.std.proofs.lemmas.Bool.{ltb-true}
 use Rattle.std.proofs.lemmas.List.{length-append, length-map}
 use Rattle.std.proofs.lemmas.Option.{slice_get_within}
-use Rattle.walrus_ir.specs.Results.{◌>>=◌, some_or, unless, with_fault}
+use Rattle.wasm_numbers.specs.Results.{◌>>=◌, some_or, unless, with_fault}
 use Rattle.walrus_ir.specs.Types.{ModuleType}
 use Rattle.wasm_operators.specs.declared.types.Space.{Space}
 use Rattle.wasm_body.specs.declared.error.EmitError.{EmitError}

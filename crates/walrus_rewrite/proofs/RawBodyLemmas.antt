@@ -3,10 +3,10 @@ use Rattle.std.proofs.Common.{◌≡◌, ◌⊎◌, ◌++◌, ◌+◌, ◌<◌, 
 use Rattle.std.specs.Prelude.{nat_lt, ◌&&◌, true, false}
 use Rattle.std.specs.List.{list_all, AllByRecursion}
 use Rattle.std.proofs.lemmas.List.{length-append}
-use Rattle.walrus_ir.specs.declared.val_type.ValType.{ValType}
+use Rattle.wasm_types.specs.declared.val_type.ValType.{ValType}
 use Rattle.walrus_ir.specs.Types.{ModuleType}
 use Rattle.walrus_ir.specs.Function.{Function}
-use Rattle.walrus_ir.specs.Results.{◌>>=◌, some_or, unless, each}
+use Rattle.wasm_numbers.specs.Results.{◌>>=◌, some_or, unless, each}
 use Rattle.walrus_ir.specs.Tree.{Tree}
 use Rattle.walrus_ir.specs.Unfolding.{SequenceAt, LocatedInstr, IsTree, among}
 use Rattle.walrus_ir.proofs.WalkLaws.{tree_has_no_fault}

@@ -2,7 +2,7 @@
 -- format, code section).
 use Rattle.std.specs.Prelude.{◌≡◌, ◌⊎◌, ℕ, ◌+◌, Bool, List, [], ◌++◌, length, map, Option, Result, Ok, Err}
 use Rattle.walrus_ir.specs.declared.module.Module.{Module}
-use Rattle.walrus_ir.specs.declared.val_type.ValType.{ValType}
+use Rattle.wasm_types.specs.declared.val_type.ValType.{ValType}
 use Rattle.walrus_ir.specs.Function.{Function}
 use Rattle.walrus_ir.specs.declared.error.WalkError.{WalkError}
 use Rattle.walrus_ir.specs.Walk.{HasNoWalk}

@@ -9,11 +9,11 @@ use Rattle.std.proofs.lemmas.Bool.{eqb-true, eq-eqb}
 use Rattle.std.proofs.lemmas.List.{length-append, length-map}
 use Rattle.std.proofs.lemmas.List.Elements.{recursion_from_All}
 use Rattle.std.proofs.lemmas.Option.{same_Some, slice_get_within}
-use Rattle.walrus_ir.specs.declared.val_type.ValType.{ValType}
-use Rattle.walrus_ir.specs.declared.val_type.ValType.TheVariants.{I64}
+use Rattle.wasm_types.specs.declared.val_type.ValType.{ValType}
+use Rattle.wasm_types.specs.declared.val_type.ValType.TheVariants.{I64}
 use Rattle.walrus_ir.specs.declared.val_type.InstrSeqType.{InstrSeqType}
 use Rattle.walrus_ir.specs.Unfolding.{among}
-use Rattle.walrus_ir.specs.Results.{◌>>=◌, unless, some_or, each}
+use Rattle.wasm_numbers.specs.Results.{◌>>=◌, unless, some_or, each}
 use Rattle.wasm_body.specs.declared.error.EmitError.{EmitError}
 use Rattle.wasm_body.specs.declared.error.EmitError.TheVariants.{TooLarge, UnnumberedLocal}
 use Rattle.wasm_body.specs.declared.error.IndexError.TheVariants.{NoLocals, LocalOutOfRange}

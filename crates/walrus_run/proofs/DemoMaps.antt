@@ -14,7 +14,7 @@ use Rattle.wasm_body.specs.declared.error.EmitError.TheVariants.{Index, Unnumber
 use Rattle.wasm_body.specs.declared.error.IndexError.TheVariants.{Unnumbered}
 use Rattle.walrus_maps.specs.declared.indices_to_ids.IndicesToIds.{IndicesToIds}
 use Rattle.walrus_maps.specs.declared.ids_to_indices.IdsToIndices.{IdsToIndices}
-use Rattle.walrus_ir.specs.Results.{◌>>=◌, unless, with_fault, some_or}
+use Rattle.wasm_numbers.specs.Results.{◌>>=◌, unless, with_fault, some_or}
 use Rattle.walrus_maps.specs.IndexMaps.{ids_in, locals_in, with_locals, numbers_in, with_numbers, numbered}
 use Rattle.walrus_maps.specs.Numbering.{pushed}
 use Rattle.walrus_maps.proofs.NumberingLemmas.{get-numbered}

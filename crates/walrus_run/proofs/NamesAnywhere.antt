@@ -2,9 +2,9 @@
 use Rattle.std.proofs.Common.{◌≡◌, ℕ, List, [], ◌∷◌, length, map, Result, Ok, refl, sym, ap, ◌∙◌}
 use Rattle.std.specs.Prelude.{nat_lt}
 use Rattle.std.specs.List.{AllByRecursion}
-use Rattle.walrus_ir.specs.Results.{◌>>=◌, unless, each}
+use Rattle.wasm_numbers.specs.Results.{◌>>=◌, unless, each}
 use Rattle.walrus_ir.specs.Types.{Signature}
-use Rattle.walrus_ir.proofs.ResultLemmas.{bind_ok}
+use Rattle.wasm_numbers.proofs.ResultLemmas.{bind_ok}
 use Rattle.wasm_operators.specs.Operations.{Immediate, branch_table, RawOperation, operation}
 use Rattle.wasm_operators.specs.declared.types.BlockType.{BlockType}
 use Rattle.wasm_body.specs.declared.error.ParseError.{ParseError}

@@ -1,6 +1,6 @@
 //! How operators are named: indices are looked up in the order in which they are written.
 ghost use Rattle.std.specs.Prelude.{◌≡◌, ◌⊎◌, [], ◌∷◌, ◌++◌, map, IfOk, IfErr, OnOk, Ok, Err};
-ghost use Rattle.walrus_ir.specs.Results.{Gives, each};
+ghost use Rattle.wasm_numbers.specs.Results.{Gives, each};
 ghost use Rattle.walrus_ir.specs.Types.{signature};
 ghost use Rattle.wasm_operators.specs.AccessOperations.{access_of};
 ghost use Rattle.wasm_operators.specs.Meaning.{meaning};

@@ -9,7 +9,7 @@ use Rattle.wasm_operators.specs.OperatorList.{Placed}
 use Rattle.wasm_operators.specs.Spelling.{read_operation}
 use Rattle.wasm_body.specs.declared.error.ParseError.{ParseError}
 use Rattle.wasm_body.specs.declared.error.ParseError.TheVariants.{Read, PlaceTooGreat, Checked, Memory}
-use Rattle.walrus_ir.specs.Results.{◌>>=◌, unless, with_fault}
+use Rattle.wasm_numbers.specs.Results.{◌>>=◌, unless, with_fault}
 use Rattle.wasm_body.specs.Parsing.Accepted.{has_location, Admitted, admitted}
 use Rattle.walrus_validators.specs.declared.check.CheckError.{CheckError}
 use Rattle.walrus_validators.specs.declared.check.CheckError.TheVariants.{Refused, Memory as out_of_memory}

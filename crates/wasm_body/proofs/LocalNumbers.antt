@@ -11,9 +11,9 @@ use Rattle.std.proofs.lemmas.Cmp.{nat_eq_equiv, on_total, then_total, nat_cmp_to
 use Rattle.std.proofs.lemmas.List.Elements.{recursion_from_All, All-nil, All-cons, All-tail}
 use Rattle.std.proofs.Math.Bool.{and-true, or-true}
 use Rattle.std.proofs.lemmas.Option.{none-some, same_Some, cond_some}
-use Rattle.walrus_ir.specs.declared.val_type.ValType.{ValType}
+use Rattle.wasm_types.specs.declared.val_type.ValType.{ValType}
 use Rattle.walrus_ir.specs.Types.{same_type}
-use Rattle.walrus_ir.specs.TypeOrder.{type_key}
+use Rattle.wasm_types.specs.TypeOrder.{type_key}
 use Rattle.walrus_ir.specs.Unfolding.{among, Apart}
 use Rattle.walrus_ir.proofs.SameTypes.{same_types-Decides}
 use Rattle.wasm_body.specs.LocalNumbers.{Local, local_order, ids_of, AreDeclared, last_place, one_more, runs, OneDeclared, OneLocalEach, PlacesAreNumbers, spread, RunsAreMaximal}

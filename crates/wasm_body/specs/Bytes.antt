@@ -11,7 +11,7 @@ use Rattle.wasm_operators.specs.Operations.{RawOperation}
 use Rattle.wasm_operators.specs.Shortest.{short}
 use Rattle.wasm_body.specs.declared.error.EmitError.{EmitError}
 use Rattle.wasm_body.specs.declared.error.EmitError.TheVariants.{TooLarge}
-use Rattle.walrus_ir.specs.Results.{◌>>=◌, unless}
+use Rattle.wasm_numbers.specs.Results.{◌>>=◌, unless}
 use Rattle.wasm_body.specs.Translation.{Translation, translate_value, Located}
 use Rattle.wasm_body.specs.FunctionTree.{FunctionTree}
 use Rattle.wasm_body.specs.FlatText.{Writing, then_by, tree_text}

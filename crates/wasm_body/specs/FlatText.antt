@@ -10,7 +10,7 @@ use Rattle.wasm_operators.specs.Operations.{index, Operation, operation}
 use Rattle.wasm_body.specs.declared.error.EmitError.{EmitError}
 use Rattle.wasm_body.specs.declared.error.EmitError.TheVariants.{Index, BranchOutside, BadClauses}
 use Rattle.wasm_body.specs.declared.error.IndexError.TheVariants.{Unnumbered}
-use Rattle.walrus_ir.specs.Results.{◌>>=◌, some_or, gather}
+use Rattle.wasm_numbers.specs.Results.{◌>>=◌, some_or, gather}
 use Rattle.wasm_body.specs.Control.{Role, an_if, a_try, a_block, a_loop, a_try_table, role_of, end_operation, else_operation, catch_opcode, catch_all_operation, delegate_operation}
 use Rattle.wasm_body.specs.Translation.{Translation, keeping_numbers, relabelled, translate, Located, at_location}
 use Rattle.wasm_body.specs.FunctionTree.{Target, Depth, Outside, Head, LegacyClause, handles, handles_all, delegates, Instruction, FunctionTree, last_location}

@@ -8,10 +8,10 @@ use Rattle.walrus_ir.specs.declared.control.TryTableCatch.{TryTableCatch}
 use Rattle.walrus_ir.specs.declared.control.TryTableCatch.TheVariants as table_catch
 use Rattle.walrus_ir.specs.declared.control.LegacyCatch.{LegacyCatch}
 use Rattle.walrus_ir.specs.declared.control.LegacyCatch.TheVariants as legacy_catch
-use Rattle.walrus_ir.specs.declared.memory.MemArg.{MemArg}
+use Rattle.wasm_types.specs.declared.memory.MemArg.{MemArg}
 use Rattle.walrus_ir.specs.declared.value.Value.{Value}
 use Rattle.walrus_ir.specs.declared.value.Value.TheVariants.{I32, I64, F32, F64, V128}
-use Rattle.walrus_ir.specs.declared.val_type.ValType.{ValType}
+use Rattle.wasm_types.specs.declared.val_type.ValType.{ValType}
 use Rattle.wasm_operators.specs.declared.types.AtomicKind.{AtomicKind}
 use Rattle.wasm_operators.specs.declared.types.AtomicKind.TheVariants.{Notify, Wait32, Wait64, Rmw, Cmpxchg}
 use Rattle.wasm_operators.specs.declared.types.Opcode.TheVariants.{Byte, Prefixed}

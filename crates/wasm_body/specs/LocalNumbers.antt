@@ -6,10 +6,10 @@ use Rattle.std.specs.Option.{option_map, option_or}
 use Rattle.std.specs.Ordering.{nat_cmp, ordering_then}
 use Rattle.std.specs.declared.cmp.Ordering.{Ordering}
 use Rattle.std.specs.declared.cmp.Ordering.TheVariants.{Less}
-use Rattle.walrus_ir.specs.declared.val_type.ValType.{ValType}
+use Rattle.wasm_types.specs.declared.val_type.ValType.{ValType}
 use Rattle.walrus_ir.specs.Types.{same_type}
-use Rattle.walrus_ir.specs.TypeOrder.{type_order}
-use Rattle.walrus_ir.specs.Results.{◌>>=◌, unless, some_or, each}
+use Rattle.wasm_types.specs.TypeOrder.{type_order}
+use Rattle.wasm_numbers.specs.Results.{◌>>=◌, unless, some_or, each}
 use Rattle.walrus_ir.specs.Tree.{Items, no_items, item, Sequences, no_sequences, sequence}
 use Rattle.walrus_ir.specs.Unfolding.{among, Apart}
 use Rattle.wasm_body.specs.declared.error.EmitError.{EmitError}

@@ -2,7 +2,7 @@
 -- whether the operator is allowed there; its immediates, in the order in which they are written; the types that the module
 -- must have. The first rule that fails is the fault.
 use Rattle.std.specs.Prelude.{ℕ, List, [], ◌∷◌, length, nat_lt, Option, Some, None, is_some, slice_get, Result, Ok}
-use Rattle.walrus_ir.specs.declared.val_type.ValType.{ValType}
+use Rattle.wasm_types.specs.declared.val_type.ValType.{ValType}
 use Rattle.walrus_ir.specs.Types.{Signature, signature, ModuleType, signature_of, pick, find_entry}
 use Rattle.wasm_operators.specs.declared.types.BlockType.{BlockType}
 use Rattle.wasm_operators.specs.declared.types.BlockType.TheVariants.{Empty, Value, FuncType}
@@ -12,7 +12,7 @@ use Rattle.wasm_operators.specs.Operations.{Immediate, block, Operation, RawOper
 use Rattle.wasm_body.specs.declared.error.IndexError.{IndexError}
 use Rattle.wasm_body.specs.declared.error.ParseError.{ParseError}
 use Rattle.wasm_body.specs.declared.error.ParseError.TheVariants.{Index, NoSuchLabel, NotAFunctionType, TypeMissing, EntryTypeMissing, ElseOutsideIf, CatchOutsideTry, DelegateOutsideTry, RethrowOutsideHandler, UnknownId}
-use Rattle.walrus_ir.specs.Results.{◌>>=◌, unless, some_or, with_fault}
+use Rattle.wasm_numbers.specs.Results.{◌>>=◌, unless, some_or, with_fault}
 use Rattle.wasm_body.specs.Control.{Control, Does, Opens, Else, Catch, CatchAll, End, Delegate, control_of}
 use Rattle.wasm_body.specs.Frames.{Frame, handler_at, outside, opener_of, is_allowed}
 use Rattle.wasm_body.specs.Translation.{Translation, keeping_numbers, translate, translate_value}

@@ -1,12 +1,12 @@
 -- The normal form of a body: the tree of the function that a parse makes of the body.
 use Rattle.std.specs.Prelude.{ℕ, List, [], ◌∷◌, ◌^◌, Bool, false, Option, Some, None, unwrap_or, option_and_then, slice_get, Result, Ok, Err}
-use Rattle.walrus_ir.specs.declared.val_type.ValType.{ValType}
+use Rattle.wasm_types.specs.declared.val_type.ValType.{ValType}
 use Rattle.walrus_ir.specs.declared.val_type.InstrSeqType.{InstrSeqType}
 use Rattle.walrus_ir.specs.declared.val_type.InstrSeqType.TheVariants.{Simple, MultiValue}
 use Rattle.walrus_ir.specs.Types.{Signature, signature, signature_of, signature_of_type, pick, same_types}
 use Rattle.walrus_ir.specs.Tree.{Items, no_items, item, Sequences, no_sequences, sequence}
 use Rattle.wasm_body.specs.declared.error.ParseError.{ParseError}
-use Rattle.walrus_ir.specs.Results.{infallible}
+use Rattle.wasm_numbers.specs.Results.{infallible}
 use Rattle.walrus_ir.specs.Locations.{default_location}
 use Rattle.wasm_body.specs.Control.{Action, Nop, Plain, Branch, ConditionalBranch, TableBranch, Return, Unreachable, Throw, ThrowRef, Rethrow, TailCall}
 use Rattle.wasm_body.specs.SourceTree.{Sequence, Empty, Single, Wrapped, IfThen, IfElse, TryCatch, TryDelegate, Clauses, Ended, Catches, CatchesAll, Body, map_body}

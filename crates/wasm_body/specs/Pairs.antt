@@ -3,7 +3,7 @@ use Rattle.std.specs.Prelude.{◌≡◌, ℕ, ◌+◌, ◌==◌, if◌then◌els
 use Rattle.wasm_operators.specs.Operations.{RawOperation}
 use Rattle.wasm_operators.specs.Shortest.{short}
 use Rattle.wasm_body.specs.declared.error.EmitError.{EmitError}
-use Rattle.walrus_ir.specs.Results.{◌>>=◌}
+use Rattle.wasm_numbers.specs.Results.{◌>>=◌}
 use Rattle.wasm_body.specs.Translation.{Located}
 use Rattle.wasm_body.specs.FunctionTree.{FunctionTree}
 use Rattle.wasm_body.specs.Bytes.{Numbers, numbered_text}

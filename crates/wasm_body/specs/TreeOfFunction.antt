@@ -6,7 +6,7 @@ use Rattle.walrus_ir.specs.declared.error.WalkError.{WalkError}
 use Rattle.walrus_ir.specs.declared.error.WalkError.TheVariants as walk
 use Rattle.walrus_ir.specs.Tree.{Items, no_items, item, Sequences, no_sequences, sequence, Tree}
 use Rattle.walrus_ir.specs.Unfolding.{SequenceAt, LocatedInstr, IsTree}
-use Rattle.walrus_ir.specs.Results.{infallible}
+use Rattle.wasm_numbers.specs.Results.{infallible}
 use Rattle.wasm_body.specs.declared.error.EmitError.{EmitError}
 use Rattle.wasm_body.specs.declared.error.EmitError.TheVariants as emit
 use Rattle.wasm_body.specs.Translation.{Translation, keeping_numbers, translate_immediates}

@@ -6,11 +6,11 @@
 -- pushes back; and the frame in which a clause of a `try_table` is tested begins with what the clause hands on, which the appendix pushes
 -- after it has pushed the frame.
 use Rattle.std.specs.Prelude.{◌≡◌, ℕ, zero, suc, ◌-◌, List, [], ◌∷◌, ◌++◌, length, reverse, take, drop, Bool, true, false, nat_eq, if◌then◌else◌, Option, Some, None, Result, Ok, Err}
-use Rattle.walrus_ir.specs.declared.val_type.AbstractHeapType.TheVariants.{Exn}
-use Rattle.walrus_ir.specs.declared.val_type.HeapType.TheVariants.{Abstract}
-use Rattle.walrus_ir.specs.declared.val_type.ValType.{ValType}
-use Rattle.walrus_ir.specs.declared.val_type.ValType.TheVariants.{I32, Ref}
-use Rattle.walrus_ir.specs.Results.{◌>>=◌}
+use Rattle.wasm_types.specs.declared.val_type.AbstractHeapType.TheVariants.{Exn}
+use Rattle.wasm_types.specs.declared.val_type.HeapType.TheVariants.{Abstract}
+use Rattle.wasm_types.specs.declared.val_type.ValType.{ValType}
+use Rattle.wasm_types.specs.declared.val_type.ValType.TheVariants.{I32, Ref}
+use Rattle.wasm_numbers.specs.Results.{◌>>=◌}
 use Rattle.walrus_ir.specs.Types.{Signature}
 use Rattle.wasm_operators.specs.Operations.{CatchClause, Immediate, clauses}
 use Rattle.wasm_body.specs.Control.{Action, Nop, Plain, Branch, ConditionalBranch, TableBranch, Return, Unreachable, Throw, ThrowRef, Rethrow, TailCall, Construct, Block, Loop, TryTable, If, Try, Control, Does, Opens, Else, Catch, CatchAll, End, Delegate, control_of}

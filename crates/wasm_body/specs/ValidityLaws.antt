@@ -2,7 +2,7 @@
 -- any rules for operands and in any function.
 use Rattle.std.specs.Prelude.{ℕ, List, Bool, map}
 use Rattle.std.specs.List.{AllByRecursion}
-use Rattle.walrus_ir.specs.declared.val_type.ValType.{ValType}
+use Rattle.wasm_types.specs.declared.val_type.ValType.{ValType}
 use Rattle.wasm_body.specs.SourceTree.{Body}
 use Rattle.wasm_body.specs.Translation.{Located}
 use Rattle.wasm_body.specs.Naming.{Environment, NamedOperation, Occurrence}

@@ -1,7 +1,7 @@
 -- Declarations of locals (WebAssembly core specification 3.0, binary format, code section).
 use Rattle.std.specs.Prelude.{ℕ, List, ◌++◌, length}
 use Rattle.std.specs.List.{flat_map}
-use Rattle.walrus_ir.specs.declared.val_type.ValType.{ValType}
+use Rattle.wasm_types.specs.declared.val_type.ValType.{ValType}
 use Rattle.wasm_operators.specs.Shortest.{short_number, short_value}
 
 -- a number of locals of one type

@@ -10,10 +10,10 @@ ghost use Rattle.wasm_operators.specs.Shortest.{short};
 ghost use Rattle.wasm_operators.specs.Spelling.{Spells};
 
 use crate::out_operator::{OutClauses, OutImmediates, OutOp, OutTable};
-use walrus_ir::{RefType, ValType};
 use wasm_operators::{
     BlockType, Immediates, Op, RawCast, RawCatch, RawHeapType, RawValType, index_rows, parts_of,
 };
+use wasm_types::{RefType, ValType};
 
 /// Labels fit their spellings.
 fn law_labels(labels: &[u32])

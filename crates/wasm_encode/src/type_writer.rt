@@ -5,8 +5,8 @@ ghost use Rattle.wasm_operators.specs.Shortest.{heap_byte as byte_of_heap, short
 
 use crate::number::{write_byte, write_integer};
 use std::alloc::AllocError;
-use walrus_ir::AbstractHeapType;
 use wasm_operators::{BlockType, RawHeapType, RawValType};
+use wasm_types::AbstractHeapType;
 
 /// The byte of an abstract heap type.
 fn heap_byte(heap: AbstractHeapType) -> u8

@@ -1,7 +1,7 @@
 -- What is written of small bodies, operator by operator, computed. The location of an operator is its number in the list, from 0.
 use Rattle.std.specs.Prelude.{◌≡◌, List, [], ◌∷◌, map, Bool, true, false, Result, Ok, Err, refl}
-use Rattle.walrus_ir.specs.declared.val_type.ValType.TheVariants.{I32}
-use Rattle.walrus_ir.specs.Results.{gather}
+use Rattle.wasm_types.specs.declared.val_type.ValType.TheVariants.{I32}
+use Rattle.wasm_numbers.specs.Results.{gather}
 use Rattle.walrus_ir.specs.Locations.{default_location}
 use Rattle.wasm_operators.specs.declared.types.BlockType.TheVariants.{Empty, Value, FuncType}
 use Rattle.wasm_operators.specs.declared.types.Space.TheVariants.{Funcs}

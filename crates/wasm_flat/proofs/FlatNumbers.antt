@@ -1,7 +1,7 @@
 -- What is written operator by operator is the text of the normal form: with names, and with numbers.
 use Rattle.std.proofs.Common.{◌≡◌, List, map, Bool, Ok, refl, sym, ap, ◌∙◌}
 use Rattle.walrus_ir.specs.declared.val_type.InstrSeqType.{InstrSeqType}
-use Rattle.walrus_ir.specs.Results.{◌>>=◌, gather}
+use Rattle.wasm_numbers.specs.Results.{◌>>=◌, gather}
 use Rattle.wasm_body.specs.Control.{Control, Does, Opens, Else, Catch, CatchAll, End, Delegate, Marked}
 use Rattle.wasm_body.specs.SourceTree.{body_text}
 use Rattle.wasm_body.specs.Translation.{translate, at_location}

@@ -1,7 +1,7 @@
 -- A front of a body's operators, and one operator more.
 use Rattle.std.proofs.Common.{◌≡◌, List, [], ◌∷◌, ◌++◌, map, Bool, Result, Ok, Err, refl, sym, ap, ◌∙◌, append_assoc}
 use Rattle.std.proofs.lemmas.List.{append-nil}
-use Rattle.walrus_ir.specs.Results.{◌>>=◌, gather}
+use Rattle.wasm_numbers.specs.Results.{◌>>=◌, gather}
 use Rattle.wasm_operators.specs.Operations.{RawOperation}
 use Rattle.wasm_body.specs.declared.error.EmitError.{EmitError}
 use Rattle.wasm_body.specs.Control.{Marked}

@@ -1,7 +1,7 @@
 -- Neither the first fault of writing nor the locals that are named depend on locations.
 use Rattle.std.proofs.Common.{◌≡◌, ℕ, List, [], ◌∷◌, ◌++◌, map, Bool, true, false, Result, Ok, Err, refl, sym, ap, ◌∙◌}
 use Rattle.std.proofs.lemmas.List.{map-append}
-use Rattle.walrus_ir.specs.Results.{◌>>=◌, gather}
+use Rattle.wasm_numbers.specs.Results.{◌>>=◌, gather}
 use Rattle.wasm_operators.specs.Operations.{RawOperation}
 use Rattle.wasm_body.specs.declared.error.EmitError.{EmitError}
 use Rattle.wasm_body.specs.Control.{Action, Control, Does, Opens, Else, Catch, CatchAll, End, Delegate, Marked, with_control}

@@ -5,7 +5,7 @@ use Rattle.std.specs.Prelude.{◌≡◌, ℕ, List, [], ◌∷◌, ◌++◌, map
 use Rattle.walrus_ir.specs.Types.{Signature}
 use Rattle.walrus_ir.specs.declared.val_type.InstrSeqType.{InstrSeqType}
 use Rattle.walrus_ir.specs.declared.val_type.InstrSeqType.TheVariants.{Simple}
-use Rattle.walrus_ir.specs.Results.{◌>>=◌, gather}
+use Rattle.wasm_numbers.specs.Results.{◌>>=◌, gather}
 use Rattle.walrus_ir.specs.Locations.{default_location}
 use Rattle.wasm_operators.specs.declared.types.BlockType.{BlockType}
 use Rattle.wasm_operators.specs.Operations.{RawOperation}

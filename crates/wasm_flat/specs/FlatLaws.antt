@@ -1,7 +1,7 @@
 -- The laws of writing operator by operator: what is written is the text of the rewritten body, and so the text of the tree of the
 -- body; and the locals that are named are those of the tree.
 use Rattle.std.specs.Prelude.{◌≡◌, List, [], ◌∷◌, ◌++◌, map, Bool, Ok, Err}
-use Rattle.walrus_ir.specs.Results.{gather}
+use Rattle.wasm_numbers.specs.Results.{gather}
 use Rattle.wasm_operators.specs.Operations.{RawOperation}
 use Rattle.wasm_body.specs.declared.error.EmitError.{EmitError}
 use Rattle.wasm_body.specs.Control.{Control, Marked}

@@ -1,9 +1,9 @@
 -- A numeric operator names no local: its only immediate is a lane.
 use Rattle.std.proofs.Common.{◌≡◌, ℕ, Ok, refl}
-use Rattle.walrus_ir.specs.declared.unary.UnaryOp.{UnaryOp}
-use Rattle.walrus_ir.specs.declared.unary.UnaryOp.TheVariants as unary
-use Rattle.walrus_ir.specs.declared.binary.BinaryOp.{BinaryOp}
-use Rattle.walrus_ir.specs.declared.binary.BinaryOp.TheVariants as binary
+use Rattle.wasm_types.specs.declared.unary.UnaryOp.{UnaryOp}
+use Rattle.wasm_types.specs.declared.unary.UnaryOp.TheVariants as unary
+use Rattle.wasm_types.specs.declared.binary.BinaryOp.{BinaryOp}
+use Rattle.wasm_types.specs.declared.binary.BinaryOp.TheVariants as binary
 use Rattle.wasm_operators.specs.UnaryOperations.{extract_lane}
 use Rattle.wasm_operators.specs.BinaryOperations.{replace_lane}
 use Rattle.wasm_module.specs.LocalsBelow.{locals_within}

@@ -1,10 +1,10 @@
 -- Declarations of locals, group by group.
 use Rattle.std.proofs.Common.{◌≡◌, ◌<◌, ◌≤◌, ℕ, zero, suc, ◌+◌, add-one, List, [], ◌∷◌, ◌++◌, length, length-append, Option, Some, unwrap_or, replicate, Result, Ok, Err, OnOk, take, drop, ◌-◌, subst, refl, sym, ap, ◌∙◌, append_assoc, arith}
 use Rattle.std.proofs.lemmas.List.{append-nil, length-replicate}
-use Rattle.walrus_ir.specs.Results.{◌>>=◌, each}
-use Rattle.walrus_ir.specs.declared.val_type.ValType.{ValType}
+use Rattle.wasm_numbers.specs.Results.{◌>>=◌, each}
+use Rattle.wasm_types.specs.declared.val_type.ValType.{ValType}
 use Rattle.walrus_ir.specs.Types.{ModuleType}
-use Rattle.walrus_ir.proofs.ResultLemmas.{bind_ok, ok_same}
+use Rattle.wasm_numbers.proofs.ResultLemmas.{bind_ok, ok_same}
 use Rattle.wasm_numbers.specs.Numbers.{u32}
 use Rattle.wasm_operators.specs.Types.{value_type}
 use Rattle.wasm_body.specs.Translation.{translate_value}

@@ -1,8 +1,8 @@
 -- Reading a number takes at least one byte from the front.
 use Rattle.std.proofs.Common.{◌≡◌, ℕ, ◌+◌, ◌-◌, ◌<◌, cond, ltb, leb, List, [], ◌∷◌, ◌++◌, length, take, length-append, Option, Some, None, Result, Ok, Err, refl, sym, ap, ◌∙◌, arith, inl, inr}
 use Rattle.std.proofs.Math.Seq.{take-append_seam}
-use Rattle.walrus_ir.specs.Results.{◌>>=◌}
-use Rattle.walrus_ir.proofs.ResultLemmas.{bind_ok}
+use Rattle.wasm_numbers.specs.Results.{◌>>=◌}
+use Rattle.wasm_numbers.proofs.ResultLemmas.{bind_ok}
 use Rattle.wasm_numbers.specs.declared.fault.ReadFault.{ReadFault}
 use Rattle.wasm_numbers.specs.declared.fault.ReadFault.TheVariants.{BadNumber}
 use Rattle.wasm_numbers.specs.Numbers.{Encoding, last_byte, integer}

@@ -2,7 +2,7 @@
 use Rattle.std.proofs.Common.{◌≡◌, ℕ, List, [], ◌++◌, length, slice_get, Option, None, Some, Result, Ok, Err, OnOk, IfOk, sym, ap, subst, ◌∙◌}
 use Rattle.std.specs.Borrow.{Bor}
 use Rattle.std.specs.Fn.{Shared}
-use Rattle.walrus_ir.specs.declared.val_type.ValType.{ValType}
+use Rattle.wasm_types.specs.declared.val_type.ValType.{ValType}
 use Rattle.walrus_ir.specs.Function.{Function}
 use Rattle.wasm_body.specs.Pairs.{Pair}
 use Rattle.walrus_parser.specs.declared.body.FunctionBody.{FunctionBody}

@@ -7,7 +7,7 @@ use Rattle.std.proofs.lemmas.Option.{slice_get-get_or}
 use Rattle.std.specs.Ordering.{nat_cmp}
 use Rattle.std.specs.Cmp.{nat_cmp_total}
 use Rattle.std.specs.FinMap.{get, insert, get-insert, get-empty}
-use Rattle.walrus_ir.specs.Results.{some_or, ◌>>=◌}
+use Rattle.wasm_numbers.specs.Results.{some_or, ◌>>=◌}
 use Rattle.walrus_maps.specs.declared.indices_to_ids.IndicesToIds.{IndicesToIds}
 use Rattle.walrus_maps.specs.IndexMaps.{no_ids, locals_in, local_of, with_next_local}
 use Rattle.walrus_maps.specs.Locals.{with_local, list_of}

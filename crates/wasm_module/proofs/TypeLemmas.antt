@@ -4,8 +4,8 @@ use Rattle.std.proofs.Common.{◌≡◌, ◌<◌, ◌≤◌, ◌+◌, ℕ, Bool,
 use Rattle.std.specs.List.{flat_map}
 use Rattle.std.specs.Option.{option_or}
 use Rattle.std.proofs.lemmas.List.{append-nil, take_more, take_all, flat_map_more}
-use Rattle.walrus_ir.specs.declared.val_type.ValType.{ValType}
-use Rattle.walrus_ir.specs.Results.{each}
+use Rattle.wasm_types.specs.declared.val_type.ValType.{ValType}
+use Rattle.wasm_numbers.specs.Results.{each}
 use Rattle.walrus_ir.specs.Types.{ModuleType, Func, same_types, is_function, find}
 use Rattle.walrus_ir.proofs.SameTypes.{same_types-Decides}
 use Rattle.walrus_ir.proofs.TypeIndex.{position-push}

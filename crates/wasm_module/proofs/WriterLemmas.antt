@@ -1,7 +1,7 @@
 -- A module that is written, in terms of another meaning of what is written for its bodies.
 use Rattle.std.proofs.Common.{◌≡◌, ℕ, zero, ◌+◌, ◌-◌, List, [], ◌∷◌, ◌++◌, length, slice_get, Option, Some, None, Result, Ok, Err, OnOk, IfOk, refl, sym, ap, subst, ◌∙◌, suc, arith}
 use Rattle.std.proofs.lemmas.Option.{same_Some}
-use Rattle.walrus_ir.specs.declared.val_type.ValType.{ValType}
+use Rattle.wasm_types.specs.declared.val_type.ValType.{ValType}
 use Rattle.walrus_body.specs.FunctionParts.{FunctionParts}
 use Rattle.wasm_module.specs.declared.changes.Changes.{Changes as NewSections}
 use Rattle.wasm_module.specs.declared.changing.kept_bodies.KeptBodies.{KeptBodies}

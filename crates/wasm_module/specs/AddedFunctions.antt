@@ -1,6 +1,6 @@
 -- Functions with a body that are added (WebAssembly core specification 3.0, binary format, function section and code section).
 use Rattle.std.specs.Prelude.{◌≡◌, ◌+◌, ℕ, List, [], length, Ok}
-use Rattle.walrus_ir.specs.declared.val_type.ValType.{ValType}
+use Rattle.wasm_types.specs.declared.val_type.ValType.{ValType}
 use Rattle.wasm_operators.specs.declared.types.Space.TheVariants.{Funcs, Types}
 use Rattle.wasm_operators.specs.Shortest.{short_number}
 use Rattle.wasm_body.specs.Pairs.{Pair}

@@ -1,8 +1,8 @@
 -- The declarations of a body's locals (WebAssembly core specification 3.0, binary format, code section): a list of groups,
 -- each a count and a value type.
 use Rattle.std.specs.Prelude.{◌≡◌, ◌<◌, ◌+◌, ℕ, suc, zero, List, [], ◌∷◌, ◌++◌, length, replicate, Result, Ok, Option, Some, None}
-use Rattle.walrus_ir.specs.Results.{◌>>=◌, each}
-use Rattle.walrus_ir.specs.declared.val_type.ValType.{ValType}
+use Rattle.wasm_numbers.specs.Results.{◌>>=◌, each}
+use Rattle.wasm_types.specs.declared.val_type.ValType.{ValType}
 use Rattle.walrus_ir.specs.Types.{ModuleType, Signature, signature_of}
 use Rattle.wasm_numbers.specs.Reading.{Reader, then_read, many}
 use Rattle.wasm_numbers.specs.Numbers.{u32}

@@ -1,7 +1,7 @@
 -- Bodies that are refused: because memory ran out, or for the first fault of the body (WebAssembly core specification 3.0,
 -- binary format, code section).
 use Rattle.std.specs.Prelude.{◌≡◌, ◌⊎◌, ◌<◌, ℕ, List, [], length, slice_get, Some, None}
-use Rattle.walrus_ir.specs.declared.val_type.ValType.{ValType}
+use Rattle.wasm_types.specs.declared.val_type.ValType.{ValType}
 use Rattle.wasm_body.specs.SourceTree.{Body}
 use Rattle.wasm_body.specs.Naming.{Occurrence}
 use Rattle.wasm_body.specs.NormalForm.{body_tree}

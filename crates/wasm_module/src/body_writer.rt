@@ -1,7 +1,7 @@
 //! How bodies are written, and how a caller changes their functions.
 
 ghost use Rattle.std.specs.Prelude.{◌≡◌, ℕ, List, length, OnOk, IfOk};
-ghost use Rattle.walrus_ir.specs.declared.val_type.ValType.{ValType as ValueType};
+ghost use Rattle.wasm_types.specs.declared.val_type.ValType.{ValType as ValueType};
 ghost use Rattle.walrus_body.specs.FunctionParts.{FunctionParts};
 ghost use Rattle.wasm_module.specs.declared.parsed.ParsedModule.{ParsedModule as Parsed};
 ghost use Rattle.wasm_module.specs.CodeSections.{BodyAt, body_at};

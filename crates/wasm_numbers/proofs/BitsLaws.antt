@@ -5,7 +5,7 @@ use Rattle.wasm_numbers.specs.Reading.{many}
 use Rattle.wasm_numbers.specs.Numbers.{byte, joined, bits}
 use Rattle.wasm_numbers.proofs.Agreement.{ok_is}
 use Rattle.wasm_numbers.proofs.Powers.{bytes}
-use Rattle.walrus_ir.specs.Results.{◌>>=◌}
+use Rattle.wasm_numbers.specs.Results.{◌>>=◌}
 
 pub bits_none : (text : List ℕ) → bits 0 text ≡ Ok (0, text)
 unfolding many

@@ -1,3 +1,5 @@
+-- results that may be faults, in every crate
+pub mod ResultLemmas
 -- the bounds of numbers: powers of two
 pub mod Powers
 -- reading agrees with encodings: a value that is read has the encoding that was taken, and an encoding is read as its value; so

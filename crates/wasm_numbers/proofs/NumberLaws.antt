@@ -3,10 +3,10 @@ use Rattle.std.proofs.Common.{◌≡◌, ℕ, ◌-◌, ◌<◌, ◌≤◌, cond,
 use Rattle.std.proofs.lemmas.Bool.{ltb-true, ltb-false, lt-ltb, le-ltb, leb-false, lt-leb}
 use Rattle.wasm_numbers.specs.declared.fault.ReadFault.{ReadFault}
 use Rattle.wasm_numbers.specs.declared.fault.ReadFault.TheVariants.{BadNumber}
-use Rattle.walrus_ir.specs.Results.{◌>>=◌}
+use Rattle.wasm_numbers.specs.Results.{◌>>=◌}
 use Rattle.wasm_numbers.specs.Numbers.{Encoding, IsInteger, last_byte, integer, IsByte, byte, as_bits, AreBits, bits}
 use Rattle.wasm_numbers.proofs.Agreement.{IsBytes, IsBytes-rest, ok_is, chosen, Takes, Agrees, agrees_made, agrees_many, IsNeverEmpty}
-use Rattle.walrus_ir.proofs.ResultLemmas.{bind_ok}
+use Rattle.wasm_numbers.proofs.ResultLemmas.{bind_ok}
 
 last_ok : {V : Type 0} (o : Option V) (bs : List ℕ) (v : V) (rest : List ℕ) → last_byte o bs ≡ Ok (v, rest) → (o ≡ Some v) × (bs ≡ rest)
 last_ok None bs v rest e = absurd cc

@@ -4,7 +4,7 @@ use Rattle.std.specs.Prelude.{◌≡◌, ℕ, ◌+◌, ◌-◌, ◌*◌, ◌^◌
 use Rattle.wasm_numbers.specs.declared.fault.ReadFault.{ReadFault}
 use Rattle.wasm_numbers.specs.declared.fault.ReadFault.TheVariants.{Truncated, BadNumber}
 use Rattle.wasm_numbers.specs.Reading.{Spelling, Reader, Many, many, Made, made}
-use Rattle.walrus_ir.specs.Results.{◌>>=◌}
+use Rattle.wasm_numbers.specs.Results.{◌>>=◌}
 
 -- How bytes make a number. `last`: the number of a last byte, which is below 128, if this many bits are left, if the byte
 -- is allowed there. `more`: the number of a byte from 128 on, from its low seven bits and the number that is encoded after it.

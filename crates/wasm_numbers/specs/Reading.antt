@@ -3,7 +3,7 @@
 -- begin with and the bytes that follow its encoding. Each pair of definitions below is one way to combine encodings and their
 -- readings.
 use Rattle.std.specs.Prelude.{◌≡◌, ℕ, zero, suc, List, [], ◌∷◌, ◌++◌, Bool, true, false, if◌then◌else◌, ◌⊎◌, Result, Ok}
-use Rattle.walrus_ir.specs.Results.{◌>>=◌}
+use Rattle.wasm_numbers.specs.Results.{◌>>=◌}
 use Rattle.wasm_numbers.specs.declared.fault.ReadFault.{ReadFault}
 
 -- the bytes that encode a value

@@ -2,7 +2,7 @@
 
 ghost use Rattle.std.specs.Prelude.{◌≡◌, ◌<◌, ◌≤◌, ◌+◌, ◌-◌, ◌*◌, ◌^◌, ℕ, IfOk, IfSome, Some, Ok};
 ghost use Rattle.std.specs.Prelude.{pos, ◌≤ℤ◌, ◌<ℤ◌, ◌+ℤ◌, ◌*ℤ◌};
-ghost use Rattle.walrus_ir.specs.Results.{Gives};
+ghost use Rattle.wasm_numbers.specs.Results.{Gives};
 ghost use Rattle.wasm_numbers.specs.Reading.{many};
 ghost use Rattle.wasm_numbers.specs.Numbers.{unsigned, signed, unsigned_last, signed_last, integer, u32 as a_u32, u64 as a_u64, s32 as an_s32, s64 as an_s64, byte as byte_at, bits as some_bits};
 

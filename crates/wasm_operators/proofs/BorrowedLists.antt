@@ -5,8 +5,8 @@ use Rattle.wasm_numbers.specs.declared.fault.ReadFault.{ReadFault}
 use Rattle.wasm_numbers.specs.Reading.{many}
 use Rattle.wasm_operators.specs.Lists.{values, items_of, AreItems}
 use Rattle.wasm_numbers.proofs.Agreement.{ok_is}
-use Rattle.walrus_ir.specs.Results.{◌>>=◌}
-use Rattle.walrus_ir.proofs.ResultLemmas.{bind_ok}
+use Rattle.wasm_numbers.specs.Results.{◌>>=◌}
+use Rattle.wasm_numbers.proofs.ResultLemmas.{bind_ok}
 
 module _ {A : Type 0} (one : List ℕ → Result (A × List ℕ) ReadFault) where
   length_read : (n : ℕ) (bytes : List ℕ) (x : List A × List ℕ) → many one n bytes ≡ Ok x → length x.0 ≡ n

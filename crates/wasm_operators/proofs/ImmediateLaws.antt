@@ -11,8 +11,8 @@ use Rattle.wasm_operators.specs.Immediates.{Kind, an_index, a_local, a_label, a_
 use Rattle.wasm_numbers.proofs.Agreement.{IsBytes, ok_is, chosen, Takes, Agrees, joined, parted, nothing_agrees, agrees_then, agrees_made, agrees_many}
 use Rattle.wasm_numbers.proofs.NumberLaws.{integers_agree, bytes_agree, bits_agree}
 use Rattle.wasm_operators.proofs.TypeLaws.{heap_types_agree, value_types_agree, block_types_agree}
-use Rattle.walrus_ir.specs.Results.{◌>>=◌}
-use Rattle.walrus_ir.proofs.ResultLemmas.{bind_ok}
+use Rattle.wasm_numbers.specs.Results.{◌>>=◌}
+use Rattle.wasm_numbers.proofs.ResultLemmas.{bind_ok}
 
 memory_agrees : (flags : ℕ × Bool) → Agrees (IsMemory flags) (memory flags)
 memory_agrees (exponent, false) = nothing_agrees 0

@@ -3,7 +3,7 @@ use Rattle.std.proofs.Common.{◌≡◌, ℕ, Bool, true, false, cond, List, [],
 use Rattle.wasm_numbers.specs.declared.fault.ReadFault.{ReadFault}
 use Rattle.wasm_operators.specs.declared.types.Opcode.{Opcode}
 use Rattle.wasm_operators.specs.declared.types.Opcode.TheVariants.{Byte, Prefixed}
-use Rattle.walrus_ir.specs.Results.{◌>>=◌}
+use Rattle.wasm_numbers.specs.Results.{◌>>=◌}
 use Rattle.wasm_numbers.specs.Numbers.{unsigned, u32}
 use Rattle.wasm_operators.specs.Operations.{RawImmediate, RawOperation, operation}
 use Rattle.wasm_operators.specs.Immediates.{Kind, immediates}
@@ -12,7 +12,7 @@ use Rattle.wasm_operators.specs.Spelling.{Spells, operands_of, operands, read_op
 use Rattle.wasm_numbers.proofs.Agreement.{IsBytes, IsBytes-rest, ok_is, chosen, Takes, Agrees, joined, parted}
 use Rattle.wasm_numbers.proofs.NumberLaws.{integers_agree}
 use Rattle.wasm_operators.proofs.ImmediateLaws.{immediates_agree, immediates_again}
-use Rattle.walrus_ir.proofs.ResultLemmas.{bind_ok}
+use Rattle.wasm_numbers.proofs.ResultLemmas.{bind_ok}
 
 -- ---- opcodes
 

@@ -1,10 +1,10 @@
 -- Every operator has a row.
 use Rattle.std.specs.Prelude.{◌≡◌, Some}
 use Rattle.std.proofs.Common.{refl}
-use Rattle.walrus_ir.specs.declared.unary.UnaryOp.{UnaryOp}
-use Rattle.walrus_ir.specs.declared.unary.UnaryOp.TheVariants as unary
-use Rattle.walrus_ir.specs.declared.binary.BinaryOp.{BinaryOp}
-use Rattle.walrus_ir.specs.declared.binary.BinaryOp.TheVariants as binary
+use Rattle.wasm_types.specs.declared.unary.UnaryOp.{UnaryOp}
+use Rattle.wasm_types.specs.declared.unary.UnaryOp.TheVariants as unary
+use Rattle.wasm_types.specs.declared.binary.BinaryOp.{BinaryOp}
+use Rattle.wasm_types.specs.declared.binary.BinaryOp.TheVariants as binary
 use Rattle.wasm_operators.specs.UnaryOperations.{unary_row, unary_opcode}
 use Rattle.wasm_operators.specs.BinaryOperations.{binary_row, binary_opcode}
 

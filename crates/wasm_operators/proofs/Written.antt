@@ -3,33 +3,33 @@ use Rattle.std.proofs.Common.{◌≡◌, ℕ, zero, suc, ◌+◌, ◌*◌, ◌/�
 use Rattle.std.proofs.lemmas.Bool.{eqb-true, leb-true, lt-leb, cases_lt}
 use Rattle.std.proofs.lemmas.Nat.{pow-add}
 use Rattle.std.specs.List.{AllByRecursion, flat_map}
-use Rattle.walrus_ir.specs.declared.val_type.AbstractHeapType.{AbstractHeapType}
-use Rattle.walrus_ir.specs.declared.val_type.AbstractHeapType.TheVariants as abstract
-use Rattle.walrus_ir.specs.declared.val_type.HeapType.{HeapType}
-use Rattle.walrus_ir.specs.declared.val_type.HeapType.TheVariants.{Abstract, Concrete}
-use Rattle.walrus_ir.specs.declared.val_type.ValType.{ValType}
-use Rattle.walrus_ir.specs.declared.val_type.ValType.TheVariants.{I32, I64, F32, F64, V128, Ref}
+use Rattle.wasm_types.specs.declared.val_type.AbstractHeapType.{AbstractHeapType}
+use Rattle.wasm_types.specs.declared.val_type.AbstractHeapType.TheVariants as abstract
+use Rattle.wasm_types.specs.declared.val_type.HeapType.{HeapType}
+use Rattle.wasm_types.specs.declared.val_type.HeapType.TheVariants.{Abstract, Concrete}
+use Rattle.wasm_types.specs.declared.val_type.ValType.{ValType}
+use Rattle.wasm_types.specs.declared.val_type.ValType.TheVariants.{I32, I64, F32, F64, V128, Ref}
 use Rattle.wasm_operators.specs.declared.types.BlockType.{BlockType}
 use Rattle.wasm_operators.specs.declared.types.BlockType.TheVariants.{Empty, Value, FuncType}
 use Rattle.wasm_operators.specs.declared.types.Opcode.{Opcode}
 use Rattle.wasm_operators.specs.declared.types.Opcode.TheVariants.{Byte, Prefixed}
-use Rattle.walrus_ir.specs.declared.unary.UnaryOp.{UnaryOp}
-use Rattle.walrus_ir.specs.declared.unary.UnaryOp.TheVariants as unary
-use Rattle.walrus_ir.specs.declared.binary.BinaryOp.{BinaryOp}
-use Rattle.walrus_ir.specs.declared.binary.BinaryOp.TheVariants as binary
-use Rattle.walrus_ir.specs.declared.ternary.TernaryOp.{TernaryOp}
-use Rattle.walrus_ir.specs.declared.ternary.TernaryOp.TheVariants as ternary
-use Rattle.walrus_ir.specs.declared.memory.ExtendedLoad.TheVariants.{SignExtend}
-use Rattle.walrus_ir.specs.declared.memory.LoadKind.{LoadKind}
-use Rattle.walrus_ir.specs.declared.memory.LoadKind.TheVariants as load
-use Rattle.walrus_ir.specs.declared.memory.StoreKind.{StoreKind}
-use Rattle.walrus_ir.specs.declared.memory.StoreKind.TheVariants as store
-use Rattle.walrus_ir.specs.declared.memory.LoadSimdKind.{LoadSimdKind}
-use Rattle.walrus_ir.specs.declared.memory.LoadSimdKind.TheVariants as vector_access
-use Rattle.walrus_ir.specs.declared.memory.AtomicOp.{AtomicOp}
-use Rattle.walrus_ir.specs.declared.memory.AtomicOp.TheVariants as atomic_op
-use Rattle.walrus_ir.specs.declared.memory.AtomicWidth.{AtomicWidth}
-use Rattle.walrus_ir.specs.declared.memory.AtomicWidth.TheVariants as width
+use Rattle.wasm_types.specs.declared.unary.UnaryOp.{UnaryOp}
+use Rattle.wasm_types.specs.declared.unary.UnaryOp.TheVariants as unary
+use Rattle.wasm_types.specs.declared.binary.BinaryOp.{BinaryOp}
+use Rattle.wasm_types.specs.declared.binary.BinaryOp.TheVariants as binary
+use Rattle.wasm_types.specs.declared.ternary.TernaryOp.{TernaryOp}
+use Rattle.wasm_types.specs.declared.ternary.TernaryOp.TheVariants as ternary
+use Rattle.wasm_types.specs.declared.memory.ExtendedLoad.TheVariants.{SignExtend}
+use Rattle.wasm_types.specs.declared.memory.LoadKind.{LoadKind}
+use Rattle.wasm_types.specs.declared.memory.LoadKind.TheVariants as load
+use Rattle.wasm_types.specs.declared.memory.StoreKind.{StoreKind}
+use Rattle.wasm_types.specs.declared.memory.StoreKind.TheVariants as store
+use Rattle.wasm_types.specs.declared.memory.LoadSimdKind.{LoadSimdKind}
+use Rattle.wasm_types.specs.declared.memory.LoadSimdKind.TheVariants as vector_access
+use Rattle.wasm_types.specs.declared.memory.AtomicOp.{AtomicOp}
+use Rattle.wasm_types.specs.declared.memory.AtomicOp.TheVariants as atomic_op
+use Rattle.wasm_types.specs.declared.memory.AtomicWidth.{AtomicWidth}
+use Rattle.wasm_types.specs.declared.memory.AtomicWidth.TheVariants as width
 use Rattle.wasm_operators.specs.declared.types.AtomicKind.{AtomicKind}
 use Rattle.wasm_operators.specs.declared.types.AtomicKind.TheVariants as atomic
 use Rattle.wasm_operators.specs.declared.reference_operator.ReferenceOp.{ReferenceOp}

@@ -1,11 +1,11 @@
 -- Loads and stores: the opcode of each, one row for each operator (WebAssembly core specification 3.0, binary format, memory
 -- instructions; the proposal for threads).
 use Rattle.std.specs.Prelude.{true, false, [], ◌∷◌}
-use Rattle.walrus_ir.specs.declared.memory.LoadKind.{LoadKind}
-use Rattle.walrus_ir.specs.declared.memory.LoadKind.TheVariants as load
-use Rattle.walrus_ir.specs.declared.memory.ExtendedLoad.TheVariants.{SignExtend, ZeroExtend, ZeroExtendAtomic}
-use Rattle.walrus_ir.specs.declared.memory.StoreKind.{StoreKind}
-use Rattle.walrus_ir.specs.declared.memory.StoreKind.TheVariants as store
+use Rattle.wasm_types.specs.declared.memory.LoadKind.{LoadKind}
+use Rattle.wasm_types.specs.declared.memory.LoadKind.TheVariants as load
+use Rattle.wasm_types.specs.declared.memory.ExtendedLoad.TheVariants.{SignExtend, ZeroExtend, ZeroExtendAtomic}
+use Rattle.wasm_types.specs.declared.memory.StoreKind.{StoreKind}
+use Rattle.wasm_types.specs.declared.memory.StoreKind.TheVariants as store
 use Rattle.wasm_operators.specs.declared.types.Opcode.{Opcode}
 use Rattle.wasm_operators.specs.declared.types.Opcode.TheVariants.{Byte, Prefixed}
 use Rattle.wasm_operators.specs.declared.types.RawMemArg.{RawMemArg}

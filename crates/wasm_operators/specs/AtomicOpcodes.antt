@@ -1,10 +1,10 @@
 -- Atomic operators that read, modify and write: the opcode of each (the proposal for threads). Each kind has seven opcodes in a
 -- row, one for each width.
 use Rattle.std.specs.Prelude.{ℕ, ◌+◌, [], ◌∷◌}
-use Rattle.walrus_ir.specs.declared.memory.AtomicOp.{AtomicOp}
-use Rattle.walrus_ir.specs.declared.memory.AtomicOp.TheVariants.{Add, Sub, And, Or, Xor, Xchg}
-use Rattle.walrus_ir.specs.declared.memory.AtomicWidth.{AtomicWidth}
-use Rattle.walrus_ir.specs.declared.memory.AtomicWidth.TheVariants.{I32, I32_8, I32_16, I64, I64_8, I64_16, I64_32}
+use Rattle.wasm_types.specs.declared.memory.AtomicOp.{AtomicOp}
+use Rattle.wasm_types.specs.declared.memory.AtomicOp.TheVariants.{Add, Sub, And, Or, Xor, Xchg}
+use Rattle.wasm_types.specs.declared.memory.AtomicWidth.{AtomicWidth}
+use Rattle.wasm_types.specs.declared.memory.AtomicWidth.TheVariants.{I32, I32_8, I32_16, I64, I64_8, I64_16, I64_32}
 use Rattle.wasm_operators.specs.declared.types.AtomicKind.{AtomicKind}
 use Rattle.wasm_operators.specs.declared.types.AtomicKind.TheVariants.{Notify, Wait32, Wait64, Rmw, Cmpxchg}
 use Rattle.wasm_operators.specs.declared.types.Opcode.{Opcode}

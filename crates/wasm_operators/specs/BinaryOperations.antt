@@ -1,8 +1,8 @@
 -- Operators of two operands: the opcode of each, one row for each operator, and its lane if it has one (WebAssembly core
 -- specification 3.0, binary format, numeric and vector instructions). Each operator is in one of these tables.
 use Rattle.std.specs.Prelude.{List, [], ◌∷◌, Option, Some, None}
-use Rattle.walrus_ir.specs.declared.binary.BinaryOp.{BinaryOp}
-use Rattle.walrus_ir.specs.declared.binary.BinaryOp.TheVariants as binary
+use Rattle.wasm_types.specs.declared.binary.BinaryOp.{BinaryOp}
+use Rattle.wasm_types.specs.declared.binary.BinaryOp.TheVariants as binary
 use Rattle.wasm_operators.specs.declared.types.Opcode.{Opcode}
 use Rattle.wasm_operators.specs.declared.types.Opcode.TheVariants.{Byte, Prefixed}
 use Rattle.wasm_operators.specs.Rows.{first_some, the_row}

@@ -1,8 +1,8 @@
 -- The encodings of each immediate, and how an immediate of a kind is read (WebAssembly core specification 3.0, binary format,
 -- instructions).
 use Rattle.std.specs.Prelude.{◌≡◌, ℕ, ◌-◌, Bool, true, false, List, [], ◌∷◌, ◌++◌, Option, Some, None, Result, Ok, Err, nat_lt, ◌==◌, if◌then◌else◌}
-use Rattle.walrus_ir.specs.declared.val_type.HeapType.{HeapType}
-use Rattle.walrus_ir.specs.declared.val_type.ValType.{ValType}
+use Rattle.wasm_types.specs.declared.val_type.HeapType.{HeapType}
+use Rattle.wasm_types.specs.declared.val_type.ValType.{ValType}
 use Rattle.wasm_numbers.specs.declared.fault.ReadFault.{ReadFault}
 use Rattle.wasm_numbers.specs.declared.fault.ReadFault.TheVariants.{BadMemArg, BadCatchKind, BadCastFlags, BadFence, BadSelect}
 use Rattle.wasm_operators.specs.declared.types.Space.{Space}
@@ -10,7 +10,7 @@ use Rattle.wasm_numbers.specs.Reading.{Spelling, Reader, Then, then_read, Made, 
 use Rattle.wasm_numbers.specs.Numbers.{IsU32, IsU64, IsS32, IsS64, u32, u64, s32, s64, IsByte, byte, AreBits, bits}
 use Rattle.wasm_operators.specs.Types.{IsHeapType, heap_type, IsValueType, value_type, IsBlockType, block_type}
 use Rattle.wasm_operators.specs.Operations.{Access, CatchClause, Cast, RawImmediate, index, local, label, handler, outer, number, access, branch_table, clauses, block, heap, value, cast, i32, i64, f32, f64, v128, lane, lanes, zero_byte}
-use Rattle.walrus_ir.specs.Results.{◌>>=◌}
+use Rattle.wasm_numbers.specs.Results.{◌>>=◌}
 
 -- ---- memory accesses: flags, the index of the memory if the flags say so, and the offset
 

@@ -9,7 +9,7 @@ use Rattle.wasm_numbers.specs.Reading.{Spelling, Reader}
 use Rattle.wasm_numbers.specs.Numbers.{IsU32, u32}
 use Rattle.wasm_operators.specs.Types.{row_at}
 use Rattle.wasm_operators.specs.Immediates.{Kind, an_index, a_local, a_label, a_handler, an_outer, a_number, a_branch_table, an_access, some_clauses, a_block, a_heap, a_value, a_cast, an_i32, an_i64, an_f32, an_f64, a_v128, a_lane, sixteen_lanes, a_zero_byte}
-use Rattle.walrus_ir.specs.Results.{◌>>=◌}
+use Rattle.wasm_numbers.specs.Results.{◌>>=◌}
 
 -- ---- opcodes of one byte
 

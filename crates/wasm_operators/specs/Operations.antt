@@ -3,8 +3,8 @@
 -- of labels and `B` that of block types: depths and encoded block types in an encoded operator, other types in a named operator
 -- or in a tree.
 use Rattle.std.specs.Prelude.{ℕ, ℤ, List, Option, Bool}
-use Rattle.walrus_ir.specs.declared.val_type.HeapType.{HeapType}
-use Rattle.walrus_ir.specs.declared.val_type.ValType.{ValType}
+use Rattle.wasm_types.specs.declared.val_type.HeapType.{HeapType}
+use Rattle.wasm_types.specs.declared.val_type.ValType.{ValType}
 use Rattle.wasm_operators.specs.declared.types.BlockType.{BlockType}
 use Rattle.wasm_operators.specs.declared.types.Opcode.{Opcode}
 use Rattle.wasm_operators.specs.declared.types.Space.{Space}

@@ -1,12 +1,12 @@
 -- The shortest encodings.
 use Rattle.std.specs.Prelude.{◌≡◌, ℕ, zero, suc, ◌+◌, ◌-◌, ◌/◌, ◌%◌, ◌<◌, ◌⊎◌, List, [], ◌∷◌, ◌++◌, length, Bool, true, false, Option, Some, None, nat_lt, ◌==◌, if◌then◌else◌, ℤ, pos, negsuc}
 use Rattle.std.specs.List.{flat_map}
-use Rattle.walrus_ir.specs.declared.val_type.AbstractHeapType.{AbstractHeapType}
-use Rattle.walrus_ir.specs.declared.val_type.AbstractHeapType.TheVariants as abstract
-use Rattle.walrus_ir.specs.declared.val_type.HeapType.{HeapType}
-use Rattle.walrus_ir.specs.declared.val_type.HeapType.TheVariants.{Abstract, Concrete}
-use Rattle.walrus_ir.specs.declared.val_type.ValType.{ValType}
-use Rattle.walrus_ir.specs.declared.val_type.ValType.TheVariants.{I32, I64, F32, F64, V128, Ref}
+use Rattle.wasm_types.specs.declared.val_type.AbstractHeapType.{AbstractHeapType}
+use Rattle.wasm_types.specs.declared.val_type.AbstractHeapType.TheVariants as abstract
+use Rattle.wasm_types.specs.declared.val_type.HeapType.{HeapType}
+use Rattle.wasm_types.specs.declared.val_type.HeapType.TheVariants.{Abstract, Concrete}
+use Rattle.wasm_types.specs.declared.val_type.ValType.{ValType}
+use Rattle.wasm_types.specs.declared.val_type.ValType.TheVariants.{I32, I64, F32, F64, V128, Ref}
 use Rattle.wasm_operators.specs.declared.types.BlockType.{BlockType}
 use Rattle.wasm_operators.specs.declared.types.BlockType.TheVariants.{Empty, Value, FuncType}
 use Rattle.wasm_operators.specs.declared.types.Opcode.{Opcode}

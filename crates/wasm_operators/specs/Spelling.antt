@@ -6,7 +6,7 @@ use Rattle.wasm_numbers.specs.Reading.{Reader}
 use Rattle.wasm_operators.specs.Operations.{RawOperation, operation}
 use Rattle.wasm_operators.specs.Immediates.{Kind, kind_of, SpellsImmediates, immediates}
 use Rattle.wasm_operators.specs.Opcodes.{kinds_of, IsOpcode, opcode}
-use Rattle.walrus_ir.specs.Results.{◌>>=◌}
+use Rattle.wasm_numbers.specs.Results.{◌>>=◌}
 
 -- The bytes are an encoding of the operator: of its opcode, and then of each of its immediates; the kinds of these are those of
 -- the opcode.

@@ -1,8 +1,8 @@
 -- Operators of three operands: the opcode of each, one row for each operator (WebAssembly core specification 3.0, binary
 -- format, vector instructions).
 use Rattle.std.specs.Prelude.{[]}
-use Rattle.walrus_ir.specs.declared.ternary.TernaryOp.{TernaryOp}
-use Rattle.walrus_ir.specs.declared.ternary.TernaryOp.TheVariants as ternary
+use Rattle.wasm_types.specs.declared.ternary.TernaryOp.{TernaryOp}
+use Rattle.wasm_types.specs.declared.ternary.TernaryOp.TheVariants as ternary
 use Rattle.wasm_operators.specs.declared.types.Opcode.{Opcode}
 use Rattle.wasm_operators.specs.declared.types.Opcode.TheVariants.{Prefixed}
 use Rattle.wasm_operators.specs.Operations.{Operation, operation}

@@ -1,11 +1,11 @@
 -- Types (WebAssembly core specification 3.0, binary format, types).
 use Rattle.std.specs.Prelude.{ℕ, Bool, true, false, ◌||◌, List, [], ◌∷◌, Option, Some, None, option_map, Result, Ok, Err, ℤ, pos, negsuc, ◌==◌, if◌then◌else◌}
-use Rattle.walrus_ir.specs.declared.val_type.AbstractHeapType.{AbstractHeapType}
-use Rattle.walrus_ir.specs.declared.val_type.AbstractHeapType.TheVariants as abstract
-use Rattle.walrus_ir.specs.declared.val_type.HeapType.{HeapType}
-use Rattle.walrus_ir.specs.declared.val_type.HeapType.TheVariants.{Abstract, Concrete}
-use Rattle.walrus_ir.specs.declared.val_type.ValType.{ValType}
-use Rattle.walrus_ir.specs.declared.val_type.ValType.TheVariants.{I32, I64, F32, F64, V128, Ref}
+use Rattle.wasm_types.specs.declared.val_type.AbstractHeapType.{AbstractHeapType}
+use Rattle.wasm_types.specs.declared.val_type.AbstractHeapType.TheVariants as abstract
+use Rattle.wasm_types.specs.declared.val_type.HeapType.{HeapType}
+use Rattle.wasm_types.specs.declared.val_type.HeapType.TheVariants.{Abstract, Concrete}
+use Rattle.wasm_types.specs.declared.val_type.ValType.{ValType}
+use Rattle.wasm_types.specs.declared.val_type.ValType.TheVariants.{I32, I64, F32, F64, V128, Ref}
 use Rattle.wasm_numbers.specs.declared.fault.ReadFault.{ReadFault}
 use Rattle.wasm_numbers.specs.declared.fault.ReadFault.TheVariants.{BadType}
 use Rattle.wasm_operators.specs.declared.types.BlockType.{BlockType}
@@ -13,7 +13,7 @@ use Rattle.wasm_operators.specs.declared.types.BlockType.TheVariants.{Empty, Val
 use Rattle.wasm_numbers.specs.Reading.{Spelling, Reader, Then, then_read, Made, made, Switch, switch}
 use Rattle.wasm_numbers.specs.Numbers.{IsS33, s33, IsByte, byte}
 use Rattle.wasm_operators.specs.Rows.{first_some}
-use Rattle.walrus_ir.specs.Results.{◌>>=◌}
+use Rattle.wasm_numbers.specs.Results.{◌>>=◌}
 
 -- the value of a table at a number
 abbrev pub row_at : {V : Type 0} → List (ℕ × V) → ℕ → Option V

@@ -1,8 +1,8 @@
 -- Vector loads that splat, extend or pad with zeros, and loads and stores of one lane: the opcode of each (WebAssembly core
 -- specification 3.0, binary format, vector instructions).
 use Rattle.std.specs.Prelude.{List, [], ◌∷◌}
-use Rattle.walrus_ir.specs.declared.memory.LoadSimdKind.{LoadSimdKind}
-use Rattle.walrus_ir.specs.declared.memory.LoadSimdKind.TheVariants as vector_access
+use Rattle.wasm_types.specs.declared.memory.LoadSimdKind.{LoadSimdKind}
+use Rattle.wasm_types.specs.declared.memory.LoadSimdKind.TheVariants as vector_access
 use Rattle.wasm_operators.specs.declared.types.Opcode.{Opcode}
 use Rattle.wasm_operators.specs.declared.types.Opcode.TheVariants.{Prefixed}
 use Rattle.wasm_operators.specs.Operations.{Access, Immediate, access, lane, Operation, operation}

@@ -5,8 +5,8 @@ ghost use Rattle.wasm_operators.specs.AccessOperations.{load_opcode as the_load_
 
 use crate::types::Opcode;
 use crate::types::Opcode::{Byte, Prefixed};
-use walrus_ir::ExtendedLoad::{SignExtend, ZeroExtend, ZeroExtendAtomic};
-use walrus_ir::{LoadKind, StoreKind};
+use wasm_types::ExtendedLoad::{SignExtend, ZeroExtend, ZeroExtendAtomic};
+use wasm_types::{LoadKind, StoreKind};
 
 /// The opcode of a load (WebAssembly core specification 3.0, binary format, memory instructions;
 /// the proposal for threads).

@@ -5,7 +5,7 @@ ghost use Rattle.wasm_operators.specs.AtomicOpcodes.{width_number as the_width_n
 
 use crate::types::Opcode::Prefixed;
 use crate::types::{AtomicKind, Opcode};
-use walrus_ir::{AtomicOp, AtomicWidth};
+use wasm_types::{AtomicOp, AtomicWidth};
 
 /// The position of a width in the order of the seven opcodes of an operator.
 fn width_number(width: AtomicWidth) -> u32

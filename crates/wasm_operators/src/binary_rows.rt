@@ -6,7 +6,7 @@ ghost use Rattle.wasm_operators.specs.Parts.{lane_immediates};
 
 use crate::types::Opcode;
 use crate::types::Opcode::{Byte, Prefixed};
-use walrus_ir::BinaryOp;
+use wasm_types::BinaryOp;
 
 /// Integers: opcodes of one byte.
 fn integer_binary_opcode(op: BinaryOp) -> Option<Opcode>

@@ -153,7 +153,7 @@ ghost use Rattle.wasm_numbers.specs.Reading.{many};
 ghost use Rattle.wasm_numbers.specs.Numbers.{u32 as a_u32};
 ghost use Rattle.wasm_operators.specs.Immediates.{label_table};
 ghost use Rattle.wasm_operators.specs.Lists.{labels_of};
-ghost use Rattle.walrus_ir.specs.Results.{Gives};
+ghost use Rattle.wasm_numbers.specs.Results.{Gives};
 
 /// Whether two lists of labels are the same.
 fn are_same(mut a: Targets<'_>, mut b: Targets<'_>) -> bool

@@ -48,7 +48,7 @@ ghost use Rattle.std.specs.Cmp.Lexicographic.{pointwise};
 ghost use Rattle.wasm_numbers.specs.Reading.{many};
 ghost use Rattle.wasm_operators.specs.Immediates.{clause, catch_clauses};
 ghost use Rattle.wasm_operators.specs.Lists.{clauses_of, clause_of, clause_eq};
-ghost use Rattle.walrus_ir.specs.Results.{Gives};
+ghost use Rattle.wasm_numbers.specs.Results.{Gives};
 
 /// Reads a clause at the front: whether it passes a reference to the exception, its tag and its
 /// label. Returns them and the bytes that follow.

@@ -4,7 +4,7 @@ use crate::branch_table::BrTable;
 use crate::catch_list::CatchList;
 use crate::reference_operator::ReferenceOp;
 use crate::types::{AtomicKind, BlockType, RawMemArg, RawValType};
-use walrus_ir::{BinaryOp, LoadKind, LoadSimdKind, StoreKind, TernaryOp, UnaryOp};
+use wasm_types::{BinaryOp, LoadKind, LoadSimdKind, StoreKind, TernaryOp, UnaryOp};
 
 /// An operator as it is encoded (WebAssembly core specification 3.0, binary format, instructions):
 /// with raw indices, and labels as depths. `T` is the type of a `br_table`'s labels, and `C` that

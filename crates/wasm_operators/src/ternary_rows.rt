@@ -5,7 +5,7 @@ ghost use Rattle.wasm_operators.specs.TernaryOperations.{ternary_opcode as the_t
 
 use crate::types::Opcode;
 use crate::types::Opcode::Prefixed;
-use walrus_ir::TernaryOp;
+use wasm_types::TernaryOp;
 
 /// The opcode of an operator of three operands, from 0xfd 261 to 0xfd 275 (WebAssembly core
 /// specification 3.0, binary format, vector instructions).

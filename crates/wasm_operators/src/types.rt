@@ -2,7 +2,7 @@
 
 use std::fmt;
 use std::marker::Model;
-use walrus_ir::{AtomicOp, AtomicWidth, HeapType, ValType};
+use wasm_types::{AtomicOp, AtomicWidth, HeapType, ValType};
 
 /// A value type, with raw type indices (WebAssembly core specification 3.0, binary format, types).
 pub type RawValType = ValType<u32>;

@@ -6,7 +6,7 @@ ghost use Rattle.wasm_operators.specs.Parts.{lane_immediates};
 
 use crate::types::Opcode;
 use crate::types::Opcode::{Byte, Prefixed};
-use walrus_ir::UnaryOp;
+use wasm_types::UnaryOp;
 
 /// Opcodes of one byte, and 0xfc 0 to 7.
 fn scalar_unary_opcode(op: UnaryOp) -> Option<Opcode>

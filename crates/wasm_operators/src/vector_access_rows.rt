@@ -6,7 +6,7 @@ ghost use Rattle.wasm_operators.specs.VectorAccessOpcodes.{vector_access_opcode 
 
 use crate::types::Opcode;
 use crate::types::Opcode::Prefixed;
-use walrus_ir::LoadSimdKind;
+use wasm_types::LoadSimdKind;
 
 /// The opcode of a vector access other than a plain load or store (WebAssembly core specification
 /// 3.0, binary format, vector instructions).

@@ -5,7 +5,7 @@ use Rattle.std.specs.Prelude.{IfOk, IsOkAnd}
 use Rattle.wasm_numbers.specs.declared.fault.ReadFault.{ReadFault}
 use Rattle.wasm_operators.specs.Operations.{RawOperation}
 use Rattle.wasm_ops.specs.Position.{Position, Moves}
-use Rattle.walrus_ir.specs.Results.{Gives}
+use Rattle.wasm_numbers.specs.Results.{Gives}
 use Rattle.wasm_operators.specs.Spelling.{Spells, read_operation}
 use Rattle.wasm_numbers.proofs.Agreement.{IsBytes, ok_is}
 use Rattle.wasm_operators.proofs.OperationLaws.{operations_agree}

@@ -1,14 +1,14 @@
 //! Reading loads and stores: their memory arguments, and the kinds of their opcodes.
 
 ghost use Rattle.std.specs.Prelude.{◌≡◌, ◌≤◌, IfSome, Ok};
-ghost use Rattle.walrus_ir.specs.Results.{Gives};
+ghost use Rattle.wasm_numbers.specs.Results.{Gives};
 ghost use Rattle.wasm_operators.specs.Immediates.{memory_flags, memory as memory_after, memory_access};
 ghost use Rattle.wasm_operators.specs.AccessOperations.{load_opcode, store_opcode, access_of};
 
-use walrus_ir::ExtendedLoad::{SignExtend, ZeroExtend};
-use walrus_ir::{LoadKind, StoreKind};
 use wasm_numbers::{ReadFault, read_u32, read_u64, u64_at_front};
 use wasm_operators::{Opcode, RawMemArg};
+use wasm_types::ExtendedLoad::{SignExtend, ZeroExtend};
+use wasm_types::{LoadKind, StoreKind};
 
 /// The exponent that flags contain, and whether the index of a memory follows.
 fn exponent(flags: u32) -> Result<(u32, bool), ReadFault>

@@ -2,7 +2,7 @@
 //! fence.
 
 ghost use Rattle.std.specs.Prelude.{◌≡◌, ◌≤◌};
-ghost use Rattle.walrus_ir.specs.Results.{Gives};
+ghost use Rattle.wasm_numbers.specs.Results.{Gives};
 ghost use Rattle.wasm_operators.specs.Spelling.{operands};
 ghost use Rattle.wasm_operators.specs.Meaning.{meaning};
 ghost use Rattle.wasm_operators.specs.AccessOperations.{load_opcode, store_opcode};
@@ -10,10 +10,10 @@ ghost use Rattle.wasm_operators.specs.AtomicOpcodes.{width_number as the_width_n
 
 use crate::access_reader::read_memarg;
 use crate::row::made;
-use walrus_ir::ExtendedLoad::ZeroExtendAtomic;
-use walrus_ir::{AtomicOp, AtomicWidth, LoadKind, StoreKind};
 use wasm_numbers::ReadFault;
 use wasm_operators::{AtomicKind, Opcode, Operator};
+use wasm_types::ExtendedLoad::ZeroExtendAtomic;
+use wasm_types::{AtomicOp, AtomicWidth, LoadKind, StoreKind};
 
 /// The width at this position in the order of the seven opcodes of an operator.
 fn width_at(place: u32) -> AtomicWidth

@@ -1,7 +1,7 @@
 //! Reading an operator whose opcode is one byte: one row for each operator.
 
 ghost use Rattle.std.specs.Prelude.{◌≡◌, ◌≤◌};
-ghost use Rattle.walrus_ir.specs.Results.{Gives};
+ghost use Rattle.wasm_numbers.specs.Results.{Gives};
 ghost use Rattle.wasm_operators.specs.Spelling.{operands};
 ghost use Rattle.wasm_operators.specs.Meaning.{meaning};
 

@@ -2,8 +2,8 @@
 ghost use Rattle.std.specs.Prelude.{◌≡◌};
 ghost use Rattle.wasm_ops.specs.CommonOperators.{listed};
 
-use walrus_ir::{BinaryOp, LoadKind, StoreKind, UnaryOp};
 use wasm_operators::{Operator, RawMemArg};
+use wasm_types::{BinaryOp, LoadKind, StoreKind, UnaryOp};
 
 /// One of the operators that most code consists of, with its immediates. It has no list and is
 /// smaller than an `Operator`, so it passes from a reader to its caller in registers.

@@ -6,8 +6,8 @@ ghost use Rattle.wasm_operators.specs.Meaning.{meaning};
 ghost use Rattle.wasm_ops.specs.CommonOperators.{listed};
 
 use crate::common::CommonOperator;
-use walrus_ir::{BinaryOp, UnaryOp};
 use wasm_operators::{Opcode, Operator};
+use wasm_types::{BinaryOp, UnaryOp};
 
 /// The operator with an opcode from 0x45 to 0x66: a test or a comparison.
 #[inline(always)]

@@ -1,6 +1,6 @@
 //! Reading an operator whose opcode is a prefix byte and a number: one row for each operator.
 
-ghost use Rattle.walrus_ir.specs.Results.{Gives};
+ghost use Rattle.wasm_numbers.specs.Results.{Gives};
 ghost use Rattle.wasm_operators.specs.Spelling.{operands};
 ghost use Rattle.wasm_operators.specs.Meaning.{meaning};
 
@@ -12,9 +12,9 @@ use crate::vector_reader::{
     read_bitwise, read_f32x4, read_f64x2_or_relaxed, read_i16x8_product, read_i32x4, read_i64x2,
     read_lane, read_narrow_vector, read_splat, read_vector_comparison,
 };
-use walrus_ir::{LoadKind, LoadSimdKind, StoreKind};
 use wasm_numbers::{ReadFault, read_lanes, read_u32, read_v128};
 use wasm_operators::{Opcode, Operator, index_rows};
+use wasm_types::{LoadKind, LoadSimdKind, StoreKind};
 
 /// Reads the operator with this number after 0xfc: those of the rows, and the others.
 macro_rules! read_number {

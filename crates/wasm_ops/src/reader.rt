@@ -2,7 +2,7 @@
 
 ghost use Rattle.std.specs.Prelude.{◌≡◌, List, ℕ, ◌++◌, IfOk, IfErr, IsOkAnd, Ok, Err};
 ghost use Rattle.wasm_operators.specs.Operations.{RawOperation};
-ghost use Rattle.walrus_ir.specs.Results.{Gives};
+ghost use Rattle.wasm_numbers.specs.Results.{Gives};
 ghost use Rattle.wasm_operators.specs.Spelling.{Spells, read_operation};
 ghost use Rattle.wasm_operators.specs.Meaning.{meaning};
 

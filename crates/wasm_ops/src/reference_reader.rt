@@ -1,7 +1,7 @@
 //! Reading operators on references, structs and arrays: one row for each operator.
 
 ghost use Rattle.std.specs.Prelude.{◌≤◌};
-ghost use Rattle.walrus_ir.specs.Results.{Gives};
+ghost use Rattle.wasm_numbers.specs.Results.{Gives};
 ghost use Rattle.wasm_operators.specs.Immediates.{cast_flags as the_cast_flags, cast_parts};
 ghost use Rattle.wasm_operators.specs.Meaning.{meaning};
 ghost use Rattle.wasm_operators.specs.ReferenceOperations.{cast_of};

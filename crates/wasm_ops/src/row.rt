@@ -1,6 +1,6 @@
 //! Reading the operator of a row.
 
-ghost use Rattle.walrus_ir.specs.Results.{Gives};
+ghost use Rattle.wasm_numbers.specs.Results.{Gives};
 ghost use Rattle.wasm_numbers.specs.Reading.{Then, then_read};
 ghost use Rattle.wasm_numbers.specs.Numbers.{u32 as a_u32};
 

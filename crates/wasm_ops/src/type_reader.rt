@@ -1,17 +1,17 @@
 //! Reading types (WebAssembly core specification 3.0, binary format, types).
 
 ghost use Rattle.std.specs.Prelude.{◌≡◌, ◌||◌, ◌^◌, ◌<ℤ◌, pos, IfSome, Ok};
-ghost use Rattle.walrus_ir.specs.Results.{Gives};
-ghost use Rattle.walrus_ir.specs.declared.val_type.ValType.TheVariants.{Ref};
+ghost use Rattle.wasm_numbers.specs.Results.{Gives};
+ghost use Rattle.wasm_types.specs.declared.val_type.ValType.TheVariants.{Ref};
 ghost use Rattle.wasm_operators.specs.Immediates.{selected};
 ghost use Rattle.wasm_operators.specs.Types.{heap_at, value_at, nullable_at};
 ghost use Rattle.wasm_operators.specs.Types.{heap_type, value_type, block_type};
 ghost use Rattle.wasm_operators.specs.Types.{type_index as type_index_of, starts_value_type as is_value_byte};
 
 use crate::row::made;
-use walrus_ir::{AbstractHeapType, RefType};
 use wasm_numbers::{ReadFault, read_signed, read_u32};
 use wasm_operators::{BlockType, RawHeapType, RawValType};
+use wasm_types::{AbstractHeapType, RefType};
 
 /// The abstract heap type that a byte spells.
 #[tactic(auto, unfolding(wasm_operators::specs::Types::heap_at))]

@@ -1,16 +1,16 @@
 //! Reading vector accesses other than plain loads and stores, by ranges of their numbers.
 
 ghost use Rattle.std.specs.Prelude.{◌≡◌, ◌≤◌, Some, None};
-ghost use Rattle.walrus_ir.specs.Results.{Gives};
+ghost use Rattle.wasm_numbers.specs.Results.{Gives};
 ghost use Rattle.wasm_operators.specs.Spelling.{operands};
 ghost use Rattle.wasm_operators.specs.Meaning.{meaning};
 ghost use Rattle.wasm_operators.specs.Parts.{lane_immediates};
 ghost use Rattle.wasm_operators.specs.VectorAccessOpcodes.{vector_access_opcode as the_vector_access_opcode, access_lane as the_access_lane};
 
 use crate::access_reader::read_memarg;
-use walrus_ir::LoadSimdKind;
 use wasm_numbers::{ReadFault, read_byte};
 use wasm_operators::{Opcode, Operator};
+use wasm_types::LoadSimdKind;
 
 /// The kind of the load with a number from 1 to 10: it extends or splats.
 fn wide_load_kind(number: u32) -> LoadSimdKind

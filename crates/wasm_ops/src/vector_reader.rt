@@ -1,15 +1,15 @@
 //! The vector operators that access no memory, which follow 0xfd: one row for each operator.
 
 ghost use Rattle.std.specs.Prelude.{◌≡◌, ◌≤◌, [], ◌∷◌};
-ghost use Rattle.walrus_ir.specs.Results.{Gives};
+ghost use Rattle.wasm_numbers.specs.Results.{Gives};
 ghost use Rattle.wasm_operators.specs.Operations.{lane as a_lane, operation};
 ghost use Rattle.wasm_operators.specs.Spelling.{operands};
 ghost use Rattle.wasm_operators.specs.Meaning.{meaning};
 
 use crate::row::made;
-use walrus_ir::{BinaryOp, TernaryOp, UnaryOp};
 use wasm_numbers::{ReadFault, read_byte};
 use wasm_operators::{Opcode, Operator};
+use wasm_types::{BinaryOp, TernaryOp, UnaryOp};
 
 /// Reads the rest of an operator with 0xfd and a number from 14 to 20: `i8x16.swizzle` and splats.
 #[tactic(auto, unfolding(wasm_operators::specs::Opcodes::kinds_after))]

@@ -1,6 +1,6 @@
 //! The labels of a `br_table` and the clauses of a `try_table`, translated.
 ghost use Rattle.std.specs.Prelude.{◌≡◌, ◌⊎◌, OnOk, IfErr, Ok, Err};
-ghost use Rattle.walrus_ir.specs.Results.{each};
+ghost use Rattle.wasm_numbers.specs.Results.{each};
 ghost use Rattle.wasm_body.specs.Translation.{translate_tag};
 ghost use Rattle.wasm_translate.specs.Changes.{changed_clause};
 

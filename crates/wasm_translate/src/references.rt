@@ -1,6 +1,6 @@
 //! Operators on references, structs and arrays, translated.
 ghost use Rattle.std.specs.Prelude.{◌≡◌};
-ghost use Rattle.walrus_ir.specs.Results.{Gives};
+ghost use Rattle.wasm_numbers.specs.Results.{Gives};
 ghost use Rattle.wasm_operators.specs.ReferenceOperations.{cast_of, reference_operation};
 ghost use Rattle.wasm_translate.specs.Changes.{changed, changed_cast};
 

@@ -1,10 +1,10 @@
 -- Operators of one, two and three operands, family by family.
 use Rattle.std.proofs.Common.{◌≡◌, ℕ, [], ◌∷◌, Bool, true, false, length, refl}
 use Rattle.std.specs.Prelude.{nat_lt, Ok}
-use Rattle.walrus_ir.specs.declared.binary.BinaryOp.TheVariants as binary
-use Rattle.walrus_ir.specs.declared.ternary.TernaryOp.TheVariants as ternary
-use Rattle.walrus_ir.specs.declared.unary.UnaryOp.TheVariants as unary
-use Rattle.walrus_ir.specs.Results.{◌>>=◌}
+use Rattle.wasm_types.specs.declared.binary.BinaryOp.TheVariants as binary
+use Rattle.wasm_types.specs.declared.ternary.TernaryOp.TheVariants as ternary
+use Rattle.wasm_types.specs.declared.unary.UnaryOp.TheVariants as unary
+use Rattle.wasm_numbers.specs.Results.{◌>>=◌}
 use Rattle.wasm_operators.specs.Operations.{lane}
 use Rattle.wasm_body.specs.Validity.{demand}
 use Rattle.wasm_typing.specs.Operands.{InstructionType}

@@ -3,7 +3,7 @@ use Rattle.std.proofs.Common.{◌≡◌, ℕ, length, true, Option, Some, None, 
 use Rattle.std.specs.Prelude.{◌<◌, ◌≤◌, ◌&&◌, ◌==◌, nat_lt, option_map, unwrap_or}
 use Rattle.std.proofs.lemmas.Bool.{eqb-true, ltb-true}
 use Rattle.std.proofs.lemmas.Bool.Decides.{leb_tells}
-use Rattle.walrus_ir.specs.Types.{rank_of}
+use Rattle.wasm_types.specs.TypeOrder.{rank_of}
 use Rattle.wasm_operators.proofs.SameLists.{both}
 use Rattle.wasm_typing.specs.Contexts.{OperandContext}
 use Rattle.wasm_typing.specs.Matching.{kind_at, first_of, supertype_of}

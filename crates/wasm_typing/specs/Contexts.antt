@@ -3,10 +3,10 @@
 use Rattle.std.specs.Prelude.{ℕ, List, ◌++◌, Bool, true, false, ◌==◌, Option, option_map, unwrap_or, slice_get, filter, Ok, Err}
 use Rattle.std.specs.List.{list_any, range_with_len}
 use Rattle.std.specs.Prelude.{length}
-use Rattle.walrus_ir.specs.declared.val_type.RefType.{RefType}
-use Rattle.walrus_ir.specs.declared.val_type.ValType.{ValType}
-use Rattle.walrus_ir.specs.declared.val_type.ValType.TheVariants.{I32, I64, Ref}
-use Rattle.walrus_ir.specs.Results.{◌>>=◌}
+use Rattle.wasm_types.specs.declared.val_type.RefType.{RefType}
+use Rattle.wasm_types.specs.declared.val_type.ValType.{ValType}
+use Rattle.wasm_types.specs.declared.val_type.ValType.TheVariants.{I32, I64, Ref}
+use Rattle.wasm_numbers.specs.Results.{◌>>=◌}
 use Rattle.walrus_ir.specs.Types.{Signature}
 use Rattle.wasm_body.specs.Validity.{Checked, refused, required}
 

@@ -1,14 +1,14 @@
 -- Which types match: "t1 <= t2" (WebAssembly core specification 3.0, section 3.3, matching, and the appendix, validation algorithm).
 use Rattle.std.specs.Prelude.{ℕ, zero, suc, List, [], ◌∷◌, length, Bool, true, false, not, ◌&&◌, ◌||◌, ◌==◌, Option, Some, None, option_map, option_and_then, unwrap_or, slice_get}
 use Rattle.std.specs.List.{list_any}
-use Rattle.walrus_ir.specs.declared.val_type.AbstractHeapType.{AbstractHeapType}
-use Rattle.walrus_ir.specs.declared.val_type.AbstractHeapType.TheVariants as abstract
-use Rattle.walrus_ir.specs.declared.val_type.HeapType.{HeapType}
-use Rattle.walrus_ir.specs.declared.val_type.HeapType.TheVariants.{Abstract, Concrete}
-use Rattle.walrus_ir.specs.declared.val_type.RefType.{RefType}
-use Rattle.walrus_ir.specs.declared.val_type.ValType.{ValType}
-use Rattle.walrus_ir.specs.declared.val_type.ValType.TheVariants.{I32, I64, F32, F64, V128, Ref}
-use Rattle.walrus_ir.specs.Types.{rank_of}
+use Rattle.wasm_types.specs.declared.val_type.AbstractHeapType.{AbstractHeapType}
+use Rattle.wasm_types.specs.declared.val_type.AbstractHeapType.TheVariants as abstract
+use Rattle.wasm_types.specs.declared.val_type.HeapType.{HeapType}
+use Rattle.wasm_types.specs.declared.val_type.HeapType.TheVariants.{Abstract, Concrete}
+use Rattle.wasm_types.specs.declared.val_type.RefType.{RefType}
+use Rattle.wasm_types.specs.declared.val_type.ValType.{ValType}
+use Rattle.wasm_types.specs.declared.val_type.ValType.TheVariants.{I32, I64, F32, F64, V128, Ref}
+use Rattle.wasm_types.specs.TypeOrder.{rank_of}
 use Rattle.wasm_body.specs.ValidityLaws.{KnownOperand, of_type, of_reference}
 use Rattle.wasm_typing.specs.Contexts.{StorageType, I8, I16, Unpacked, CompositeType, Function, Struct, Array, OperandContext, composite_of}
 

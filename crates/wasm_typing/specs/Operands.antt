@@ -1,9 +1,9 @@
 -- Operators take operands and give others: the type of an operator, and what it makes of the operands above the height of the innermost
 -- frame (WebAssembly core specification 3.0, section 3.4, and the appendix, validation algorithm, whose names are in quotes).
 use Rattle.std.specs.Prelude.{ℕ, List, [], ◌∷◌, reverse, Bool, true, false, Ok, Err}
-use Rattle.walrus_ir.specs.declared.val_type.ValType.{ValType}
-use Rattle.walrus_ir.specs.declared.val_type.ValType.TheVariants.{Ref}
-use Rattle.walrus_ir.specs.Results.{◌>>=◌}
+use Rattle.wasm_types.specs.declared.val_type.ValType.{ValType}
+use Rattle.wasm_types.specs.declared.val_type.ValType.TheVariants.{Ref}
+use Rattle.wasm_numbers.specs.Results.{◌>>=◌}
 use Rattle.walrus_ir.specs.Types.{same_type}
 use Rattle.wasm_body.specs.Validity.{Operand, Unknown, Known, Point, Change, Checked, refused, demand}
 use Rattle.wasm_body.specs.ValidityLaws.{KnownOperand, of_type, of_reference}

@@ -3,11 +3,12 @@
 -- of the own group counts by its position ("roll") and any other by the type that it names.
 use Rattle.std.specs.Prelude.{ℕ, ◌+◌, ◌-◌, List, [], ◌∷◌, ◌++◌, map, zip, length, Bool, true, false, ◌&&◌, ◌||◌, ◌==◌, nat_le, nat_lt, if◌then◌else◌, Option, Some, None, find, option_map, unwrap_or, slice_get}
 use Rattle.std.specs.List.{range_with_len, flat_map}
-use Rattle.walrus_ir.specs.declared.val_type.HeapType.{HeapType}
-use Rattle.walrus_ir.specs.declared.val_type.HeapType.TheVariants.{Abstract, Concrete}
-use Rattle.walrus_ir.specs.declared.val_type.ValType.{ValType}
-use Rattle.walrus_ir.specs.declared.val_type.ValType.TheVariants.{I32, I64, F32, F64, V128, Ref}
-use Rattle.walrus_ir.specs.Types.{rank_of, same_bool}
+use Rattle.wasm_types.specs.declared.val_type.HeapType.{HeapType}
+use Rattle.wasm_types.specs.declared.val_type.HeapType.TheVariants.{Abstract, Concrete}
+use Rattle.wasm_types.specs.declared.val_type.ValType.{ValType}
+use Rattle.wasm_types.specs.declared.val_type.ValType.TheVariants.{I32, I64, F32, F64, V128, Ref}
+use Rattle.walrus_ir.specs.Types.{same_bool}
+use Rattle.wasm_types.specs.TypeOrder.{rank_of}
 use Rattle.wasm_typing.specs.Contexts.{StorageType, I8, I16, Unpacked, FieldType, CompositeType, Function, Struct, Array, DefinedType}
 
 -- "subtype": a type as it is declared

@@ -1,11 +1,11 @@
 -- Laws of the table of rules, of matching, and of the instance.
 use Rattle.std.specs.Prelude.{◌≡◌, ◌↔◌, ℕ, List, [], ◌∷◌, ◌++◌, length, map, Bool, true, false, ◌&&◌, Option, Some, is_some, Ok, Err}
 use Rattle.std.specs.List.{AllByRecursion}
-use Rattle.walrus_ir.specs.declared.binary.BinaryOp.{BinaryOp}
-use Rattle.walrus_ir.specs.declared.ternary.TernaryOp.{TernaryOp}
-use Rattle.walrus_ir.specs.declared.unary.UnaryOp.{UnaryOp}
-use Rattle.walrus_ir.specs.declared.val_type.ValType.{ValType}
-use Rattle.walrus_ir.specs.Results.{◌>>=◌}
+use Rattle.wasm_types.specs.declared.binary.BinaryOp.{BinaryOp}
+use Rattle.wasm_types.specs.declared.ternary.TernaryOp.{TernaryOp}
+use Rattle.wasm_types.specs.declared.unary.UnaryOp.{UnaryOp}
+use Rattle.wasm_types.specs.declared.val_type.ValType.{ValType}
+use Rattle.wasm_numbers.specs.Results.{◌>>=◌}
 use Rattle.wasm_operators.specs.declared.types.Opcode.{Opcode}
 use Rattle.wasm_operators.specs.BinaryOperations.{binary_operation}
 use Rattle.wasm_operators.specs.Opcodes.{kinds_of}

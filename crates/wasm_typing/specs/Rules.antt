@@ -3,13 +3,13 @@
 -- number of immediates, or a form of them, that the operator can't have.
 use Rattle.std.specs.Prelude.{ℕ, List, [], ◌∷◌, ◌++◌, ◌^◌, map, replicate, Bool, true, false, ◌==◌, nat_le, nat_lt, Ok, Err, slice_get}
 use Rattle.std.specs.List.{list_all}
-use Rattle.walrus_ir.specs.declared.val_type.AbstractHeapType.{AbstractHeapType}
-use Rattle.walrus_ir.specs.declared.val_type.AbstractHeapType.TheVariants as abstract
-use Rattle.walrus_ir.specs.declared.val_type.HeapType.{HeapType}
-use Rattle.walrus_ir.specs.declared.val_type.HeapType.TheVariants.{Abstract, Concrete}
-use Rattle.walrus_ir.specs.declared.val_type.ValType.{ValType}
-use Rattle.walrus_ir.specs.declared.val_type.ValType.TheVariants.{I32, Ref}
-use Rattle.walrus_ir.specs.Results.{◌>>=◌}
+use Rattle.wasm_types.specs.declared.val_type.AbstractHeapType.{AbstractHeapType}
+use Rattle.wasm_types.specs.declared.val_type.AbstractHeapType.TheVariants as abstract
+use Rattle.wasm_types.specs.declared.val_type.HeapType.{HeapType}
+use Rattle.wasm_types.specs.declared.val_type.HeapType.TheVariants.{Abstract, Concrete}
+use Rattle.wasm_types.specs.declared.val_type.ValType.{ValType}
+use Rattle.wasm_types.specs.declared.val_type.ValType.TheVariants.{I32, Ref}
+use Rattle.wasm_numbers.specs.Results.{◌>>=◌}
 use Rattle.walrus_ir.specs.Types.{Signature, same_bool}
 use Rattle.wasm_operators.specs.Operations.{Access, Immediate, index, local, number, access, heap, value, lane, lanes}
 use Rattle.wasm_body.specs.Validity.{Known, Point, Change, Checked, refused, demand, required}

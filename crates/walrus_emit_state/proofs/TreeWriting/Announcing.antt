@@ -8,7 +8,7 @@ use Rattle.walrus_ir.specs.declared.control.LegacyCatch.TheVariants.{Catch, Catc
 use Rattle.walrus_ir.specs.Unfolding.{handler_of, handlers}
 use Rattle.wasm_body.specs.declared.error.EmitError.{EmitError}
 use Rattle.wasm_body.specs.declared.error.EmitError.TheVariants.{UnknownSequence}
-use Rattle.walrus_ir.specs.Results.{◌>>=◌, some_or}
+use Rattle.wasm_numbers.specs.Results.{◌>>=◌, some_or}
 use Rattle.wasm_body.specs.Control.{end_operation}
 use Rattle.wasm_body.specs.Translation.{at_location}
 use Rattle.wasm_body.specs.InstructionTable.{legacy_clause}

@@ -3,7 +3,7 @@ use Rattle.std.specs.Prelude.{◌≡◌, ℕ, List, [], ◌∷◌, Bool, Some, s
 use Rattle.std.proofs.Common.{sym, ap, ◌∙◌}
 use Rattle.walrus_ir.specs.declared.seq.InstrSeq.{InstrSeq}
 use Rattle.walrus_ir.specs.declared.val_type.InstrSeqType.{InstrSeqType}
-use Rattle.walrus_ir.specs.Results.{◌>>=◌, some_or}
+use Rattle.wasm_numbers.specs.Results.{◌>>=◌, some_or}
 use Rattle.wasm_body.specs.declared.error.EmitError.TheVariants.{UnknownSequence}
 use Rattle.walrus_emit_state.specs.declared.closing.SequenceScope.{SequenceScope}
 use Rattle.walrus_emit_state.specs.Emission.{Scope, is_short, if_scopes, scopes_of_if}

@@ -5,7 +5,7 @@ use Rattle.wasm_operators.specs.Operations.{CatchClause}
 use Rattle.wasm_operators.specs.Immediates.{Table}
 use Rattle.walrus_ir.specs.Clauses.{Targets}
 use Rattle.wasm_body.specs.declared.error.EmitError.{EmitError}
-use Rattle.walrus_ir.specs.Results.{◌>>=◌, each}
+use Rattle.wasm_numbers.specs.Results.{◌>>=◌, each}
 use Rattle.wasm_body.specs.Translation.{translate_tag}
 use Rattle.wasm_body.specs.Bytes.{Numbers, numbers_in_32_bits, in_32_bits}
 use Rattle.wasm_body.specs.InstructionTable.{table_clause}

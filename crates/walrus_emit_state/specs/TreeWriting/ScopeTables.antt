@@ -1,7 +1,7 @@
 -- The sequences that are to come and those that are open while a tree is written, with a table of the levels of the open ones.
 use Rattle.std.specs.Prelude.{◌≡◌, ◌<◌, ℕ, List, [], ◌∷◌, ◌++◌, length, map, reverse, Option, None, Some, ◌==◌, if◌then◌else◌, slice_index_or, Result}
 use Rattle.wasm_body.specs.declared.error.EmitError.{EmitError}
-use Rattle.walrus_ir.specs.Results.{◌>>=◌}
+use Rattle.wasm_numbers.specs.Results.{◌>>=◌}
 use Rattle.wasm_body.specs.Bytes.{in_32_bits}
 use Rattle.wasm_body.specs.FlatText.{depth_of}
 use Rattle.wasm_body.specs.TreeOfFunction.{target_in}

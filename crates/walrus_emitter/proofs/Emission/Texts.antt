@@ -17,7 +17,7 @@ use Rattle.wasm_operators.specs.declared.types.BlockType.{BlockType}
 use Rattle.wasm_operators.specs.Operations.{RawOperation}
 use Rattle.wasm_body.specs.declared.error.EmitError.{EmitError}
 use Rattle.wasm_body.specs.declared.error.EmitError.TheVariants.{UnknownSequence, BadClauses}
-use Rattle.walrus_ir.specs.Results.{◌>>=◌, some_or, gather}
+use Rattle.wasm_numbers.specs.Results.{◌>>=◌, some_or, gather}
 use Rattle.wasm_body.specs.Control.{Role, an_if, role_of, end_operation, else_operation}
 use Rattle.wasm_body.specs.Translation.{Located, at_location}
 use Rattle.wasm_body.specs.InstructionTable.{operation_of, legacy_clause, clauses_of_try}

@@ -4,11 +4,11 @@ use Rattle.std.proofs.Common.{refl, sym, ap, ◌∙◌, append-nil}
 use Rattle.std.specs.Bool.{OnTrue}
 use Rattle.std.proofs.lemmas.Bool.{lt-ltb}
 use Rattle.walrus_ir.specs.declared.instr.Instr.{Instr}
-use Rattle.walrus_ir.specs.declared.memory.MemArg.{MemArg}
+use Rattle.wasm_types.specs.declared.memory.MemArg.{MemArg}
 use Rattle.walrus_ir.specs.declared.val_type.InstrSeqType.TheVariants.{Simple}
 use Rattle.walrus_ir.specs.declared.seq.InstrSeq.{InstrSeq}
 use Rattle.walrus_ir.specs.Events.{VisitInstruction}
-use Rattle.walrus_ir.specs.Results.{◌>>=◌, unless, with_fault}
+use Rattle.wasm_numbers.specs.Results.{◌>>=◌, unless, with_fault}
 use Rattle.walrus_ir.specs.Types.{ModuleType}
 use Rattle.walrus_ir.specs.Unfolding.{slots_in}
 use Rattle.wasm_operators.specs.declared.types.Opcode.TheVariants.{Byte}

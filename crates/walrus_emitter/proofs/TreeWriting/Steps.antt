@@ -13,7 +13,7 @@ use Rattle.wasm_operators.specs.Meaning.{Listed, meaning}
 use Rattle.wasm_operators.specs.Operations.{RawOperation}
 use Rattle.wasm_body.specs.declared.error.EmitError.{EmitError}
 use Rattle.wasm_body.specs.declared.error.EmitError.TheVariants.{BadClauses}
-use Rattle.walrus_ir.specs.Results.{◌>>=◌}
+use Rattle.wasm_numbers.specs.Results.{◌>>=◌}
 use Rattle.wasm_body.specs.Translation.{Located, at_location}
 use Rattle.wasm_body.specs.InstructionTable.{clauses_of_try}
 use Rattle.wasm_body.specs.TreeOfFunction.{instruction_in}

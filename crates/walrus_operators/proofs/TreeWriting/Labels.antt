@@ -3,7 +3,7 @@ use Rattle.std.specs.Prelude.{◌≡◌, ℕ, List, [], ◌∷◌, length, map, 
 use Rattle.std.proofs.Common.{refl, sym, ap, ◌∙◌}
 use Rattle.std.proofs.lemmas.List.{length-map}
 use Rattle.walrus_ir.specs.Clauses.{Targets, Guarded}
-use Rattle.walrus_ir.specs.Results.{◌>>=◌, each, infallible}
+use Rattle.wasm_numbers.specs.Results.{◌>>=◌, each, infallible}
 use Rattle.walrus_ir.specs.declared.control.TryTableCatch.{TryTableCatch}
 use Rattle.walrus_ir.specs.declared.val_type.InstrSeqType.{InstrSeqType}
 use Rattle.walrus_ir.specs.declared.instr.Instr.{Instr}

@@ -5,7 +5,7 @@ use Rattle.walrus_ir.specs.declared.instr.Instr.{Instr}
 use Rattle.walrus_ir.specs.declared.instr.Instr.TheVariants as instr
 use Rattle.walrus_ir.specs.declared.value.Value.{Value}
 use Rattle.walrus_ir.specs.declared.value.Value.TheVariants.{I32}
-use Rattle.walrus_ir.specs.declared.val_type.ValType.{ValType}
+use Rattle.wasm_types.specs.declared.val_type.ValType.{ValType}
 use Rattle.wasm_operators.specs.declared.types.AtomicKind.TheVariants.{Notify, Rmw, Cmpxchg}
 use Rattle.wasm_operators.specs.declared.types.Opcode.{Opcode}
 use Rattle.wasm_operators.specs.declared.types.Opcode.TheVariants.{Prefixed}

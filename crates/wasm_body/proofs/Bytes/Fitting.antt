@@ -4,9 +4,9 @@ use Rattle.std.specs.Prelude.{nat_lt, IsOk, is_ok}
 use Rattle.std.proofs.lemmas.Bool.{lt-ltb, ltb-true}
 use Rattle.wasm_body.specs.declared.error.EmitError.{EmitError}
 use Rattle.wasm_body.specs.declared.error.EmitError.TheVariants.{TooLarge}
-use Rattle.walrus_ir.specs.Results.{◌>>=◌, unless}
+use Rattle.wasm_numbers.specs.Results.{◌>>=◌, unless}
 use Rattle.wasm_body.specs.Bytes.{in_32_bits}
-use Rattle.walrus_ir.proofs.ResultLemmas.{unless_ok}
+use Rattle.wasm_numbers.proofs.ResultLemmas.{unless_ok}
 use Rattle.wasm_body.proofs.Translation.Steps.{bound}
 
 pub fits : (n : ℕ) → n < 2 ^ 32 → IsOk (in_32_bits n)

@@ -10,7 +10,7 @@ use Rattle.wasm_operators.specs.Immediates.{kind_of}
 use Rattle.wasm_operators.specs.Opcodes.{kinds_of}
 use Rattle.wasm_body.specs.declared.error.ParseError.{ParseError}
 use Rattle.wasm_body.specs.declared.error.ParseError.TheVariants.{TypeMissing}
-use Rattle.walrus_ir.specs.Results.{◌>>=◌, unless}
+use Rattle.wasm_numbers.specs.Results.{◌>>=◌, unless}
 use Rattle.wasm_body.specs.Control.{Role, a_block, a_loop, an_if, a_try, a_try_table, role_of, Control, Does, Opens, Else, Catch, CatchAll, End, Delegate, If, Try, control_by, control_of, with_control}
 use Rattle.wasm_body.specs.SourceTree.{Sequence, Empty, Single, Wrapped, IfThen, IfElse, TryCatch, TryDelegate, Clauses, Ended, Catches, CatchesAll, construct_of, Body}
 use Rattle.wasm_body.specs.Frames.{Frame, OfWrapper, Consequent, Alternative, TryBody, Handler, HandlerOfAll, Rule, Follows, FollowsIn, function_frames}

@@ -25,7 +25,7 @@ use Rattle.walrus_ir.specs.Types.{Signature, pick}
 use Rattle.wasm_body.specs.declared.error.IndexError.{IndexError}
 use Rattle.wasm_body.specs.declared.error.ParseError.TheVariants.{Index}
 use Rattle.wasm_body.specs.declared.error.ParseError.{ParseError}
-use Rattle.walrus_ir.specs.Results.{◌>>=◌, infallible, with_fault}
+use Rattle.wasm_numbers.specs.Results.{◌>>=◌, infallible, with_fault}
 use Rattle.wasm_body.specs.Control.{Role, a_block, a_loop, an_if, a_try, a_try_table, a_catch, a_catch_all, a_delegate, an_else, an_end, role_of, Control, End, first_index, first_depth, control_by, control_of, with_control}
 use Rattle.wasm_body.specs.Frames.{Frame}
 use Rattle.wasm_body.specs.Translation.{Translation, translate, translate_immediate, translate_immediates, Located}

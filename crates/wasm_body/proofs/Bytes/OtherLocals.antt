@@ -5,7 +5,7 @@ use Rattle.std.specs.List.{AllByRecursion}
 use Rattle.std.proofs.Common.{refl, ap, sym, subst, ◌∙◌}
 use Rattle.walrus_ir.specs.declared.val_type.InstrSeqType.{InstrSeqType}
 use Rattle.walrus_ir.specs.declared.val_type.InstrSeqType.TheVariants.{Simple, MultiValue}
-use Rattle.walrus_ir.specs.Results.{◌>>=◌, each, gather, with_fault}
+use Rattle.wasm_numbers.specs.Results.{◌>>=◌, each, gather, with_fault}
 use Rattle.walrus_ir.specs.Tree.{Items, no_items, item, Sequences, no_sequences, sequence}
 use Rattle.wasm_operators.specs.Operations.{Immediate, local, Operation, operation, RawOperation}
 use Rattle.wasm_body.specs.declared.error.EmitError.{EmitError}

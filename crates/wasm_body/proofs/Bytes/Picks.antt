@@ -5,15 +5,16 @@ use Rattle.std.specs.Option.{option_map}
 use Rattle.std.proofs.lemmas.Bool.{eqb-true, and_parts}
 use Rattle.std.proofs.lemmas.Option.{slice_get-get_or}
 use Rattle.std.proofs.lemmas.List.Quantifiers.{position-Some}
-use Rattle.walrus_ir.specs.declared.val_type.AbstractHeapType.{AbstractHeapType}
-use Rattle.walrus_ir.specs.declared.val_type.AbstractHeapType.TheVariants as abstract
-use Rattle.walrus_ir.specs.declared.val_type.HeapType.{HeapType}
-use Rattle.walrus_ir.specs.declared.val_type.HeapType.TheVariants.{Abstract, Concrete}
-use Rattle.walrus_ir.specs.declared.val_type.ValType.{ValType}
-use Rattle.walrus_ir.specs.declared.val_type.ValType.TheVariants.{I32, I64, F32, F64, V128, Ref}
+use Rattle.wasm_types.specs.declared.val_type.AbstractHeapType.{AbstractHeapType}
+use Rattle.wasm_types.specs.declared.val_type.AbstractHeapType.TheVariants as abstract
+use Rattle.wasm_types.specs.declared.val_type.HeapType.{HeapType}
+use Rattle.wasm_types.specs.declared.val_type.HeapType.TheVariants.{Abstract, Concrete}
+use Rattle.wasm_types.specs.declared.val_type.ValType.{ValType}
+use Rattle.wasm_types.specs.declared.val_type.ValType.TheVariants.{I32, I64, F32, F64, V128, Ref}
 use Rattle.walrus_ir.specs.declared.val_type.InstrSeqType.{InstrSeqType}
 use Rattle.walrus_ir.specs.declared.val_type.InstrSeqType.TheVariants.{Simple, MultiValue}
-use Rattle.walrus_ir.specs.Types.{Signature, signature, ModuleType, Func, Entry, Other, signature_in, signature_of, rank_of, same_heap, same_bool, same_type, same_types, is_function, find, existing, pick, signature_of_type}
+use Rattle.walrus_ir.specs.Types.{Signature, signature, ModuleType, Func, Entry, Other, signature_in, signature_of, same_heap, same_bool, same_type, same_types, is_function, find, existing, pick, signature_of_type}
+use Rattle.wasm_types.specs.TypeOrder.{rank_of}
 
 -- ---- types that are the same by the tests are equal
 

@@ -10,7 +10,7 @@ use Rattle.wasm_operators.specs.declared.types.Space.TheVariants.{Tags}
 use Rattle.wasm_operators.specs.declared.types.Opcode.TheVariants.{Byte}
 use Rattle.wasm_operators.specs.Operations.{index, outer, operation}
 use Rattle.wasm_body.specs.declared.error.EmitError.{EmitError}
-use Rattle.walrus_ir.specs.Results.{◌>>=◌, gather}
+use Rattle.wasm_numbers.specs.Results.{◌>>=◌, gather}
 use Rattle.wasm_body.specs.Control.{Control, Does, Opens, Catch, End, Delegate, Marked, with_control, catch_opcode}
 use Rattle.wasm_body.specs.SourceTree.{Sequence, Body, body_text}
 use Rattle.wasm_body.specs.Translation.{translate, at_location}

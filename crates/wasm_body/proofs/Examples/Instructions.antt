@@ -3,8 +3,8 @@ use Rattle.std.specs.Prelude.{◌≡◌, [], ◌∷◌, true, false, refl}
 use Rattle.walrus_ir.specs.declared.control.TryTableCatch.TheVariants as table_catch
 use Rattle.walrus_ir.specs.declared.control.LegacyCatch.TheVariants as legacy_catch
 use Rattle.walrus_ir.specs.declared.instr.Instr.TheVariants as instr
-use Rattle.walrus_ir.specs.declared.val_type.AbstractHeapType.TheVariants.{Any, Eq}
-use Rattle.walrus_ir.specs.declared.val_type.HeapType.TheVariants.{Abstract}
+use Rattle.wasm_types.specs.declared.val_type.AbstractHeapType.TheVariants.{Any, Eq}
+use Rattle.wasm_types.specs.declared.val_type.HeapType.TheVariants.{Abstract}
 use Rattle.wasm_operators.specs.declared.types.Opcode.TheVariants.{Byte, Prefixed}
 use Rattle.wasm_operators.specs.declared.types.Space.TheVariants.{Types, Memories, Tables, Data}
 use Rattle.wasm_operators.specs.Operations.{index, heap, operation}

@@ -1,9 +1,9 @@
 -- The numbers of locals and their declarations, with expected values by hand.
 use Rattle.std.specs.Prelude.{◌≡◌, ℕ, [], ◌∷◌, ◌==◌, if◌then◌else◌, true, false, Some, None, Ok, Err, refl}
-use Rattle.walrus_ir.specs.declared.val_type.AbstractHeapType.TheVariants.{Func}
-use Rattle.walrus_ir.specs.declared.val_type.HeapType.TheVariants.{Abstract, Concrete}
-use Rattle.walrus_ir.specs.declared.val_type.ValType.{ValType}
-use Rattle.walrus_ir.specs.declared.val_type.ValType.TheVariants.{I32, I64, F32, F64, V128, Ref}
+use Rattle.wasm_types.specs.declared.val_type.AbstractHeapType.TheVariants.{Func}
+use Rattle.wasm_types.specs.declared.val_type.HeapType.TheVariants.{Abstract, Concrete}
+use Rattle.wasm_types.specs.declared.val_type.ValType.{ValType}
+use Rattle.wasm_types.specs.declared.val_type.ValType.TheVariants.{I32, I64, F32, F64, V128, Ref}
 use Rattle.std.specs.declared.cmp.Ordering.TheVariants.{Less, Equal, Greater}
 use Rattle.wasm_body.specs.declared.error.EmitError.TheVariants.{Index, UnnumberedLocal, TooLarge}
 use Rattle.wasm_body.specs.declared.error.IndexError.TheVariants.{Unnumbered}

@@ -1,11 +1,11 @@
 -- The modules of the examples.
 use Rattle.std.specs.Prelude.{ℕ, ◌==◌, if◌then◌else◌, List, [], ◌∷◌, Ok, slice_get}
-use Rattle.walrus_ir.specs.declared.val_type.ValType.TheVariants.{I32, I64}
+use Rattle.wasm_types.specs.declared.val_type.ValType.TheVariants.{I32, I64}
 use Rattle.walrus_ir.specs.Types.{Signature, signature, ModuleType, Func, Entry, Other}
 use Rattle.wasm_operators.specs.declared.types.Space.{Space}
 use Rattle.wasm_operators.specs.declared.types.Space.TheVariants.{Types, Funcs, Tags}
 use Rattle.wasm_body.specs.declared.error.IndexError.TheVariants.{OutOfRange, LocalOutOfRange}
-use Rattle.walrus_ir.specs.Results.{some_or}
+use Rattle.wasm_numbers.specs.Results.{some_or}
 use Rattle.wasm_body.specs.Naming.{Environment}
 use Rattle.wasm_body.specs.NormalForm.{typing_of, balances}
 use Rattle.wasm_body.specs.Bytes.{Numbers}

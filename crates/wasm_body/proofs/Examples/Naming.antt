@@ -1,8 +1,8 @@
 -- Names of operators, and the first rule that one of them breaks, with its number.
 use Rattle.std.specs.Prelude.{◌≡◌, ℕ, List, [], ◌∷◌, false, Ok, Err, refl}
-use Rattle.walrus_ir.specs.declared.val_type.HeapType.TheVariants.{Concrete}
-use Rattle.walrus_ir.specs.declared.val_type.ValType.{ValType}
-use Rattle.walrus_ir.specs.declared.val_type.ValType.TheVariants.{I32, Ref}
+use Rattle.wasm_types.specs.declared.val_type.HeapType.TheVariants.{Concrete}
+use Rattle.wasm_types.specs.declared.val_type.ValType.{ValType}
+use Rattle.wasm_types.specs.declared.val_type.ValType.TheVariants.{I32, Ref}
 use Rattle.walrus_ir.specs.Types.{signature}
 use Rattle.wasm_operators.specs.declared.types.BlockType.TheVariants.{Empty, Value, FuncType}
 use Rattle.wasm_operators.specs.declared.types.Space.TheVariants.{Types, Funcs, Tables, Tags}

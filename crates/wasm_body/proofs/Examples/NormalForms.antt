@@ -1,7 +1,7 @@
 -- Normal forms: their trees, and the operators that are written for them.
 use Rattle.std.specs.Prelude.{◌≡◌, ℕ, List, [], ◌∷◌, Some, None, refl}
 use Rattle.walrus_ir.specs.declared.val_type.InstrSeqType.TheVariants.{Simple, MultiValue}
-use Rattle.walrus_ir.specs.declared.val_type.ValType.TheVariants.{I32}
+use Rattle.wasm_types.specs.declared.val_type.ValType.TheVariants.{I32}
 use Rattle.walrus_ir.specs.Tree.{Items, no_items, item, Sequences, no_sequences, sequence, alone as all_of}
 use Rattle.walrus_ir.specs.Locations.{default_location}
 use Rattle.wasm_operators.specs.declared.types.BlockType.TheVariants.{Empty, Value, FuncType}

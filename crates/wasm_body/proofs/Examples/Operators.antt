@@ -1,6 +1,6 @@
 -- Operators, in short notation: L is the type of a label and B that of a block type.
 use Rattle.std.specs.Prelude.{ℕ, List, [], ◌∷◌, Bool, true, false, Option, Some, None, pos}
-use Rattle.walrus_ir.specs.declared.val_type.HeapType.{HeapType}
+use Rattle.wasm_types.specs.declared.val_type.HeapType.{HeapType}
 use Rattle.wasm_operators.specs.declared.types.Opcode.TheVariants.{Byte, Prefixed}
 use Rattle.wasm_operators.specs.declared.types.Space.TheVariants.{Types, Funcs, Tables, Tags}
 use Rattle.wasm_operators.specs.Operations.{CatchClause, Immediate, index, local, label, handler, number, branch_table, clauses, cast, block as block_type, i32, Operation, operation}

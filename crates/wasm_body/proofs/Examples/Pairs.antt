@@ -1,7 +1,7 @@
 -- Location pairs.
 use Rattle.std.specs.Prelude.{◌≡◌, ℕ, ◌+◌, ◌==◌, cond, List, [], ◌∷◌, Option, Some, None, Result, Ok, Err, refl}
 use Rattle.wasm_operators.specs.declared.types.BlockType.TheVariants.{Empty, Value}
-use Rattle.walrus_ir.specs.declared.val_type.ValType.TheVariants.{I32}
+use Rattle.wasm_types.specs.declared.val_type.ValType.TheVariants.{I32}
 use Rattle.walrus_ir.specs.Locations.{default_location}
 use Rattle.wasm_numbers.specs.Numbers.{integer}
 use Rattle.wasm_operators.specs.Opcodes.{kinds_of_byte, opcode}

@@ -6,7 +6,7 @@ use Rattle.wasm_operators.specs.Opcodes.{kinds_of_byte, opcode}
 use Rattle.wasm_operators.specs.Spelling.{read_operation}
 use Rattle.wasm_body.specs.declared.error.ParseError.TheVariants.{Read, PlaceTooGreat, Checked, NoSuchLabel, EntryTypeMissing, Trailing, MissingEnd}
 use Rattle.wasm_body.specs.declared.error.ParseFailure.{ParseFailure}
-use Rattle.walrus_ir.specs.Results.{◌>>=◌}
+use Rattle.wasm_numbers.specs.Results.{◌>>=◌}
 use Rattle.wasm_body.specs.SourceTree.{body_text}
 use Rattle.wasm_body.specs.Naming.{Environment}
 use Rattle.wasm_body.specs.Parsing.Accepted.{Setting}

@@ -1,6 +1,6 @@
 -- Operators for exceptions, as they are read from bytes and written.
 use Rattle.std.specs.Prelude.{◌≡◌, [], ◌∷◌, Ok, Err, refl}
-use Rattle.walrus_ir.specs.declared.val_type.ValType.TheVariants.{I32}
+use Rattle.wasm_types.specs.declared.val_type.ValType.TheVariants.{I32}
 use Rattle.wasm_numbers.specs.declared.fault.ReadFault.TheVariants.{Truncated, BadNumber, BadType, BadCatchKind}
 use Rattle.wasm_operators.specs.declared.types.BlockType.TheVariants.{Empty, Value, FuncType}
 use Rattle.wasm_numbers.specs.Numbers.{integer}

@@ -15,7 +15,7 @@ use Rattle.wasm_body.specs.declared.error.EmitError.{EmitError}
 use Rattle.wasm_body.specs.declared.error.EmitError.TheVariants.{Index, UnnumberedLocal}
 use Rattle.wasm_body.specs.declared.error.IndexError.TheVariants.{Unnumbered}
 use Rattle.wasm_body.specs.declared.error.ParseFailure.{ParseFailure}
-use Rattle.walrus_ir.specs.Results.{some_or}
+use Rattle.wasm_numbers.specs.Results.{some_or}
 use Rattle.wasm_body.specs.SourceTree.{Body}
 use Rattle.wasm_body.specs.Naming.{Environment, Occurrence}
 use Rattle.wasm_body.specs.Parsing.Accepted.{Setting}

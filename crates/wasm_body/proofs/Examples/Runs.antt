@@ -1,7 +1,7 @@
 -- Worked runs: an event names its operator by the number in the list.
 use Rattle.std.specs.Prelude.{◌≡◌, ℕ, List, [], ◌∷◌, true, false, Some, None, refl}
-use Rattle.walrus_ir.specs.declared.val_type.AbstractHeapType.TheVariants.{Any, Eq}
-use Rattle.walrus_ir.specs.declared.val_type.HeapType.TheVariants.{Abstract}
+use Rattle.wasm_types.specs.declared.val_type.AbstractHeapType.TheVariants.{Any, Eq}
+use Rattle.wasm_types.specs.declared.val_type.HeapType.TheVariants.{Abstract}
 use Rattle.wasm_operators.specs.declared.types.BlockType.TheVariants.{Empty}
 use Rattle.wasm_operators.specs.Operations.{RawOperation}
 use Rattle.wasm_body.specs.Machine.{Outcome, Go, Trap, Raise, Way, Entry, Event, Executed, Taken, Returned, TailCalled, Trapped, Escaped, OutcomesOut, TurnsOut, Mismatch, Run}

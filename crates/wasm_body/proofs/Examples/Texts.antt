@@ -1,6 +1,6 @@
 -- Texts of trees that are given by hand: lawful clauses, exponents, and trees that can't be written.
 use Rattle.std.specs.Prelude.{◌≡◌, ℕ, ◌^◌, List, [], ◌∷◌, true, false, Some, None, Result, Ok, Err, refl}
-use Rattle.walrus_ir.specs.declared.val_type.ValType.TheVariants.{I32}
+use Rattle.wasm_types.specs.declared.val_type.ValType.TheVariants.{I32}
 use Rattle.walrus_ir.specs.declared.val_type.InstrSeqType.{InstrSeqType}
 use Rattle.walrus_ir.specs.declared.val_type.InstrSeqType.TheVariants.{Simple, MultiValue}
 use Rattle.walrus_ir.specs.Tree.{no_items, item, Sequences, no_sequences, sequence}

@@ -5,7 +5,7 @@ use Rattle.wasm_operators.specs.declared.types.BlockType.{BlockType}
 use Rattle.wasm_operators.specs.Operations.{RawOperation}
 use Rattle.wasm_body.specs.declared.error.ParseError.{ParseError}
 use Rattle.wasm_body.specs.declared.error.ParseError.TheVariants.{Index, NoSuchLabel, RethrowOutsideHandler}
-use Rattle.walrus_ir.specs.Results.{◌>>=◌, with_fault, unless}
+use Rattle.wasm_numbers.specs.Results.{◌>>=◌, with_fault, unless}
 use Rattle.wasm_body.specs.Frames.{Frame, handler_at, outside}
 use Rattle.wasm_body.specs.Translation.{Translation, translate, translate_immediates}
 use Rattle.wasm_body.specs.Naming.{Environment, NamedOperation, naming, id_at, open_label, handler_label, block_types}

@@ -1,7 +1,7 @@
 -- The text of a normal form with names is the text of a source tree, the rewritten one.
 use Rattle.std.proofs.Common.{◌≡◌, List, [], ◌∷◌, map, Ok, refl, sym, ap, ◌∙◌, subst}
 use Rattle.walrus_ir.specs.declared.val_type.InstrSeqType.{InstrSeqType}
-use Rattle.walrus_ir.specs.Results.{◌>>=◌, gather}
+use Rattle.wasm_numbers.specs.Results.{◌>>=◌, gather}
 use Rattle.wasm_body.specs.Control.{role_of, Control, Does, Opens, Else, Catch, CatchAll, End, Delegate, Marked, with_control}
 use Rattle.wasm_body.specs.SourceTree.{Sequence, Body, body_text}
 use Rattle.wasm_body.specs.Translation.{translate, at_location}

@@ -10,7 +10,7 @@ use Rattle.wasm_operators.specs.Operations.{Operation, RawOperation}
 use Rattle.wasm_operators.specs.Shortest.{short}
 use Rattle.wasm_body.specs.declared.error.EmitError.{EmitError}
 use Rattle.wasm_body.specs.declared.error.EmitError.TheVariants.{BadClauses}
-use Rattle.walrus_ir.specs.Results.{◌>>=◌, gather}
+use Rattle.wasm_numbers.specs.Results.{◌>>=◌, gather}
 use Rattle.wasm_body.specs.Control.{Role, an_if, role_of, end_operation}
 use Rattle.wasm_body.specs.Translation.{translate, Located, at_location}
 use Rattle.wasm_body.specs.FunctionTree.{Head, LegacyClause, Instruction, Bare, bare, bare_items, bare_sequences}

@@ -9,7 +9,7 @@ use Rattle.wasm_body.specs.Parsing.Accepted.{placed, mark, validated, Setting, H
 use Rattle.wasm_body.specs.Parsing.Laws.{LongestFront}
 use Rattle.wasm_body.specs.Parsing.Progress.{Layer, Progress, Within, Whole, NoBody, nothing_read, frames_of, further}
 use Rattle.wasm_body.proofs.Structure.ReadFrames.{progress_frames, after_frames}
-use Rattle.walrus_ir.proofs.ResultLemmas.{ok_same}
+use Rattle.wasm_numbers.proofs.ResultLemmas.{ok_same}
 use Rattle.wasm_body.proofs.Parsing.Parses.{Over, one_over}
 use Rattle.wasm_body.proofs.Parsing.ParseResults.{is_ok, front_over, completed_goes}
 

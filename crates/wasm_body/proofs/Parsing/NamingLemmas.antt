@@ -2,13 +2,13 @@
 use Rattle.std.proofs.Common.{◌≡◌, ℕ, List, [], ◌∷◌, true, Some, Ok, refl, sym, ap, subst, ◌∙◌}
 use Rattle.wasm_operators.specs.Operations.{Immediate, Operation, RawOperation}
 use Rattle.wasm_body.specs.declared.error.ParseError.{ParseError}
-use Rattle.walrus_ir.specs.Results.{◌>>=◌}
+use Rattle.wasm_numbers.specs.Results.{◌>>=◌}
 use Rattle.wasm_body.specs.Control.{Role, a_plain, control_by, control_of, role_of}
 use Rattle.wasm_body.specs.Frames.{Frame, is_allowed, moves}
 use Rattle.wasm_body.specs.Translation.{Translation, translate, translate_immediates}
 use Rattle.wasm_body.specs.Naming.{Environment, NamedOperation, Occurrence, named_in, naming, has_types, allowed, position_fault}
 use Rattle.wasm_body.proofs.Structure.ReadFrames.{may_move}
-use Rattle.walrus_ir.proofs.ResultLemmas.{bind_ok, unless_ok, ok_same}
+use Rattle.wasm_numbers.proofs.ResultLemmas.{bind_ok, unless_ok, ok_same}
 
 -- whether an operator is allowed somewhere depends only on its opcode
 pub same_allowed : {A B C : Type 0} (fs : List (Frame A)) (r : Role) (is : List (Immediate ℕ B)) (js : List (Immediate ℕ C)) → is_allowed fs (control_by r is) ≡ is_allowed fs (control_by r js)

@@ -15,7 +15,7 @@ use Rattle.wasm_body.specs.Parsing.Laws.{OneBodyAccepted, AcceptedHasNoFault, On
 use Rattle.wasm_body.proofs.Structure.ReadingTrees.{body_read}
 use Rattle.wasm_body.proofs.Structure.ReadTexts.{read_text, text_read, IsRead}
 use Rattle.wasm_body.proofs.Structure.ReadFrames.{progress_frames, after_frames, frames_length, Goes, body_goes, goes_body, goes_front, continues}
-use Rattle.walrus_ir.proofs.ResultLemmas.{ok_same}
+use Rattle.wasm_numbers.proofs.ResultLemmas.{ok_same}
 use Rattle.wasm_body.proofs.Parsing.Parses.{Over, over}
 use Rattle.wasm_operators.specs.Laws.{AreBytes, ReadingAgrees}
 use Rattle.wasm_body.proofs.Parsing.Stops.{StopsAt, Stopped, stopped}

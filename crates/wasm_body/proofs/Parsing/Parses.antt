@@ -14,7 +14,7 @@ use Rattle.wasm_body.specs.Parsing.Accepted.{placed, mark, IsNamed, validated, l
 use Rattle.wasm_body.specs.Parsing.Progress.{Layer, Progress, Within, Whole, NoBody, frames_of, further, progress_after}
 use Rattle.wasm_body.specs.Parsing.Lists.{continue_from, parsed_from}
 use Rattle.wasm_body.proofs.Structure.ReadFrames.{progress_frames, further_frames, Goes}
-use Rattle.walrus_ir.proofs.ResultLemmas.{bind_ok}
+use Rattle.wasm_numbers.proofs.ResultLemmas.{bind_ok}
 
 -- operators that were gone over, from one progress to another
 pub record Over {V : Type 0} (given : Setting V) (p : Progress Occurrence) (v : V) (place : ℕ) (bytes : List ℕ) (xs : List Occurrence) (q : Progress Occurrence) (w : V) (at : ℕ) (rest : List ℕ) : Type 0 where

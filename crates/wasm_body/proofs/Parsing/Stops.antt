@@ -7,7 +7,7 @@ use Rattle.wasm_operators.specs.Laws.{AreBytes, ReadingAgrees}
 use Rattle.wasm_body.specs.declared.error.ParseError.{ParseError}
 use Rattle.wasm_body.specs.declared.error.ParseError.TheVariants.{Read, PlaceTooGreat, Checked, Trailing, MissingEnd}
 use Rattle.wasm_body.specs.declared.error.ParseFailure.{ParseFailure}
-use Rattle.walrus_ir.specs.Results.{◌>>=◌, unless, with_fault}
+use Rattle.wasm_numbers.specs.Results.{◌>>=◌, unless, with_fault}
 use Rattle.wasm_body.specs.SourceTree.{Sequence, Body}
 use Rattle.wasm_body.specs.Frames.{Frame}
 use Rattle.wasm_body.specs.Naming.{NamedOperation, Occurrence, named_in}
@@ -16,7 +16,7 @@ use Rattle.wasm_body.specs.Parsing.Progress.{Layer, Progress, Within, Whole, NoB
 use Rattle.wasm_body.specs.Parsing.Lists.{failure, continue_from, parsed_from}
 use Rattle.wasm_body.proofs.Structure.ReadTexts.{IsRead}
 use Rattle.wasm_body.proofs.Structure.ReadFrames.{progress_frames, further_frames, Goes}
-use Rattle.walrus_ir.proofs.ResultLemmas.{bind_ok, with_fault_ok, unless_ok, ok_same}
+use Rattle.wasm_numbers.proofs.ResultLemmas.{bind_ok, with_fault_ok, unless_ok, ok_same}
 use Rattle.wasm_body.proofs.Parsing.NamingLemmas.{named_moves}
 use Rattle.wasm_body.proofs.Parsing.Parses.{Over, spelling_begins}
 

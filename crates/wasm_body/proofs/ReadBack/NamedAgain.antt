@@ -1,10 +1,10 @@
 -- An operator that is written with numbers has its name again, by maps that undo the numbers.
 use Rattle.std.proofs.Common.{◌≡◌, ℕ, List, [], ◌∷◌, Option, Some, None, Ok, refl, sym, ap, ◌∙◌}
 use Rattle.std.specs.List.{AllByRecursion}
-use Rattle.walrus_ir.specs.declared.val_type.HeapType.{HeapType}
-use Rattle.walrus_ir.specs.declared.val_type.HeapType.TheVariants.{Abstract, Concrete}
-use Rattle.walrus_ir.specs.declared.val_type.ValType.{ValType}
-use Rattle.walrus_ir.specs.declared.val_type.ValType.TheVariants.{I32, I64, F32, F64, V128, Ref}
+use Rattle.wasm_types.specs.declared.val_type.HeapType.{HeapType}
+use Rattle.wasm_types.specs.declared.val_type.HeapType.TheVariants.{Abstract, Concrete}
+use Rattle.wasm_types.specs.declared.val_type.ValType.{ValType}
+use Rattle.wasm_types.specs.declared.val_type.ValType.TheVariants.{I32, I64, F32, F64, V128, Ref}
 use Rattle.walrus_ir.specs.declared.val_type.InstrSeqType.{InstrSeqType}
 use Rattle.walrus_ir.specs.declared.val_type.InstrSeqType.TheVariants.{Simple, MultiValue}
 use Rattle.walrus_ir.specs.Types.{Signature, signature, signature_of, signature_of_type}
@@ -16,7 +16,7 @@ use Rattle.wasm_operators.specs.Operations.{CatchClause, Immediate, index, local
 use Rattle.wasm_body.specs.declared.error.EmitError.{EmitError}
 use Rattle.wasm_body.specs.declared.error.ParseError.{ParseError}
 use Rattle.wasm_body.specs.declared.error.ParseError.TheVariants.{Index, NotAFunctionType}
-use Rattle.walrus_ir.specs.Results.{some_or, with_fault}
+use Rattle.wasm_numbers.specs.Results.{some_or, with_fault}
 use Rattle.wasm_body.specs.Frames.{Frame, outside}
 use Rattle.wasm_body.specs.Translation.{Translation, translate, translate_immediates, translate_heap, translate_value}
 use Rattle.wasm_body.specs.Naming.{Environment, NamedOperation, naming, id_at, name_block, open_label, handler_label, block_types}

@@ -2,10 +2,10 @@
 use Rattle.std.proofs.Common.{◌≡◌, ℕ, ◌<◌, List, [], ◌∷◌, length, Option, Some, None, Result, Ok, refl, sym, subst}
 use Rattle.std.specs.Prelude.{◌^◌, ◌++◌}
 use Rattle.std.specs.List.{AllByRecursion}
-use Rattle.walrus_ir.specs.declared.val_type.HeapType.{HeapType}
-use Rattle.walrus_ir.specs.declared.val_type.HeapType.TheVariants.{Abstract, Concrete}
-use Rattle.walrus_ir.specs.declared.val_type.ValType.{ValType}
-use Rattle.walrus_ir.specs.declared.val_type.ValType.TheVariants.{I32, I64, F32, F64, V128, Ref}
+use Rattle.wasm_types.specs.declared.val_type.HeapType.{HeapType}
+use Rattle.wasm_types.specs.declared.val_type.HeapType.TheVariants.{Abstract, Concrete}
+use Rattle.wasm_types.specs.declared.val_type.ValType.{ValType}
+use Rattle.wasm_types.specs.declared.val_type.ValType.TheVariants.{I32, I64, F32, F64, V128, Ref}
 use Rattle.walrus_ir.specs.declared.val_type.InstrSeqType.{InstrSeqType}
 use Rattle.walrus_ir.specs.declared.val_type.InstrSeqType.TheVariants.{Simple, MultiValue}
 use Rattle.walrus_ir.specs.Types.{Signature}
@@ -19,7 +19,7 @@ use Rattle.wasm_operators.specs.Operations.{Access, CatchClause, Cast, Immediate
 use Rattle.wasm_operators.specs.Immediates.{IsAccess, IsClause, SpellsImmediate, SpellsImmediates}
 use Rattle.wasm_operators.proofs.ShortestImmediates.{flags_are}
 use Rattle.wasm_body.specs.declared.error.EmitError.{EmitError}
-use Rattle.walrus_ir.specs.Results.{◌>>=◌, each}
+use Rattle.wasm_numbers.specs.Results.{◌>>=◌, each}
 use Rattle.wasm_body.specs.Frames.{Frame}
 use Rattle.wasm_body.specs.Translation.{Translation, translate_heap, translate_value, translate_tag, translate_clause, translate_cast, translate_access, translate_immediate, translate_immediates}
 use Rattle.wasm_body.specs.Naming.{Environment, naming, id_at}

@@ -1,10 +1,10 @@
 -- Maps that map the number of each id that has one to the id undo the numbers of every lawful body's normal form.
 use Rattle.std.proofs.Common.{◌≡◌, ℕ, List, [], ◌∷◌, map, false, Option, Some, None, Ok, refl, sym, ◌∙◌, subst}
 use Rattle.std.specs.List.{AllByRecursion}
-use Rattle.walrus_ir.specs.declared.val_type.HeapType.{HeapType}
-use Rattle.walrus_ir.specs.declared.val_type.HeapType.TheVariants.{Abstract, Concrete}
-use Rattle.walrus_ir.specs.declared.val_type.ValType.{ValType}
-use Rattle.walrus_ir.specs.declared.val_type.ValType.TheVariants.{Ref}
+use Rattle.wasm_types.specs.declared.val_type.HeapType.{HeapType}
+use Rattle.wasm_types.specs.declared.val_type.HeapType.TheVariants.{Abstract, Concrete}
+use Rattle.wasm_types.specs.declared.val_type.ValType.{ValType}
+use Rattle.wasm_types.specs.declared.val_type.ValType.TheVariants.{Ref}
 use Rattle.walrus_ir.specs.declared.val_type.InstrSeqType.{InstrSeqType}
 use Rattle.walrus_ir.specs.declared.val_type.InstrSeqType.TheVariants.{Simple, MultiValue}
 use Rattle.walrus_ir.specs.Types.{Signature}

@@ -3,7 +3,7 @@ use Rattle.std.proofs.Common.{◌≡◌, ℕ, List, [], ◌∷◌, map, length, 
 use Rattle.wasm_operators.specs.declared.types.Space.TheVariants.{Tags}
 use Rattle.wasm_operators.specs.Operations.{Immediate, index, local, label, handler, outer, number, access, branch_table, clauses, block, heap, value, cast, i32, i64, f32, f64, v128, lane, lanes, zero_byte, RawImmediate}
 use Rattle.wasm_operators.specs.Immediates.{Kind, an_index, a_local, a_label, a_handler, an_outer, a_number, an_access, a_branch_table, some_clauses, a_block, a_heap, a_value, a_cast, an_i32, an_i64, an_f32, an_f64, a_v128, a_lane, sixteen_lanes, a_zero_byte, kind_of}
-use Rattle.walrus_ir.specs.Results.{◌>>=◌, each}
+use Rattle.wasm_numbers.specs.Results.{◌>>=◌, each}
 use Rattle.wasm_body.specs.Translation.{Translation, translate_heap, translate_value, translate_clause, translate_cast, translate_access, translate_immediate, translate_immediates}
 use Rattle.wasm_body.proofs.Translation.Steps.{bound}
 

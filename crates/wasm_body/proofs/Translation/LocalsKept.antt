@@ -2,7 +2,7 @@
 use Rattle.std.proofs.Common.{◌≡◌, ℕ, List, [], ◌∷◌, Ok, refl, sym, ap, ◌∙◌, subst}
 use Rattle.wasm_operators.specs.Operations.{Immediate, local}
 use Rattle.wasm_operators.specs.Immediates.{Kind, a_local}
-use Rattle.walrus_ir.specs.Results.{◌>>=◌, each}
+use Rattle.wasm_numbers.specs.Results.{◌>>=◌, each}
 use Rattle.wasm_body.specs.Translation.{Translation, translate_immediate, translate_immediates}
 use Rattle.wasm_body.specs.LocalNumbers.{locals_among}
 use Rattle.wasm_body.proofs.Translation.Steps.{bound}

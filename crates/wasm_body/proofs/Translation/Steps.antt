@@ -1,7 +1,7 @@
 -- Results of several steps: the steps that a result came from, and steps with equal results.
 use Rattle.std.proofs.Common.{◌≡◌, suc, length, List, [], ◌∷◌, Result, Ok, Err, refl, sym, ap, ◌∙◌}
 use Rattle.std.specs.List.{AllByRecursion}
-use Rattle.walrus_ir.specs.Results.{◌>>=◌, each, infallible}
+use Rattle.wasm_numbers.specs.Results.{◌>>=◌, each, infallible}
 
 -- The value of the first step, and that the other steps gave q.
 pub bound : {A P E : Type 0} → (r : Result A E) (next : A → Result P E) (q : P) → (r >>= next) ≡ Ok q → (x : A) × (r ≡ Ok x) × (next x ≡ Ok q)

@@ -1,14 +1,14 @@
 -- Two translations, one after the other, are the one that they lead to; and the translation that changes nothing.
 use Rattle.std.proofs.Common.{◌≡◌, ℕ, length, List, [], ◌∷◌, Option, Some, None, Result, Ok, refl, sym, ap, ◌∙◌}
 use Rattle.std.specs.List.{AllByRecursion}
-use Rattle.walrus_ir.specs.declared.val_type.HeapType.{HeapType}
-use Rattle.walrus_ir.specs.declared.val_type.HeapType.TheVariants.{Abstract, Concrete}
-use Rattle.walrus_ir.specs.declared.val_type.ValType.{ValType}
-use Rattle.walrus_ir.specs.declared.val_type.ValType.TheVariants.{I32, I64, F32, F64, V128, Ref}
+use Rattle.wasm_types.specs.declared.val_type.HeapType.{HeapType}
+use Rattle.wasm_types.specs.declared.val_type.HeapType.TheVariants.{Abstract, Concrete}
+use Rattle.wasm_types.specs.declared.val_type.ValType.{ValType}
+use Rattle.wasm_types.specs.declared.val_type.ValType.TheVariants.{I32, I64, F32, F64, V128, Ref}
 use Rattle.wasm_operators.specs.declared.types.Space.{Space}
 use Rattle.wasm_operators.specs.declared.types.Space.TheVariants.{Types, Memories, Tags}
 use Rattle.wasm_operators.specs.Operations.{Access, CatchClause, Cast, Immediate, index, local, label, handler, outer, number, access, branch_table, clauses, block, heap, value, cast, i32, i64, f32, f64, v128, lane, lanes, zero_byte}
-use Rattle.walrus_ir.specs.Results.{◌>>=◌, each}
+use Rattle.wasm_numbers.specs.Results.{◌>>=◌, each}
 use Rattle.wasm_body.specs.Translation.{Translation, keeping_numbers, translate_heap, translate_value, translate_tag, translate_clause, translate_cast, translate_access, translate_immediate, translate_immediates}
 use Rattle.wasm_body.specs.Naming.{block_types}
 use Rattle.wasm_body.proofs.Translation.Steps.{bound, after_one, after_two, after_three, Leads, each_leads, length-each, each-ok, all_of}

@@ -1,8 +1,8 @@
 -- The validation algorithm with frames that hold their own operands, in the place of heights. It accepts what the algorithm of the
 -- definitions accepts (HeightsAgree), and nothing about it needs arithmetic.
 use Rattle.std.specs.Prelude.{◌≡◌, ℕ, zero, suc, List, [], ◌∷◌, ◌++◌, length, reverse, Bool, true, false, nat_eq, if◌then◌else◌, Ok, Err}
-use Rattle.walrus_ir.specs.declared.val_type.ValType.{ValType}
-use Rattle.walrus_ir.specs.Results.{◌>>=◌}
+use Rattle.wasm_types.specs.declared.val_type.ValType.{ValType}
+use Rattle.wasm_numbers.specs.Results.{◌>>=◌}
 use Rattle.wasm_operators.specs.Operations.{CatchClause}
 use Rattle.wasm_body.specs.Control.{Action, Nop, Plain, Branch, ConditionalBranch, TableBranch, Return, Unreachable, Throw, ThrowRef, Rethrow, TailCall, Construct, TryTable, If, Control, Does, Opens, Else, Catch, CatchAll, End, Delegate, control_of}
 use Rattle.wasm_body.specs.Translation.{Located}

@@ -8,7 +8,7 @@ use Rattle.wasm_operators.specs.Spelling.{Spells, read_operation}
 use Rattle.wasm_body.specs.declared.error.ParseError.{ParseError}
 use Rattle.wasm_body.specs.declared.error.ParseError.TheVariants.{Read, PlaceTooGreat, Checked, Trailing, MissingEnd}
 use Rattle.wasm_body.specs.declared.error.ParseFailure.{ParseFailure}
-use Rattle.walrus_ir.specs.Results.{◌>>=◌, unless, with_fault}
+use Rattle.wasm_numbers.specs.Results.{◌>>=◌, unless, with_fault}
 use Rattle.walrus_ir.specs.Locations.{default_location}
 use Rattle.wasm_body.specs.Control.{Marked, with_control, control_of, end_operation}
 use Rattle.wasm_body.specs.SourceTree.{Body, body_text}

@@ -1,6 +1,6 @@
 //! Function types that are added (WebAssembly core specification 3.0, binary format, types).
 ghost use Rattle.std.specs.Prelude.{◌≡◌, ◌++◌, ℕ, List, Some, Ok, IsErr, IfOk, OnOk, OnErr};
-ghost use Rattle.walrus_ir.specs.declared.val_type.ValType.{ValType as ValueType};
+ghost use Rattle.wasm_types.specs.declared.val_type.ValType.{ValType as ValueType};
 ghost use Rattle.walrus_ir.specs.Types.{find};
 ghost use Rattle.wasm_operators.specs.declared.types.Space.TheVariants.{Types};
 ghost use Rattle.wasm_operators.specs.Shortest.{short_value};

@@ -1,8 +1,8 @@
 -- Equal types of a module, by the standard's text (section 3.1, recursive types) and its test script `gc/type-equivalence.wast`.
 use Rattle.std.specs.Prelude.{◌≡◌, ℕ, List, [], ◌∷◌, true, false, Option, Some, None, refl}
-use Rattle.walrus_ir.specs.declared.val_type.HeapType.TheVariants.{Concrete}
-use Rattle.walrus_ir.specs.declared.val_type.ValType.{ValType}
-use Rattle.walrus_ir.specs.declared.val_type.ValType.TheVariants.{I32, I64}
+use Rattle.wasm_types.specs.declared.val_type.HeapType.TheVariants.{Concrete}
+use Rattle.wasm_types.specs.declared.val_type.ValType.{ValType}
+use Rattle.wasm_types.specs.declared.val_type.ValType.TheVariants.{I32, I64}
 use Rattle.walrus_ir.specs.Types.{signature}
 use Rattle.wasm_typing.specs.Contexts.{OperandContext, Unpacked, FieldType, CompositeType, Function, Struct}
 use Rattle.wasm_typing.specs.MatchingLaws.{are_types}

@@ -1,19 +1,19 @@
 -- The types of operators by their names, from the standard's text: the first and the last operator of each range of the table, and others.
 use Rattle.std.specs.Prelude.{pos, ◌≡◌, ℕ, List, [], ◌∷◌, Bool, true, false, ◌&&◌, Option, Some, Ok, Err, refl}
 use Rattle.std.specs.List.{list_all}
-use Rattle.walrus_ir.specs.declared.binary.BinaryOp.TheVariants as binary
-use Rattle.walrus_ir.specs.declared.memory.AtomicOp.TheVariants.{Add, Xchg}
-use Rattle.walrus_ir.specs.declared.memory.AtomicWidth.TheVariants as width
-use Rattle.walrus_ir.specs.declared.memory.ExtendedLoad.TheVariants.{SignExtend, ZeroExtend, ZeroExtendAtomic}
-use Rattle.walrus_ir.specs.declared.memory.LoadKind.TheVariants as load
-use Rattle.walrus_ir.specs.declared.memory.LoadSimdKind.TheVariants as vector_access
-use Rattle.walrus_ir.specs.declared.memory.StoreKind.TheVariants as store
-use Rattle.walrus_ir.specs.declared.ternary.TernaryOp.TheVariants as ternary
-use Rattle.walrus_ir.specs.declared.unary.UnaryOp.TheVariants as unary
-use Rattle.walrus_ir.specs.declared.val_type.AbstractHeapType.TheVariants as abstract
-use Rattle.walrus_ir.specs.declared.val_type.HeapType.TheVariants.{Abstract, Concrete}
-use Rattle.walrus_ir.specs.declared.val_type.ValType.{ValType}
-use Rattle.walrus_ir.specs.declared.val_type.ValType.TheVariants.{I32, I64, F32, F64, V128, Ref}
+use Rattle.wasm_types.specs.declared.binary.BinaryOp.TheVariants as binary
+use Rattle.wasm_types.specs.declared.memory.AtomicOp.TheVariants.{Add, Xchg}
+use Rattle.wasm_types.specs.declared.memory.AtomicWidth.TheVariants as width
+use Rattle.wasm_types.specs.declared.memory.ExtendedLoad.TheVariants.{SignExtend, ZeroExtend, ZeroExtendAtomic}
+use Rattle.wasm_types.specs.declared.memory.LoadKind.TheVariants as load
+use Rattle.wasm_types.specs.declared.memory.LoadSimdKind.TheVariants as vector_access
+use Rattle.wasm_types.specs.declared.memory.StoreKind.TheVariants as store
+use Rattle.wasm_types.specs.declared.ternary.TernaryOp.TheVariants as ternary
+use Rattle.wasm_types.specs.declared.unary.UnaryOp.TheVariants as unary
+use Rattle.wasm_types.specs.declared.val_type.AbstractHeapType.TheVariants as abstract
+use Rattle.wasm_types.specs.declared.val_type.HeapType.TheVariants.{Abstract, Concrete}
+use Rattle.wasm_types.specs.declared.val_type.ValType.{ValType}
+use Rattle.wasm_types.specs.declared.val_type.ValType.TheVariants.{I32, I64, F32, F64, V128, Ref}
 use Rattle.walrus_ir.specs.Types.{same_types}
 use Rattle.wasm_operators.specs.declared.types.AtomicKind.TheVariants.{Notify, Wait32, Wait64, Rmw, Cmpxchg}
 use Rattle.wasm_operators.specs.declared.types.Opcode.{Opcode}

@@ -1,6 +1,6 @@
 -- The listed depths come before those of the remaining labels.
 use Rattle.std.proofs.Common.{◌≡◌, length}
-use Rattle.walrus_ir.specs.Results.{each}
+use Rattle.wasm_numbers.specs.Results.{each}
 use Rattle.walrus_emit_state.specs.TreeWriting.Closers.{places_of}
 use Rattle.walrus_emit_state.specs.TreeWriting.ScopeTables.{depth_in}
 use Rattle.walrus_maps.proofs.Listed.{after_these}

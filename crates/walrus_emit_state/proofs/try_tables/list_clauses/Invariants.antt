@@ -1,6 +1,6 @@
 -- The listed clauses come before the remaining ones.
 use Rattle.std.proofs.Common.{◌≡◌, length}
-use Rattle.walrus_ir.specs.Results.{each}
+use Rattle.wasm_numbers.specs.Results.{each}
 use Rattle.walrus_emit_state.specs.TreeWriting.Closers.{places_of}
 use Rattle.walrus_numbering.specs.NumberMaps.{numbers_of}
 use Rattle.walrus_emit_state.specs.TreeWriting.Labels.{numbered_clause}

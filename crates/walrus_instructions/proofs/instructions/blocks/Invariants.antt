@@ -1,6 +1,6 @@
 -- The listed sequences come before those of the remaining labels.
 use Rattle.std.proofs.Common.{◌≡◌}
-use Rattle.walrus_ir.specs.Results.{each}
+use Rattle.wasm_numbers.specs.Results.{each}
 use Rattle.walrus_context.specs.Placing.{place_at}
 use Rattle.walrus_maps.proofs.Listed.{after_these}
 use Rattle.walrus_instructions.proofs.instructions.blocks.Given as goal

@@ -1,5 +1,5 @@
 use Rattle.std.proofs.Common.{Result, Ok, Err, sym, subst, inr}
-use Rattle.walrus_ir.specs.Results.{Gives}
+use Rattle.wasm_numbers.specs.Results.{Gives}
 use Rattle.wasm_operators.specs.Meaning.{meaning}
 use Rattle.wasm_body.specs.declared.error.ParseError.{ParseError}
 use Rattle.wasm_body.specs.InstructionTable.{operation_of}

@@ -1,7 +1,7 @@
 -- The declarations written so far come before those of the remaining runs, whose counts fit.
 use Rattle.std.proofs.Common.{◌≡◌, ◌^◌, length, nat_lt, true}
 use Rattle.std.specs.List.{list_all}
-use Rattle.walrus_ir.specs.Results.{each}
+use Rattle.wasm_numbers.specs.Results.{each}
 use Rattle.wasm_body.specs.LocalNumbers.{declaration}
 use Rattle.walrus_numbering.specs.NumberMaps.{numbers_of}
 use Rattle.walrus_maps.proofs.Listed.{after_these}

@@ -2,7 +2,7 @@ use Rattle.std.proofs.Common.{◌≡◌, Ok, Err, ap, subst, ◌∙◌, arith}
 use Rattle.wasm_body.specs.declared.error.ParseError.TheVariants.{EntryTypeMissing}
 use Rattle.wasm_body.specs.Naming.{Environment, entry_type_id}
 use Rattle.wasm_ops.specs.Position.{Position}
-use Rattle.walrus_ir.specs.Results.{some_or}
+use Rattle.wasm_numbers.specs.Results.{some_or}
 use Rattle.wasm_operators.proofs.ReadingBytes.{each_byte}
 use Rattle.walrus_parser.specs.Bodies.{input_of, operators_input, ParsesOperators}
 use Rattle.walrus_context.specs.OpenTrees.{env_of}

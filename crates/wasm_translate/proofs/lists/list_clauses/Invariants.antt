@@ -1,6 +1,6 @@
 -- The listed clauses come before the remaining ones.
 use Rattle.std.proofs.Common.{◌≡◌, ◌++◌, Ok}
-use Rattle.walrus_ir.specs.Results.{◌>>=◌, each}
+use Rattle.wasm_numbers.specs.Results.{◌>>=◌, each}
 use Rattle.wasm_translate.specs.Changes.{changed_clause}
 use Rattle.wasm_translate.proofs.lists.list_clauses.Given as goal
 

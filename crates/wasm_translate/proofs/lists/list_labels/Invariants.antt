@@ -1,6 +1,6 @@
 -- The listed depths come before those of the remaining labels.
 use Rattle.std.proofs.Common.{◌≡◌, ◌++◌, Ok}
-use Rattle.walrus_ir.specs.Results.{◌>>=◌, each}
+use Rattle.wasm_numbers.specs.Results.{◌>>=◌, each}
 use Rattle.wasm_translate.proofs.lists.list_labels.Given as goal
 
 abbrev pub invariant-targets : goal.invariant-targets

@@ -1,5 +1,5 @@
 use Rattle.std.proofs.Common.{◌<◌, ◌^◌, ap, arith, rules}
-use Rattle.walrus_ir.specs.Results.{some_or}
+use Rattle.wasm_numbers.specs.Results.{some_or}
 use Rattle.wasm_body.specs.declared.error.EmitError.TheVariants.{UnnumberedLocal}
 use Rattle.walrus_numbering.specs.NumberMaps.{numbers_of}
 use Rattle.walrus_emit_state.specs.TreeWriting.Closers.{places_of}

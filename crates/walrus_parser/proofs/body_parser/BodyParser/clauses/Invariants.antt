@@ -1,6 +1,6 @@
 -- The clauses made so far come before the remaining ones.
 use Rattle.std.proofs.Common.{◌≡◌, map}
-use Rattle.walrus_ir.specs.Results.{each}
+use Rattle.wasm_numbers.specs.Results.{each}
 use Rattle.wasm_body.specs.InstructionTable.{table_clause}
 use Rattle.walrus_parser.specs.BodyParsers.{clause_in}
 use Rattle.walrus_maps.proofs.Listed.{after_these}

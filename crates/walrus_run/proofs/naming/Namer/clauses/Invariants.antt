@@ -1,6 +1,6 @@
 -- The named clauses come before the remaining ones.
 use Rattle.std.proofs.Common.{◌≡◌, map}
-use Rattle.walrus_ir.specs.Results.{each}
+use Rattle.wasm_numbers.specs.Results.{each}
 use Rattle.wasm_body.specs.Translation.{translate_clause}
 use Rattle.walrus_maps.proofs.Listed.{after_these}
 use Rattle.walrus_machine.specs.NamedOperators.{named_clause}

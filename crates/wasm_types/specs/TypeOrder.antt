@@ -3,11 +3,27 @@ use Rattle.std.specs.Prelude.{ℕ, List, [], ◌∷◌, Bool, true, false}
 use Rattle.std.specs.declared.cmp.Ordering.{Ordering}
 use Rattle.std.specs.Ordering.{nat_cmp}
 use Rattle.std.specs.Cmp.Lexicographic.{slice_cmp}
-use Rattle.walrus_ir.specs.declared.val_type.HeapType.{HeapType}
-use Rattle.walrus_ir.specs.declared.val_type.HeapType.TheVariants.{Abstract, Concrete}
-use Rattle.walrus_ir.specs.declared.val_type.ValType.{ValType}
-use Rattle.walrus_ir.specs.declared.val_type.ValType.TheVariants.{I32, I64, F32, F64, V128, Ref}
-use Rattle.walrus_ir.specs.Types.{rank_of}
+use Rattle.wasm_types.specs.declared.val_type.AbstractHeapType.{AbstractHeapType}
+use Rattle.wasm_types.specs.declared.val_type.AbstractHeapType.TheVariants as abstract
+use Rattle.wasm_types.specs.declared.val_type.HeapType.{HeapType}
+use Rattle.wasm_types.specs.declared.val_type.HeapType.TheVariants.{Abstract, Concrete}
+use Rattle.wasm_types.specs.declared.val_type.ValType.{ValType}
+use Rattle.wasm_types.specs.declared.val_type.ValType.TheVariants.{I32, I64, F32, F64, V128, Ref}
+
+-- the rank of an abstract heap type in their order
+abbrev pub rank_of : AbstractHeapType → ℕ
+rank_of abstract.NoExn = 0
+rank_of abstract.NoFunc = 1
+rank_of abstract.NoExtern = 2
+rank_of abstract.None = 3
+rank_of abstract.Func = 4
+rank_of abstract.Extern = 5
+rank_of abstract.Any = 6
+rank_of abstract.Eq = 7
+rank_of abstract.I31 = 8
+rank_of abstract.Struct = 9
+rank_of abstract.Array = 10
+rank_of abstract.Exn = 11
 
 -- references that aren't nullable come before those that are
 abbrev pub nullable_rank : Bool → ℕ

@@ -1,6 +1,6 @@
 -- Steps that did not fail.
 use Rattle.std.proofs.Common.{◌≡◌, Bool, true, false, Option, Some, None, Result, Ok, Err, refl, ap}
-use Rattle.walrus_ir.specs.Results.{◌>>=◌, unless, some_or, with_fault}
+use Rattle.wasm_numbers.specs.Results.{◌>>=◌, unless, some_or, with_fault}
 
 -- the value of a step that did not fail
 pub bind_ok : {A B E : Type 0} (r : Result A E) (f : A → Result B E) (y : B) → (r >>= f) ≡ Ok y → (x : A) × (r ≡ Ok x) × (f x ≡ Ok y)

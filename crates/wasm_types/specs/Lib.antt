@@ -1,0 +1,2 @@
+-- the order of value types
+pub mod TypeOrder
