@@ -18,10 +18,10 @@ use crate::plain::{
     Binop, Const, GlobalGet, GlobalSet, I8x16Shuffle, LocalGet, LocalSet, LocalTee, Select, TernOp,
     Unop,
 };
-use crate::reference::{RefCast, RefFunc, RefNull, RefTest};
 use crate::table::{
     ElemDrop, TableCopy, TableFill, TableGet, TableGrow, TableInit, TableSet, TableSize,
 };
+use wasm_types::{FunctionId, HeapType, RefType};
 
 /// An instruction of the WebAssembly core specification 3.0, or of the proposals for legacy
 /// exception handling, threads and wide arithmetic. Instructions that contain sequences refer to
@@ -226,4 +226,38 @@ pub enum Instr {
     I64MulWideS,
     /// `i64.mul_wide_u`.
     I64MulWideU,
+}
+
+// Instructions that make and test references.
+
+/// `ref.null`. Only the heap type is written to a module, not whether the type is nullable.
+#[derive(Clone, Copy)]
+pub struct RefNull {
+    /// The type of the result.
+    pub ty: RefType,
+}
+
+/// `ref.func`.
+#[derive(Clone, Copy)]
+pub struct RefFunc {
+    /// The function that the result refers to.
+    pub func: FunctionId,
+}
+
+/// `ref.test`.
+#[derive(Clone, Copy)]
+pub struct RefTest {
+    /// Whether null passes the test.
+    pub nullable: bool,
+    /// The heap type that is tested for.
+    pub heap_type: HeapType,
+}
+
+/// `ref.cast`.
+#[derive(Clone, Copy)]
+pub struct RefCast {
+    /// Whether null passes the cast.
+    pub nullable: bool,
+    /// The heap type of the result.
+    pub heap_type: HeapType,
 }

@@ -1,9 +1,8 @@
 //! Visitors.
 
 use crate::error::WalkError;
-use crate::instr::Instr;
+use crate::instr::{Instr, RefFunc};
 use crate::location::InstrLocId;
-use crate::reference::RefFunc;
 use crate::seq::InstrSeq;
 use wasm_types::{DataId, LocalId};
 
