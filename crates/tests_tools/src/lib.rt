@@ -1,9 +1,8 @@
-//! Tests of the tools that change whole modules, of the arguments of programs, and of source maps.
+//! Tests of the arguments of programs, and of source maps. What the programs write of modules is tested
+//! by `programs_test`.
 #![tactic(auto)]
 
 #[cfg(test)]
 mod mappings;
-#[cfg(test)]
-mod tools;
 #[cfg(test)]
 mod words;
