@@ -133,7 +133,8 @@ fn in_place<'i>(body: &'i str, nop: &'i str) -> &'i str {
 fn push_code(module: &mut Vec<u8>, count: usize, nop: &str) -> Result<(), FromHexError> {
     let mut size: usize = 2;
     for body in BODIES.split(' ') {
-        size = size.saturating_add(1 + in_place(body, nop).len() / 2);
+        let len = in_place(body, nop).len() / 2;
+        size = size.saturating_add(len).saturating_add(1);
     }
     push_number(module, 10)?;
     push_number(module, size)?;

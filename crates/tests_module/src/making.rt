@@ -135,27 +135,20 @@ fn without_sequences(alloc: Global, ty: usize, args: usize) -> Result<LocalFunct
     Ok(LocalFunction::new(ids, builder))
 }
 
-// The function of a step that adds one.
-fn function_of(alloc: Global, step: Step<'_>) -> Result<LocalFunction, AllocError> {
-    let (ty, args) = match step {
-        Step::Copies(ty, args, _) => (ty, args),
-        Step::Passes(ty) => (ty, 1),
-        _ => (1, 1),
-    };
-    let mut function = without_sequences(alloc, ty, args)?;
-    match fill(&mut function, step) {
-        Ok(()) => Ok(function),
-        Err(error) => Err(error),
-    }
-}
-
+// Adds the function of a step.
 fn add_function(
     alloc: Global,
     parsed: &mut ParsedModule<'_>,
     changes: &mut Changes,
     step: Step<'_>,
 ) -> Result<FunctionId, ModuleError> {
-    let function = function_of(alloc, step)?;
+    let (ty, args) = match step {
+        Step::Copies(ty, args, _) => (ty, args),
+        Step::Passes(ty) => (ty, 1),
+        _ => (1, 1),
+    };
+    let mut function = without_sequences(alloc, ty, args)?;
+    fill(&mut function, step)?;
     let locals = [ValType::I32, ValType::I64, ValType::I32];
     parsed.add_function(changes, &function, &locals)
 }
@@ -177,7 +170,7 @@ fn type_of(ty: OneType) -> Option<ValType> {
 // The result of a step that doesn't add a function.
 fn done<T: Drop>(made: Result<T, ModuleError>) -> Result<FunctionId, ModuleError> {
     match made {
-        Ok(_) => Ok(FunctionId::new(0)),
+        Ok(_made) => Ok(FunctionId::new(0)),
         Err(error) => Err(error),
     }
 }

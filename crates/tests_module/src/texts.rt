@@ -35,7 +35,7 @@ pub const FOLLOWED_REWRITTEN: &str =
 
 /// Appends the bytes of a module, or of a part of it, that is written in hexadecimal, with spaces
 /// between its sections.
-pub fn push_bytes(bytes: &mut Vec<u8>, module: &str) -> Result<(), FromHexError> {
+pub(crate) fn push_bytes(bytes: &mut Vec<u8>, module: &str) -> Result<(), FromHexError> {
     let alloc = *bytes.allocator();
     for part in module.split(' ') {
         bytes.extend_from_slice(&hex::decode(alloc, part)?)?;
@@ -45,11 +45,11 @@ pub fn push_bytes(bytes: &mut Vec<u8>, module: &str) -> Result<(), FromHexError>
 
 /// The bytes of a module that is written as its preamble and its sections in hexadecimal, with spaces
 /// between them.
-pub fn bytes_of(alloc: Global, module: &str) -> Result<Vec<u8>, FromHexError> {
+pub fn bytes_of(alloc: Global, module: &str) -> Result<Vec<u8>, Fail> {
     let mut bytes = Vec::new(alloc);
     match push_bytes(&mut bytes, module) {
         Ok(()) => Ok(bytes),
-        Err(error) => Err(error),
+        Err(error) => Err(Fail::from(error)),
     }
 }
 
@@ -65,8 +65,8 @@ pub fn fault_text(alloc: Global, error: ModuleError) -> Result<String, Fail> {
     Ok(format!(in alloc; "{name} at {}", error.at)?)
 }
 
-/// Appends bytes in hexadecimal.
-pub fn push_hex(text: &mut String, bytes: &[u8]) -> Result<(), ModuleError> {
+// Appends bytes in hexadecimal.
+fn push_hex(text: &mut String, bytes: &[u8]) -> Result<(), ModuleError> {
     for byte in bytes {
         write!(text, "{byte:02x}")?;
     }
@@ -75,7 +75,7 @@ pub fn push_hex(text: &mut String, bytes: &[u8]) -> Result<(), ModuleError> {
 
 /// Appends the module that is written, in hexadecimal. The error is that of a change that isn't the
 /// same both times.
-pub fn push_written<B: BodyWriter>(
+pub(crate) fn push_written<B: BodyWriter>(
     text: &mut String,
     parsed: &mut ParsedModule<'_>,
     rewritten: &RewrittenModule<'_, B>,

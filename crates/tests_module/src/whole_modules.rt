@@ -229,18 +229,17 @@ fn is_end(bytes: &[u8], place: usize) -> bool {
     }
 }
 
-// Whether a module is read that is cut to this length.
-fn is_read(alloc: Global, bytes: &[u8], len: usize) -> bool {
+// Whether the module with these bytes is read.
+fn is_read(alloc: Global, bytes: &[u8]) -> bool {
     let mut text = String::new(alloc);
-    push_found(&mut text, Query::Read, &bytes[..len]).is_ok()
+    push_found(&mut text, Query::Read, bytes).is_ok()
 }
 
 // Checks that a module that is cut off is refused, unless it is cut after a section.
 fn check_cut(rt: &impl Abort, alloc: Global, bytes: &[u8]) {
     for (len, _) in bytes.iter().enumerate() {
-        if !is_end(bytes, len) {
-            assert!(rt; !is_read(alloc, bytes, len), "of length {len}");
-        }
+        let is_refused = is_end(bytes, len) || !is_read(alloc, &bytes[..len]);
+        assert!(rt; is_refused, "of length {len}");
     }
 }
 

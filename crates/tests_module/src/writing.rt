@@ -3,7 +3,7 @@ use crate::importing::CallFirst;
 use crate::making::{Step, make_all};
 use crate::new_locals::NewLocals;
 use crate::numbering::Numbering;
-use crate::texts::{bytes_of, push_written};
+use crate::texts::{push_bytes, push_written};
 use crate::whole_modules::{push_map, push_notes};
 use std::alloc::Global;
 use walrus_ir::FunctionId;
@@ -75,8 +75,9 @@ fn push_other<B: BodyWriter>(
     module: &str,
     rewritten: &RewrittenModule<'_, B>,
 ) -> Result<(), ModuleError> {
-    match bytes_of(*text.allocator(), module) {
-        Ok(bytes) => push_other_bytes(text, &bytes, rewritten),
+    let mut bytes = Vec::new(*text.allocator());
+    match push_bytes(&mut bytes, module) {
+        Ok(()) => push_other_bytes(text, &bytes, rewritten),
         Err(error) => Ok(write!(text, "{error:?}")?),
     }
 }
