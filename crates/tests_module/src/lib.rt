@@ -18,7 +18,8 @@ mod making;
 mod new_locals;
 #[cfg(test)]
 mod numbering;
-pub mod texts;
+#[cfg(test)]
+mod texts;
 #[cfg(test)]
 mod views;
 #[cfg(test)]

@@ -1,4 +1,4 @@
-//! Modules as text, for these tests and those of the tools: their bytes in hexadecimal, and a module
+//! Modules as text: their bytes in hexadecimal, and a module
 //! whose custom sections change along with its code.
 use hex::FromHexError;
 use std::alloc::Global;
@@ -13,7 +13,7 @@ use wasm_module::{
 /// first byte of g's body. It declares an i64, an f32 and an i32, and is: nop, block [ local.get 0,
 /// br_if 0, nop, local.get 0, if [ unreachable, block [ nop ] ] ], local.get 0, if [ i64.const 1,
 /// local.set 1 ], local.get 3.
-pub const FOLLOWED: &str =
+pub(crate) const FOLLOWED: &str =
     "0061736d01000000 01090260017f017f600000 020701016d01660001 0303020001 07050101670001 \
     0026196d657461646174612e636f64652e6272616e63685f68696e740101030c01011101001c0101 \
     0a31022603017e017d017f01024020000d000120000440000240010b0b0b20000440420121010b20030b080101\
@@ -25,7 +25,7 @@ pub const FOLLOWED: &str =
 /// The same, rewritten: the i32 is declared before the i64, the f32 isn't declared, and the block
 /// after `unreachable` is dropped. So b is the local 1, and a is 2; last is the label 2; and the
 /// hints are at 9, 13 and 20.
-pub const FOLLOWED_REWRITTEN: &str =
+pub(crate) const FOLLOWED_REWRITTEN: &str =
     "0061736d01000000 01090260017f017f600000 020701016d01660001 0303020001 07050101670001 \
     0026196d657461646174612e636f64652e6272616e63685f68696e740101030901010d0100140101 \
     0a28021e02017f017e024020000d0020000440000b0b20000440420121020b20010b0701017f20001a0b \
@@ -45,7 +45,7 @@ pub(crate) fn push_bytes(bytes: &mut Vec<u8>, module: &str) -> Result<(), FromHe
 
 /// The bytes of a module that is written as its preamble and its sections in hexadecimal, with spaces
 /// between them.
-pub fn bytes_of(alloc: Global, module: &str) -> Result<Vec<u8>, Fail> {
+pub(crate) fn bytes_of(alloc: Global, module: &str) -> Result<Vec<u8>, Fail> {
     let mut bytes = Vec::new(alloc);
     match push_bytes(&mut bytes, module) {
         Ok(()) => Ok(bytes),
@@ -54,13 +54,13 @@ pub fn bytes_of(alloc: Global, module: &str) -> Result<Vec<u8>, Fail> {
 }
 
 /// The module without the spaces between its sections.
-pub fn without_spaces(alloc: Global, module: &str) -> Result<String, Fail> {
+pub(crate) fn without_spaces(alloc: Global, module: &str) -> Result<String, Fail> {
     let bytes = bytes_of(alloc, module)?;
     Ok(hex::encode(alloc, bytes)?)
 }
 
 /// A fault's name, and its place.
-pub fn fault_text(alloc: Global, error: ModuleError) -> Result<String, Fail> {
+pub(crate) fn fault_text(alloc: Global, error: ModuleError) -> Result<String, Fail> {
     let name = error.fault.name();
     Ok(format!(in alloc; "{name} at {}", error.at)?)
 }
@@ -93,7 +93,7 @@ pub(crate) fn push_written<B: BodyWriter>(
 
 /// The module that is written, in hexadecimal; or the fault of a change that isn't the same both
 /// times.
-pub fn written_text<B: BodyWriter>(
+pub(crate) fn written_text<B: BodyWriter>(
     alloc: Global,
     parsed: &mut ParsedModule<'_>,
     rewritten: &RewrittenModule<'_, B>,
