@@ -24,9 +24,13 @@ enum Step {
     Put(Made, u16),
     /// `alloc_instr` of a `try` of a sequence, without clauses.
     PutTry(usize),
-    /// `push_control` of so many blocks, and `alloc_instr_in_control` of the frame around them, with
-    /// the starts of the blocks before and after.
-    PutIn(usize, Made, u16),
+    /// `alloc_instr_in_control` of the innermost frame.
+    PutHere(Made, u16),
+    /// `push_control` of a block, and `alloc_instr_in_control` of the frame around it, with the
+    /// start of the block before and after.
+    PutAround(Made, u16),
+    /// The same with two blocks, and for the frame around both.
+    PutOutside(Made, u16),
     /// `add_legacy_catch`.
     Delegate(u32),
 }
@@ -79,38 +83,55 @@ fn show(context: &ValidationContext<'_>, n: usize, text: &mut String) -> Result<
     }
 }
 
-// Appends where the instructions of the innermost frames begin, the outer of them first.
-fn push_starts(
+// Appends where the instructions of the n-th frame from the innermost begin.
+fn push_start(
     context: &ValidationContext<'_>,
-    count: usize,
+    n: usize,
     text: &mut String,
 ) -> Result<(), AllocError> {
-    for n in 0..count {
-        match context.control(count - 1 - n) {
-            Ok(frame) => write!(text, " {}", frame.start)?,
-            Err(error) => write!(text, " {error:?}")?,
-        }
+    match context.control(n) {
+        Ok(frame) => write!(text, " {}", frame.start),
+        Err(error) => write!(text, " {error:?}"),
     }
-    Ok(())
 }
 
-fn put_in(
+fn at(location: u16) -> InstrLocId {
+    InstrLocId::new(u32::from(location))
+}
+
+fn put_around(
     context: &mut ValidationContext<'_>,
-    depth: usize,
     made: Made,
     location: u16,
     text: &mut String,
 ) -> Result<(), AllocError> {
-    for _ in 0..depth {
-        if let Err(error) = context.push_control(BlockKind::Block, &[], &[]) {
-            return write!(text, " {error:?}");
-        }
+    if let Err(error) = context.push_control(BlockKind::Block, &[], &[]) {
+        return write!(text, " {error:?}");
     }
-    push_starts(context, depth, text)?;
-    let location = InstrLocId::new(u32::from(location));
-    let returned = context.alloc_instr_in_control(depth, instr(made), location);
+    push_start(context, 0, text)?;
+    let returned = context.alloc_instr_in_control(1, instr(made), at(location));
     push_done(text, returned)?;
-    push_starts(context, depth, text)
+    push_start(context, 0, text)
+}
+
+fn put_outside(
+    context: &mut ValidationContext<'_>,
+    made: Made,
+    location: u16,
+    text: &mut String,
+) -> Result<(), AllocError> {
+    if let Err(error) = context.push_control(BlockKind::Block, &[], &[]) {
+        return write!(text, " {error:?}");
+    }
+    if let Err(error) = context.push_control(BlockKind::Block, &[], &[]) {
+        return write!(text, " {error:?}");
+    }
+    push_start(context, 1, text)?;
+    push_start(context, 0, text)?;
+    let returned = context.alloc_instr_in_control(2, instr(made), at(location));
+    push_done(text, returned)?;
+    push_start(context, 1, text)?;
+    push_start(context, 0, text)
 }
 
 // Makes a call, and appends its result.
@@ -133,16 +154,20 @@ fn call(
         Step::Kill => push_done(text, context.unreachable()),
         Step::Show(n) => show(context, n, text),
         Step::Put(made, location) => {
-            let location = InstrLocId::new(u32::from(location));
-            push_done(text, context.alloc_instr(instr(made), location))
+            push_done(text, context.alloc_instr(instr(made), at(location)))
         }
         Step::PutTry(seq) => {
             let seq = InstrSeqId::new(seq);
             let catches = Vec::new(alloc);
             let made = Instr::Try(Try { seq, catches });
-            push_done(text, context.alloc_instr(made, InstrLocId::new(0)))
+            push_done(text, context.alloc_instr(made, at(0)))
         }
-        Step::PutIn(depth, made, location) => put_in(context, depth, made, location, text),
+        Step::PutHere(made, location) => push_done(
+            text,
+            context.alloc_instr_in_control(0, instr(made), at(location)),
+        ),
+        Step::PutAround(made, location) => put_around(context, made, location, text),
+        Step::PutOutside(made, location) => put_outside(context, made, location, text),
         Step::Delegate(relative_depth) => {
             let clause = LegacyCatch::Delegate { relative_depth };
             push_done(text, context.add_legacy_catch(clause))
@@ -252,11 +277,11 @@ const CALLS: [(&[Step], &str); 12] = [
     (
         &[
             ENTRY,
-            Step::PutIn(1, Made::Drop, 6),
-            Step::PutIn(0, Made::Call(3), 7),
+            Step::PutAround(Made::Drop, 6),
+            Step::PutHere(Made::Call(3), 7),
             Step::Pop,
             Step::Kill,
-            Step::PutIn(1, Made::Drop, 8),
+            Step::PutAround(Made::Drop, 8),
             Step::Pop,
             Step::Pop,
         ],
@@ -268,7 +293,7 @@ const CALLS: [(&[Step], &str); 12] = [
         &[
             ENTRY,
             Step::Put(Made::Drop, 6),
-            Step::PutIn(1, Made::Block(1), 7),
+            Step::PutAround(Made::Block(1), 7),
             Step::Put(Made::Const(5), 8),
             Step::Pop,
             Step::Pop,
@@ -280,7 +305,7 @@ const CALLS: [(&[Step], &str); 12] = [
         &[
             ENTRY,
             Step::Put(Made::Drop, 6),
-            Step::PutIn(2, Made::Call(3), 7),
+            Step::PutOutside(Made::Call(3), 7),
             Step::Pop,
             Step::Pop,
             Step::Pop,
@@ -293,7 +318,7 @@ const CALLS: [(&[Step], &str); 12] = [
             ENTRY,
             Step::Put(Made::Drop, 6),
             Step::Kill,
-            Step::PutIn(2, Made::Call(3), 7),
+            Step::PutOutside(Made::Call(3), 7),
         ],
         " 0 ok ok 1 1 ok 1 1 | FunctionEntry 0 dead [] [] 0 Block 1 alive [] [] 1 \
         Block 2 alive [] [] 1 ()[ ]- ()[ ]- ()[ ]-",
@@ -343,12 +368,12 @@ const CALLS: [(&[Step], &str); 12] = [
     (
         &[
             Step::Put(Made::Drop, 1),
-            Step::PutIn(0, Made::Drop, 1),
+            Step::PutHere(Made::Drop, 1),
             Step::Pop,
             Step::Kill,
             Step::Show(0),
             Step::Delegate(0),
-            Step::PutIn(1, Made::Drop, 1),
+            Step::PutAround(Made::Drop, 1),
         ],
         " NoFrame NoSuchLabel NoFrame NoFrame NoSuchLabel NoSuchLabel 0 NoSuchLabel 0 | \
         Block 0 alive [] [] 0 ()[ ]-",
