@@ -1,5 +1,6 @@
-//! Tests of whole modules: the modules that are written, and their faults. A function here owns one large value and lends it to the next: one that owns several over
-//! calls that may fail takes minutes to prove.
+//! Tests of whole modules: the modules that are written, and their faults. A function here owns one
+//! large value and lends it to the next: one that owns several over calls that may fail takes minutes
+//! to prove.
 #![tactic(auto)]
 
 #[cfg(test)]

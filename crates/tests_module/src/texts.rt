@@ -1,5 +1,5 @@
-//! Modules as text: their bytes in hexadecimal, and a module
-//! whose custom sections change along with its code.
+//! Modules as text: their bytes in hexadecimal, and a module whose custom sections change along with
+//! its code.
 use hex::FromHexError;
 use std::alloc::Global;
 use std::test::Fail;
@@ -53,12 +53,6 @@ pub(crate) fn bytes_of(alloc: Global, module: &str) -> Result<Vec<u8>, Fail> {
     }
 }
 
-/// The module without the spaces between its sections.
-pub(crate) fn without_spaces(alloc: Global, module: &str) -> Result<String, Fail> {
-    let bytes = bytes_of(alloc, module)?;
-    Ok(hex::encode(alloc, bytes)?)
-}
-
 /// A fault's name, and its place.
 pub(crate) fn fault_text(alloc: Global, error: ModuleError) -> Result<String, Fail> {
     let name = error.fault.name();
@@ -88,19 +82,5 @@ pub(crate) fn push_written<B: BodyWriter>(
             fault: ModuleFault::Memory,
             at: 0,
         }),
-    }
-}
-
-/// The module that is written, in hexadecimal; or the fault of a change that isn't the same both
-/// times.
-pub(crate) fn written_text<B: BodyWriter>(
-    alloc: Global,
-    parsed: &mut ParsedModule<'_>,
-    rewritten: &RewrittenModule<'_, B>,
-) -> Result<String, Fail> {
-    let mut text = String::new(alloc);
-    match push_written(&mut text, parsed, rewritten) {
-        Ok(()) => Ok(text),
-        Err(error) => fault_text(alloc, error),
     }
 }
