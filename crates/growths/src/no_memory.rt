@@ -62,30 +62,49 @@ fn read_operators(text: &mut Text) {
     push_flags(text, &[reader.eof()]);
 }
 
-/// Looks at types: finds some, and appends how many values a function type takes and gives.
-fn look_at_types(text: &mut Text, types: &ModuleTypes) {
-    let existing = match InstrSeqType::existing(types, &[ValType::I32], &[]) {
-        Some(InstrSeqType::MultiValue(id)) => Some(id),
-        _ => None,
-    };
-    let (empty, entry) = (types.find(&[], &[]), types.find_for_function_entry(&[]));
-    for id in [existing, empty, entry] {
-        write!(text, " {:?}", id.map(TypeId::index));
+fn push_id(text: &mut Text, id: Option<TypeId>) {
+    write!(text, " {:?}", id.map(TypeId::index));
+}
+
+/// The function type of a sequence, if it has one.
+fn function_type(ty: InstrSeqType) -> Option<TypeId> {
+    match ty {
+        InstrSeqType::MultiValue(id) => Some(id),
+        InstrSeqType::Simple(_) => None,
     }
-    let id = TypeId::new(2);
+}
+
+/// The type of a sequence that takes a number and gives nothing.
+fn existing_type(types: &ModuleTypes) -> Option<TypeId> {
+    match InstrSeqType::existing(types, &[ValType::I32], &[]) {
+        Some(ty) => function_type(ty),
+        None => None,
+    }
+}
+
+/// Appends how many values a function type takes and gives.
+fn push_sizes(text: &mut Text, types: &ModuleTypes, id: TypeId) {
     if types.is_func(id) {
         let (params, results) = types.params_results(id);
         push_numbers(text, &[params.len(), results.len()]);
         push_numbers(text, &[types.params(id).len(), types.results(id).len()]);
     }
+}
+
+/// Looks at types: finds some, and appends how many values a function type takes and gives.
+fn look_at_types(text: &mut Text, types: &ModuleTypes) {
+    push_id(text, existing_type(types));
+    push_id(text, types.find(&[], &[]));
+    push_id(text, types.find_for_function_entry(&[]));
+    push_sizes(text, types, TypeId::new(2));
     push_flags(text, &[types.is_func(TypeId::new(9))]);
 }
 
 /// Looks at tags, locals and new indices.
 fn look_at_items(text: &mut Text, demo: &Demo<'_>) {
-    let tag = demo.module.tags.get(TagId::new(1)).map(TypeId::index);
+    push_id(text, demo.module.tags.get(TagId::new(1)));
     let local = demo.module.locals.get(LocalId::new(1));
-    write!(text, " {tag:?} {local:?}");
+    write!(text, " {local:?}");
     push_new_indices(text, demo.numbers);
 }
 
