@@ -95,9 +95,9 @@ fn is_expected(found: &str, expected: &str) -> bool {
     if !expected.starts_with("0061736d") {
         return found == expected;
     }
-    let mut left = found;
+    let mut left = found.as_bytes();
     for part in expected.split(' ') {
-        match left.strip_prefix(part) {
+        match left.strip_prefix(part.as_bytes()) {
             Some(rest) => left = rest,
             None => return false,
         }

@@ -59,7 +59,10 @@ fn push_functions(text: &mut String, parsed: &ParsedModule<'_>) -> Result<(), Mo
 // Appends the numbers of items of three sections.
 fn push_counts(text: &mut String, parsed: &ParsedModule<'_>) -> Result<(), ModuleError> {
     for kind in [SectionKind::Type, SectionKind::Code, SectionKind::Global] {
-        write!(text, "{} ", parsed.item_count(kind)?)?;
+        match parsed.item_count(kind) {
+            Ok(count) => write!(text, "{count} ")?,
+            Err(error) => return Err(error),
+        }
     }
     Ok(())
 }
@@ -107,17 +110,31 @@ fn push_custom(text: &mut String, parsed: &ParsedModule<'_>) -> Result<(), Modul
 
 /// Appends the exports, imports, functions, numbers of items and custom sections.
 pub(crate) fn push_viewed(text: &mut String, parsed: &ParsedModule<'_>) -> Result<(), ModuleError> {
-    push_exports(text, parsed)?;
-    push_imports(text, parsed)?;
-    push_functions(text, parsed)?;
-    push_counts(text, parsed)?;
+    match push_exports(text, parsed) {
+        Ok(()) => {}
+        Err(error) => return Err(error),
+    }
+    match push_imports(text, parsed) {
+        Ok(()) => {}
+        Err(error) => return Err(error),
+    }
+    match push_functions(text, parsed) {
+        Ok(()) => {}
+        Err(error) => return Err(error),
+    }
+    match push_counts(text, parsed) {
+        Ok(()) => {}
+        Err(error) => return Err(error),
+    }
     push_custom(text, parsed)
 }
 
 /// Appends the start function, and the places of the bodies of the first functions.
 pub(crate) fn push_bodies(text: &mut String, parsed: &ParsedModule<'_>) -> Result<(), ModuleError> {
-    if let Some(start) = parsed.start()? {
-        write!(text, "starts with {}; ", start.index())?;
+    match parsed.start() {
+        Ok(Some(start)) => write!(text, "starts with {}; ", start.index())?,
+        Ok(None) => {}
+        Err(error) => return Err(error),
     }
     for index in 0..4 {
         if let Some(body) = parsed.body_of(index) {
@@ -211,9 +228,18 @@ pub(crate) fn push_storage(
     text: &mut String,
     parsed: &ParsedModule<'_>,
 ) -> Result<(), ModuleError> {
-    push_tables(text, parsed)?;
-    push_memories(text, parsed)?;
-    push_tags(text, parsed)?;
+    match push_tables(text, parsed) {
+        Ok(()) => {}
+        Err(error) => return Err(error),
+    }
+    match push_memories(text, parsed) {
+        Ok(()) => {}
+        Err(error) => return Err(error),
+    }
+    match push_tags(text, parsed) {
+        Ok(()) => {}
+        Err(error) => return Err(error),
+    }
     push_globals(text, parsed)
 }
 

@@ -308,9 +308,8 @@ pub(crate) fn push_map_or_faults(
     text: &mut String,
     parsed: &mut ParsedModule<'_>,
 ) -> Result<(), ModuleError> {
-    push_faults(text, parsed)?;
-    if text.is_empty() {
-        push_changed(text, parsed, &[], Change::Rewrite, Output::Map)?;
+    match push_faults(text, parsed) {
+        Ok(()) if text.is_empty() => push_changed(text, parsed, &[], Change::Rewrite, Output::Map),
+        returned => returned,
     }
-    Ok(())
 }
