@@ -6,12 +6,12 @@ use Rattle.wasm_numbers.specs.Numbers.{u32, unsigned}
 use Rattle.wasm_numbers.proofs.NumberLaws.{integers_agree}
 use Rattle.wasm_operators.specs.Shortest.{short_number}
 use Rattle.wasm_operators.proofs.ShortestNumbers.{unsigned_spelt}
-use Rattle.wasm_module.specs.declared.code.Bodies.{Bodies}
-use Rattle.wasm_module.specs.declared.code.Body.{Body}
+use Rattle.wasm_sections.specs.declared.code.Bodies.{Bodies}
+use Rattle.wasm_sections.specs.declared.code.Body.{Body}
 use Rattle.wasm_module.specs.declared.parsed.ParsedModule.{ParsedModule}
-use Rattle.wasm_module.specs.CodeSections.{entry, entries, code_section, BodyAt, AreBodies, IsCode, body_at, bytes_of, place_of, TakesBody}
+use Rattle.wasm_sections.specs.CodeSections.{entry, entries, code_section, BodyAt, AreBodies, IsCode, body_at, bytes_of, place_of, TakesBody}
 use Rattle.wasm_module.specs.RewrittenCode.{Extends}
-use Rattle.wasm_module.specs.Sections.{SectionAt}
+use Rattle.wasm_sections.specs.Sections.{SectionAt}
 use Rattle.wasm_module.specs.WrittenModules.{Puts, Writes, AreWritten, HasItemsOf, IsWrittenCode, count_bodies}
 use Rattle.wasm_module.proofs.WritingLemmas.{puts_then, puts_same}
 

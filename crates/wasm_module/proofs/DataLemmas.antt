@@ -1,14 +1,14 @@
 -- Data segments that are added: their number, and the data count.
-use Rattle.std.proofs.Common.{◌≡◌, ◌≢◌, ◌+◌, ◌||◌, ℕ, Bool, true, false, is_some, List, Option, Some, None, Result, Ok, Err, OnOk, refl, sym, ap, ◌∙◌, option_map, arith}
+use Rattle.std.proofs.Common.{◌≡◌, ◌≢◌, ◌+◌, ◌||◌, ℕ, Bool, true, false, is_some, List, Option, Some, None, Ok, refl, sym, ap, ◌∙◌, option_map, arith}
 use Rattle.wasm_numbers.specs.Numbers.{u32}
 use Rattle.wasm_numbers.proofs.Agreement.{ok_is}
 use Rattle.wasm_operators.specs.Shortest.{short_number}
-use Rattle.wasm_module.specs.declared.changes.Changes.{Changes}
-use Rattle.wasm_module.specs.declared.sections.Section.{Section}
-use Rattle.wasm_module.specs.Additions.{SetsContents, AddsItem, contents_with}
+use Rattle.wasm_sections.specs.declared.changes.Changes.{Changes}
+use Rattle.wasm_sections.specs.declared.sections.Section.{Section}
+use Rattle.wasm_sections.specs.Additions.{SetsContents, AddsItem, contents_with}
 use Rattle.wasm_module.specs.AddedItems.{AddsData, has_data_count}
-use Rattle.wasm_module.specs.Sections.{SectionAt, first_with, section_at}
-use Rattle.wasm_module.specs.WrittenModules.{contents_in}
+use Rattle.wasm_sections.specs.Sections.{SectionAt, first_with, section_at}
+use Rattle.wasm_sections.specs.GivenContents.{contents_in}
 
 one_count : (text : List ℕ) (m n : ℕ) (xs ys : List ℕ) → u32 text ≡ Ok (m, xs) → u32 text ≡ Ok (n, ys) → m ≡ n
 one_count text m n xs ys p q = ap (λ (x : ℕ × List ℕ). x.0) (ok_is (m, xs) (n, ys) (sym p ∙ q))
@@ -52,8 +52,3 @@ pub is_counted :
     is_some found ≡ has_data_count all changes
 is_counted all changes found none e =
     sym (ap (λ (o : Option (List ℕ)). is_some o || is_some (first_with 12 all)) none ∙ ap (λ (o : Option SectionAt). is_some o) e ∙ some_of found)
-
--- what follows from a fact about a success
-pub on_ok : {T E : Type 0} (r : Result T E) (P Q : Type 0) → OnOk r P → (P → Q) → OnOk r Q
-on_ok (Ok x) P Q h f = f h
-on_ok (Err e) P Q h f = tt

@@ -1,11 +1,11 @@
 -- Bodies that are kept, one after the other.
 use Rattle.std.proofs.Common.{◌≡◌, ℕ, zero, ◌+◌, List, [], ◌∷◌, ◌++◌, length, slice_get, Option, Some, None, option_map, refl, sym, ap, subst, ◌∙◌, suc, arith}
-use Rattle.wasm_module.specs.declared.code.Bodies.{Bodies}
-use Rattle.wasm_module.specs.declared.code.Body.{Body}
+use Rattle.wasm_sections.specs.declared.code.Bodies.{Bodies}
+use Rattle.wasm_sections.specs.declared.code.Body.{Body}
 use Rattle.wasm_module.specs.declared.changing.kept_bodies.KeptBodies.{KeptBodies}
 use Rattle.wasm_module.specs.declared.changing.kept_bodies.KeptBody.{KeptBody}
 use Rattle.wasm_module.specs.declared.parsed.ParsedModule.{ParsedModule}
-use Rattle.wasm_module.specs.CodeSections.{BodyAt, body_at, TakesBody}
+use Rattle.wasm_sections.specs.CodeSections.{BodyAt, body_at, TakesBody}
 use Rattle.wasm_module.specs.RewrittenCode.{FunctionChange, IsChanged, AreChanged}
 use Rattle.wasm_module.specs.KeptCode.{bodies_in, raws_in, IsKept, AreKept, KeepsChanged}
 use Rattle.wasm_module.specs.WrittenModules.{count_bodies}

@@ -4,9 +4,10 @@ use Rattle.std.proofs.lemmas.List.{append-nil}
 use Rattle.wasm_types.specs.declared.val_type.ValType.{ValType}
 use Rattle.walrus_ir.specs.Types.{ModuleType}
 use Rattle.wasm_module.specs.declared.parsed.ParsedModule.{ParsedModule}
-use Rattle.wasm_module.specs.declared.spaces.Spaces.{Spaces}
-use Rattle.wasm_module.specs.RewrittenCode.{HasOtherLocals, Extends}
-use Rattle.wasm_module.proofs.SpaceLemmas.{others_same, others_then, others_kept}
+use Rattle.wasm_sections.specs.declared.spaces.Spaces.{Spaces}
+use Rattle.wasm_sections.specs.OtherLocals.{HasOtherLocals}
+use Rattle.wasm_module.specs.RewrittenCode.{Extends}
+use Rattle.wasm_sections.proofs.SpaceLemmas.{others_same, others_then, others_kept}
 
 -- Two modules with the same bytes, tags, function types and number of imported functions.
 pub record Alike (a b : ParsedModule) : Type 0 where

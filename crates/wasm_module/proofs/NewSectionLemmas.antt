@@ -5,12 +5,12 @@ use Rattle.std.proofs.lemmas.Bool.{lt-ltb, le-ltb}
 use Rattle.std.proofs.lemmas.List.{append-nil, drop_all}
 use Rattle.wasm_numbers.specs.Numbers.{u32}
 use Rattle.wasm_numbers.proofs.Agreement.{ok_is}
-use Rattle.wasm_module.specs.declared.changes.Changes.{Changes}
-use Rattle.wasm_module.specs.declared.changes.NewContents.{NewContents}
-use Rattle.wasm_module.specs.declared.fault.ModuleError.{ModuleError}
-use Rattle.wasm_module.specs.declared.sections.Section.{Section}
-use Rattle.wasm_module.specs.declared.sections.Sections.{Sections}
-use Rattle.wasm_module.specs.Sections.{preamble, rank, next_rank, SectionAt, Begins, AreSections, IsModule, section, section_at, id_of, TakesSection}
+use Rattle.wasm_sections.specs.declared.changes.Changes.{Changes}
+use Rattle.wasm_sections.specs.declared.changes.NewContents.{NewContents}
+use Rattle.wasm_sections.specs.declared.fault.ModuleError.{ModuleError}
+use Rattle.wasm_sections.specs.declared.sections.Section.{Section}
+use Rattle.wasm_sections.specs.declared.sections.Sections.{Sections}
+use Rattle.wasm_sections.specs.Sections.{preamble, rank, next_rank, SectionAt, Begins, AreSections, IsModule, section, section_at, id_of, TakesSection}
 use Rattle.wasm_module.specs.declared.parsed.ParsedModule.{ParsedModule}
 use Rattle.wasm_module.specs.WrittenModules.{Puts, Writes, is_between, between, new_after, new_after_section}
 use Rattle.wasm_module.proofs.WritingLemmas.{puts_then, puts_nothing, puts_same}

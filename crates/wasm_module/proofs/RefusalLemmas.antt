@@ -15,11 +15,11 @@ use Rattle.walrus_rewrite.specs.declared.error.RewriteError.{RewriteError}
 use Rattle.walrus_rewrite.specs.declared.error.RewriteError.TheVariants.{Parse, Walk, Emit}
 use Rattle.walrus_rewrite.specs.Errors.{IsOutOfMemory}
 use Rattle.walrus_rewrite.specs.RewrittenBodies.{RefusesRewriting}
-use Rattle.wasm_module.specs.declared.fault.ModuleError.{ModuleError}
-use Rattle.wasm_module.specs.declared.fault.ModuleFault.TheVariants.{Memory}
+use Rattle.wasm_sections.specs.declared.fault.ModuleError.{ModuleError}
+use Rattle.wasm_sections.specs.declared.fault.ModuleFault.TheVariants.{Memory}
 use Rattle.wasm_module.specs.declared.parsed.ParsedModule.{ParsedModule}
-use Rattle.wasm_module.specs.CodeSections.{BodyAt}
-use Rattle.wasm_module.specs.LocalsBelow.{locals_below}
+use Rattle.wasm_sections.specs.CodeSections.{BodyAt}
+use Rattle.wasm_sections.specs.LocalsBelow.{locals_below}
 use Rattle.wasm_module.specs.RewrittenCode.{Extends, Enters}
 use Rattle.wasm_module.specs.Refusals.{place_in_file, HasFaultAt, IsRefused, IsNotRewritten}
 use Rattle.wasm_module.proofs.RewritingLemmas.{enters_then}

@@ -14,8 +14,8 @@ use Rattle.walrus_rewrite.specs.RawBodies.{EmitInput, emit_input, IsRawBodyOf, A
 use Rattle.walrus_rewrite.specs.RewrittenBodies.{Rewrites}
 use Rattle.walrus_flat.specs.RewrittenFlat.{RewritesFlat}
 use Rattle.wasm_module.specs.declared.parsed.ParsedModule.{ParsedModule}
-use Rattle.wasm_module.specs.CodeSections.{BodyAt}
-use Rattle.wasm_module.specs.LocalsBelow.{locals_below}
+use Rattle.wasm_sections.specs.CodeSections.{BodyAt}
+use Rattle.wasm_sections.specs.LocalsBelow.{locals_below}
 use Rattle.wasm_module.specs.RewrittenCode.{Extends, Enters, IsRewrittenAs, IsRewritten, IsParsed, OneChange, IsChanged}
 use Rattle.wasm_module.proofs.ModuleLemmas.{extends_then}
 

@@ -2,12 +2,12 @@
 use Rattle.std.proofs.Common.{◌≡◌, ℕ, List, [], ◌∷◌, ◌++◌, length, Option, Some, None, Result, Ok, Err, refl, sym, ap, subst, ◌∙◌, append_assoc}
 use Rattle.std.proofs.lemmas.List.{append-nil}
 use Rattle.std.specs.Io.KnownBytes.{Appends}
-use Rattle.wasm_module.specs.declared.fault.ModuleError.{ModuleError}
+use Rattle.wasm_sections.specs.declared.fault.ModuleError.{ModuleError}
 use Rattle.wasm_module.specs.declared.parsed.ParsedModule.{ParsedModule}
-use Rattle.wasm_module.specs.declared.sections.Section.{Section}
-use Rattle.wasm_module.specs.declared.sections.Sections.{Sections}
-use Rattle.wasm_module.specs.Sections.{preamble, SectionAt, Begins, AreSections, IsModule, section_at, TakesSection}
-use Rattle.wasm_module.specs.declared.changes.Changes.{Changes}
+use Rattle.wasm_sections.specs.declared.sections.Section.{Section}
+use Rattle.wasm_sections.specs.declared.sections.Sections.{Sections}
+use Rattle.wasm_sections.specs.Sections.{preamble, SectionAt, Begins, AreSections, IsModule, section_at, TakesSection}
+use Rattle.wasm_sections.specs.declared.changes.Changes.{Changes}
 use Rattle.wasm_module.specs.WrittenModules.{Puts, Writes, new_after, IsWrittenAt, AreWrittenAt, IsWrittenModule}
 use Rattle.wasm_module.proofs.WritingLemmas.{puts_then, puts_same}
 

@@ -16,12 +16,12 @@ use Rattle.walrus_maps.specs.declared.ids_to_indices.IdsToIndices.{IdsToIndices}
 use Rattle.walrus_maps.specs.IndexMaps.{number_of, with_next_number}
 use Rattle.wasm_body.specs.declared.error.IndexError.{IndexError}
 use Rattle.wasm_operators.specs.declared.types.Space.TheVariants.{Types}
-use Rattle.wasm_module.specs.declared.changes.Changes.{Changes}
+use Rattle.wasm_sections.specs.declared.changes.Changes.{Changes}
 use Rattle.wasm_module.specs.declared.parsed.ParsedModule.{ParsedModule}
 use Rattle.wasm_module.specs.AddedItems.{IsWrittenTypes, IsWrittenFunctionType, AddsFunctionType, HasFunctionType}
 use Rattle.wasm_module.specs.RewrittenCode.{Extends}
-use Rattle.wasm_module.specs.Sections.{SectionAt}
-use Rattle.wasm_module.proofs.LocalLemmas.{each_more}
+use Rattle.wasm_sections.specs.Sections.{SectionAt}
+use Rattle.wasm_sections.proofs.LocalLemmas.{each_more}
 
 -- so many of these types are written
 pub record TypesSoFar (numbers : IdsToIndices) (types : List (ValType ℕ)) (count : ℕ) (old new : List ℕ) : Type 0 where

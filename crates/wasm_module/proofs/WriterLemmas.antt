@@ -3,13 +3,13 @@ use Rattle.std.proofs.Common.{◌≡◌, ℕ, zero, ◌+◌, ◌-◌, List, [], 
 use Rattle.std.proofs.lemmas.Option.{same_Some}
 use Rattle.wasm_types.specs.declared.val_type.ValType.{ValType}
 use Rattle.walrus_body.specs.FunctionParts.{FunctionParts}
-use Rattle.wasm_module.specs.declared.changes.Changes.{Changes as NewSections}
+use Rattle.wasm_sections.specs.declared.changes.Changes.{Changes as NewSections}
 use Rattle.wasm_module.specs.declared.changing.kept_bodies.KeptBodies.{KeptBodies}
 use Rattle.wasm_module.specs.declared.parsed.ParsedModule.{ParsedModule}
-use Rattle.wasm_module.specs.CodeSections.{BodyAt}
+use Rattle.wasm_sections.specs.CodeSections.{BodyAt}
 use Rattle.wasm_module.specs.KeptCode.{bodies_in, raws_in, IsKept, AreKept, AreKeptAs, IsChangedCode}
 use Rattle.wasm_module.specs.RewrittenCode.{Extends, OneChange, FunctionChange, IsChanged, keeps_locals, alike, AreChanged}
-use Rattle.wasm_module.specs.Sections.{SectionAt, IsModule}
+use Rattle.wasm_sections.specs.Sections.{SectionAt, IsModule}
 use Rattle.wasm_module.specs.WrittenModules.{Writes, AreWritten, IsWrittenCode, IsWrittenFor, IsWrittenAt, AreWrittenAt, IsWrittenModule}
 use Rattle.wasm_module.specs.WrittenModules.IsWrittenFor.{code, replaced, carried_over, omitted}
 use Rattle.wasm_module.proofs.CodeLemmas.{same_bodies, same_count}

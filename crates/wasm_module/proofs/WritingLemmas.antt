@@ -3,9 +3,9 @@ use Rattle.std.proofs.Common.{◌≡◌, ℕ, ◌+◌, List, [], ◌∷◌, ◌+
 use Rattle.std.proofs.lemmas.List.{append-nil}
 use Rattle.std.specs.Io.KnownBytes.{Appends}
 use Rattle.wasm_operators.specs.Shortest.{short_number}
-use Rattle.wasm_module.specs.CodeSections.{entry}
+use Rattle.wasm_sections.specs.CodeSections.{entry}
 use Rattle.wasm_module.specs.Pieces.{appends_nothing, appends_then}
-use Rattle.wasm_module.specs.Sections.{section}
+use Rattle.wasm_sections.specs.Sections.{section}
 use Rattle.wasm_module.specs.WrittenModules.{Puts}
 
 -- ---- to a writer

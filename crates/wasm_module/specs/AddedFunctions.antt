@@ -8,21 +8,13 @@ use Rattle.walrus_maps.specs.IndexMaps.{number_of, with_next_number}
 use Rattle.walrus_numbering.specs.NumberMaps.{numbers_by}
 use Rattle.walrus_body.specs.FunctionParts.{FunctionParts}
 use Rattle.walrus_rewrite.specs.RawBodies.{EmitInput, IsRawBodyOf}
-use Rattle.wasm_module.specs.declared.changes.Changes.{Changes}
+use Rattle.wasm_sections.specs.declared.changes.Changes.{Changes}
 use Rattle.wasm_module.specs.declared.parsed.ParsedModule.{ParsedModule}
-use Rattle.wasm_module.specs.Additions.{HasOneMore, SetsContents, AddsItem}
-use Rattle.wasm_module.specs.CodeSections.{entry}
-use Rattle.wasm_module.specs.Declarations.{parameters_of}
-use Rattle.wasm_module.specs.Sections.{SectionAt}
-use Rattle.wasm_module.specs.WrittenModules.{added_bodies}
+use Rattle.wasm_sections.specs.Additions.{AddsItem, AddsBody}
+use Rattle.wasm_sections.specs.Declarations.{parameters_of}
+use Rattle.wasm_sections.specs.Sections.{SectionAt}
 
 -- ---- sections
-
--- One raw body more is added to the code section, after those that the changes add before.
-pub record AddsBody (old new : Changes) (raw : List ℕ) : Type 0 where
-  pub contents : List ℕ
-  pub has_one_more : HasOneMore (added_bodies old) (entry raw) contents
-  pub sets : SetsContents old new 10 contents
 
 -- A function of the type with this index and with this raw body is added: the body, and then the index to the function section.
 pub record AddsRawFunction (all : List SectionAt) (old new : Changes) (type : ℕ) (raw : List ℕ) : Type 0 where

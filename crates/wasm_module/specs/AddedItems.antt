@@ -3,25 +3,23 @@
 use Rattle.std.specs.Prelude.{◌≡◌, ◌≢◌, ◌+◌, ◌||◌, ℕ, ℤ, Bool, true, false, is_some, List, [], ◌∷◌, ◌++◌, length, Option, Some, Ok, IsOk, IsErr}
 use Rattle.std.specs.List.{flat_map}
 use Rattle.wasm_types.specs.declared.val_type.ValType.{ValType}
-use Rattle.walrus_ir.specs.declared.value.Value.{Value}
-use Rattle.walrus_ir.specs.declared.value.Value.TheVariants.{I32, I64, F32, F64, V128}
+use Rattle.walrus_ir.specs.declared.value.Value.TheVariants.{I32}
 use Rattle.wasm_numbers.specs.Results.{each}
 use Rattle.walrus_ir.specs.Types.{ModuleType, find}
-use Rattle.wasm_operators.specs.declared.types.Opcode.TheVariants.{Byte, Prefixed}
 use Rattle.wasm_operators.specs.declared.types.Space.{Space}
 use Rattle.wasm_operators.specs.declared.types.Space.TheVariants.{Types}
-use Rattle.wasm_operators.specs.Operations.{RawOperation, operation, i32, i64, f32, f64, v128}
-use Rattle.wasm_operators.specs.Shortest.{short, short_number, short_value}
+use Rattle.wasm_operators.specs.Shortest.{short_number, short_value}
 use Rattle.wasm_body.specs.Translation.{translate_value}
 use Rattle.walrus_maps.specs.declared.ids_to_indices.IdsToIndices.{IdsToIndices}
 use Rattle.walrus_maps.specs.IndexMaps.{number_of, with_next_number}
-use Rattle.wasm_module.specs.declared.changes.Changes.{Changes}
+use Rattle.wasm_sections.specs.declared.changes.Changes.{Changes}
 use Rattle.wasm_module.specs.declared.parsed.ParsedModule.{ParsedModule}
-use Rattle.wasm_module.specs.Additions.{HasOneMore, AddsItem, contents_with}
-use Rattle.wasm_module.specs.CodeSections.{entry}
-use Rattle.wasm_module.specs.Sections.{SectionAt, first_with}
-use Rattle.wasm_module.specs.Views.{IsExportKind}
-use Rattle.wasm_module.specs.WrittenModules.{contents_in}
+use Rattle.wasm_sections.specs.Additions.{HasOneMore, AddsItem, contents_with}
+use Rattle.wasm_sections.specs.CodeSections.{entry}
+use Rattle.wasm_sections.specs.Constants.{constant_of}
+use Rattle.wasm_sections.specs.Sections.{SectionAt, first_with}
+use Rattle.wasm_sections.specs.Views.{IsExportKind}
+use Rattle.wasm_sections.specs.GivenContents.{contents_in}
 
 -- ---- exports (binary format, export section)
 
@@ -32,36 +30,6 @@ export_of name kind index = entry name ++ kind ∷ short_number index
 -- What has this index in this index space is exported under a name.
 abbrev pub AddsExport : (all : List SectionAt) → (old new : Changes) → (name : List ℕ) → Space → (index : ℕ) → Type 0
 AddsExport all old new name space index = (kind : ℕ) × IsExportKind space kind × AddsItem all old new 7 (export_of name kind index)
-
--- ---- globals (binary format, global section, value types, expressions)
-
--- the operator whose result is this value
-abbrev pub constant_operation : Value → RawOperation
-constant_operation (I32 z) = operation (Byte 0x41) (i32 z ∷ [])
-constant_operation (I64 z) = operation (Byte 0x42) (i64 z ∷ [])
-constant_operation (F32 bits) = operation (Byte 0x43) (f32 bits ∷ [])
-constant_operation (F64 bits) = operation (Byte 0x44) (f64 bits ∷ [])
-constant_operation (V128 bits) = operation (Prefixed 0xfd 12) (v128 bits ∷ [])
-
--- a constant expression with this value: the operator, and the `end`
-abbrev pub constant_of : Value → List ℕ
-constant_of value = short (constant_operation value) ++ 0x0b ∷ []
-
--- the byte of the type of a value
-abbrev pub type_byte : Value → ℕ
-type_byte (I32 z) = 0x7f
-type_byte (I64 z) = 0x7e
-type_byte (F32 bits) = 0x7d
-type_byte (F64 bits) = 0x7c
-type_byte (V128 bits) = 0x7b
-
-abbrev pub mutability : (is_mutable : Bool) → ℕ
-mutability false = 0
-mutability true = 1
-
--- a global with this initial value
-abbrev pub global_of : Value → (is_mutable : Bool) → List ℕ
-global_of value is_mutable = type_byte value ∷ mutability is_mutable ∷ constant_of value
 
 -- ---- function types (binary format, types)
 

@@ -3,14 +3,14 @@
 use Rattle.std.specs.Prelude.{◌≡◌, ◌≢◌, ◌+◌, ℕ, List, [], ◌∷◌, length, Option, Some, None, Ok}
 use Rattle.wasm_operators.specs.declared.types.Space.TheVariants.{Types, Funcs}
 use Rattle.walrus_maps.specs.IndexMaps.{number_of}
-use Rattle.wasm_module.specs.declared.changes.Changes.{Changes}
+use Rattle.wasm_sections.specs.declared.changes.Changes.{Changes}
 use Rattle.wasm_module.specs.declared.parsed.ParsedModule.{ParsedModule}
-use Rattle.wasm_module.specs.declared.sections.SectionKind.{SectionKind}
-use Rattle.wasm_module.specs.declared.sections.SectionKind.TheVariants as section
-use Rattle.wasm_module.specs.Additions.{AddsItem}
-use Rattle.wasm_module.specs.MovedFunctions.{AreMovedContents, AreRenumbered, import_of}
-use Rattle.wasm_module.specs.Sections.{SectionAt, first_with, id_of}
-use Rattle.wasm_module.specs.WrittenModules.{contents_in}
+use Rattle.wasm_sections.specs.declared.sections.SectionKind.{SectionKind}
+use Rattle.wasm_sections.specs.declared.sections.SectionKind.TheVariants as section
+use Rattle.wasm_sections.specs.Additions.{AddsItem}
+use Rattle.wasm_sections.specs.MovedFunctions.{AreMovedContents, AreRenumbered, import_of}
+use Rattle.wasm_sections.specs.Sections.{SectionAt, first_with, id_of}
+use Rattle.wasm_sections.specs.GivenContents.{contents_in}
 
 -- ---- sections
 

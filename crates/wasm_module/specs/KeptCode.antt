@@ -1,13 +1,13 @@
 -- Bodies that are kept from the first pass over a module to the second, as they are written (WebAssembly core specification 3.0,
 -- binary format, code section).
 use Rattle.std.specs.Prelude.{◌≡◌, ◌+◌, ℕ, List, [], ◌∷◌, ◌++◌, length, slice_get, Some}
-use Rattle.wasm_module.specs.declared.code.Body.{Body}
+use Rattle.wasm_sections.specs.declared.code.Body.{Body}
 use Rattle.wasm_module.specs.declared.changing.kept_bodies.KeptBodies.{KeptBodies}
 use Rattle.wasm_module.specs.declared.changing.kept_bodies.KeptBody.{KeptBody}
 use Rattle.wasm_module.specs.declared.parsed.ParsedModule.{ParsedModule}
-use Rattle.wasm_module.specs.CodeSections.{BodyAt, IsCode, code_section, body_at}
+use Rattle.wasm_sections.specs.CodeSections.{BodyAt, IsCode, code_section, body_at}
 use Rattle.wasm_module.specs.RewrittenCode.{OneChange, FunctionChange, IsChanged, AreChanged}
-use Rattle.wasm_module.specs.Sections.{SectionAt}
+use Rattle.wasm_sections.specs.Sections.{SectionAt}
 use Rattle.wasm_module.specs.WrittenModules.{Writes, count_bodies}
 
 -- the bodies of the source for which bytes are kept, in order

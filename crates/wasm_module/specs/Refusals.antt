@@ -15,12 +15,12 @@ use Rattle.walrus_numbering.specs.NumberMaps.{numbers_by}
 use Rattle.walrus_rewrite.specs.declared.error.RewriteError.{RewriteError}
 use Rattle.walrus_rewrite.specs.declared.error.RewriteError.TheVariants.{Parse, Walk, Emit}
 use Rattle.walrus_rewrite.specs.RawBodies.{HasNoParsedBody}
-use Rattle.wasm_module.specs.declared.fault.ModuleError.{ModuleError}
-use Rattle.wasm_module.specs.declared.fault.ModuleFault.TheVariants.{Memory}
+use Rattle.wasm_sections.specs.declared.fault.ModuleError.{ModuleError}
+use Rattle.wasm_sections.specs.declared.fault.ModuleFault.TheVariants.{Memory}
 use Rattle.wasm_module.specs.declared.parsed.ParsedModule.{ParsedModule}
-use Rattle.wasm_module.specs.CodeSections.{BodyAt}
-use Rattle.wasm_module.specs.Declarations.{parameters_of, HaveLocals, max_locals}
-use Rattle.wasm_module.specs.LocalsBelow.{locals_below}
+use Rattle.wasm_sections.specs.CodeSections.{BodyAt}
+use Rattle.wasm_sections.specs.Declarations.{parameters_of, HaveLocals, max_locals}
+use Rattle.wasm_sections.specs.LocalsBelow.{locals_below}
 use Rattle.wasm_module.specs.RewrittenCode.{Enters}
 
 -- the place in the file of a fault of a body that begins at this place

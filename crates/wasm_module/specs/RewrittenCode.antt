@@ -1,8 +1,6 @@
 -- Bodies that are rewritten: each as `walrus_rewrite::rewrite_body` writes the body of the source (WebAssembly core
 -- specification 3.0, binary format, code section).
 use Rattle.std.specs.Prelude.{◌≡◌, ◌+◌, ◌-◌, ◌<◌, ℕ, List, [], ◌∷◌, ◌++◌, length, slice_get, Some, None, Ok}
-use Rattle.std.specs.Ordering.{nat_cmp}
-use Rattle.std.specs.FinMap.{FinMap}
 use Rattle.wasm_types.specs.declared.val_type.ValType.{ValType}
 use Rattle.walrus_ir.specs.Types.{ModuleType}
 use Rattle.wasm_body.specs.SourceTree.{Body}
@@ -19,18 +17,12 @@ use Rattle.walrus_numbering.specs.NumberMaps.{numbers_by}
 use Rattle.walrus_rewrite.specs.RawBodies.{emit_input, IsRawBody, IsRawBodyOf}
 use Rattle.walrus_rewrite.specs.RewrittenBodies.{KeepsSource}
 use Rattle.wasm_module.specs.declared.parsed.ParsedModule.{ParsedModule}
-use Rattle.wasm_module.specs.declared.spaces.Spaces.{Spaces}
-use Rattle.wasm_module.specs.CodeSections.{BodyAt}
-use Rattle.wasm_module.specs.Declarations.{parameters_of, HaveLocals, first_numbers}
-use Rattle.wasm_module.specs.LocalsBelow.{locals_below}
+use Rattle.wasm_sections.specs.OtherLocals.{HasOtherLocals}
+use Rattle.wasm_sections.specs.CodeSections.{BodyAt}
+use Rattle.wasm_sections.specs.Declarations.{parameters_of, HaveLocals, first_numbers}
+use Rattle.wasm_sections.specs.LocalsBelow.{locals_below}
 
 -- ---- the module, as bodies are rewritten one after the other
-
--- only the locals of a function differ
-pub record HasOtherLocals (old new : Spaces) : Type 0 where
-  pub locals : FinMap nat_cmp (List ℕ)
-  pub indices : new.indices ≡ record old.indices { locals = locals }
-  pub numbers : new.numbers ≡ old.numbers
 
 -- Everything of the source is unchanged; types may be added after its own, and the locals are those of one body at a time.
 pub record Extends (source now : ParsedModule) : Type 0 where

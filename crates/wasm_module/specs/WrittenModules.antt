@@ -1,16 +1,17 @@
 -- Modules that are written (WebAssembly core specification 3.0, binary format, modules), section by section. Each is unchanged,
 -- except the code section, sections that are given new contents, custom sections that are changed along with the code, and
 -- debug information that is left out.
-use Rattle.std.specs.Prelude.{◌≡◌, ◌≢◌, ◌⊎◌, ◌+◌, ◌-◌, ℕ, zero, suc, List, [], ◌∷◌, ◌++◌, length, Bool, true, ◌==◌, ◌&&◌, nat_lt, if◌then◌else◌, Option, Some, None, Ok, codes}
+use Rattle.std.specs.Prelude.{◌≡◌, ◌≢◌, ◌⊎◌, ◌+◌, ◌-◌, ℕ, zero, suc, List, [], ◌∷◌, ◌++◌, length, Bool, true, ◌&&◌, nat_lt, if◌then◌else◌, Option, Some, None, Ok, codes}
 use Rattle.std.specs.Io.KnownBytes.{Appends}
 use Rattle.wasm_numbers.specs.Numbers.{u32}
 use Rattle.wasm_operators.specs.Shortest.{short_number}
-use Rattle.wasm_module.specs.declared.changes.Changes.{Changes}
-use Rattle.wasm_module.specs.declared.changes.NewContents.{NewContents}
+use Rattle.wasm_sections.specs.declared.changes.Changes.{Changes}
+use Rattle.wasm_sections.specs.declared.changes.NewContents.{NewContents}
 use Rattle.wasm_module.specs.declared.parsed.ParsedModule.{ParsedModule}
 use Rattle.wasm_module.specs.declared.rewriting.RewrittenModule.{RewrittenModule}
-use Rattle.wasm_module.specs.CodeSections.{BodyAt, IsCode, code_section, entry}
-use Rattle.wasm_module.specs.Sections.{preamble, section, SectionAt, IsModule, rank, next_rank, id_of}
+use Rattle.wasm_sections.specs.CodeSections.{BodyAt, IsCode, code_section, entry}
+use Rattle.wasm_sections.specs.GivenContents.{contents_in, added_bodies}
+use Rattle.wasm_sections.specs.Sections.{preamble, section, SectionAt, IsModule, rank, next_rank, id_of}
 
 -- Bytes go to a writer, whose contents may be known, and the place moves from `at` to `end`, after them.
 pub record Puts (old new : Option (List ℕ)) (at end : ℕ) (bytes : List ℕ) : Type 0 where
@@ -22,11 +23,6 @@ pub record Puts (old new : Option (List ℕ)) (at end : ℕ) (bytes : List ℕ) 
 -- the new contents that are given for a module
 abbrev pub new_contents_in : {B : Type 0} → RewrittenModule B → List NewContents
 new_contents_in m = m.changes.given.items
-
--- the contents that are given for the section with this id, if any
-abbrev pub contents_in : List NewContents → (id : ℕ) → Option (List ℕ)
-contents_in [] id = None
-contents_in (g ∷ gs) id = if id_of g.kind == id then Some g.contents.items else contents_in gs id
 
 -- whether the rank of a given section is between these two
 abbrev pub is_between : ℕ → ℕ → NewContents → Bool
@@ -82,15 +78,6 @@ pub record IsOmitted (changes : Changes) (s : SectionAt) : Type 0 where
       ((changes.omits_debug ≡ true) × HasDebugName s.contents) ⊎ ((changes.omits_source_map ≡ true) × HasSourceMapName s.contents)
 
 -- ---- bodies
-
--- the contents of a code section, or those of one without bodies
-abbrev pub bodies_or_none : Option (List ℕ) → List ℕ
-bodies_or_none (Some contents) = contents
-bodies_or_none None = 0 ∷ []
-
--- the bodies that changes add to the code section, as the contents of one: their number, and each after its size
-abbrev pub added_bodies : Changes → List ℕ
-added_bodies changes = bodies_or_none (contents_in changes.given.items 10)
 
 -- The contents of a section that has the items of two, one after the other: their number is the sum.
 pub record HasItemsOf (first second contents : List ℕ) : Type 0 where

@@ -2,21 +2,20 @@
 
 ghost use Rattle.std.specs.Prelude.{◌≡◌, ℕ, List, length, OnOk, IfOk, IfErr};
 ghost use Rattle.walrus_rewrite.specs.RawBodies.{emit_input, IsRawBodyOf};
-ghost use Rattle.wasm_module.specs.CodeSections.{body_at};
+ghost use Rattle.wasm_sections.specs.CodeSections.{body_at};
 ghost use Rattle.wasm_module.specs.RewrittenCode.{Extends, IsRewritten, IsParsed};
 ghost use Rattle.wasm_module.specs.Refusals.{IsRefused, IsNotRewritten};
 
 use crate::body_context::BodyContext;
-use crate::code::Body;
-use crate::fault::{ModuleError, ModuleFault};
+use crate::body_errors::body_error;
 use crate::large_bodies::Counter;
-use crate::locals::LocalsBelow;
 use crate::parsed::ParsedModule;
 use std::alloc::Global;
 use walrus_body::{EmitError, LocalFunction, ParseError};
 use walrus_flat::{ByteSink, FlatScratch, rewrite_flat, rewrite_flat_to};
 use walrus_ir::{Instr, InstrLocId};
 use walrus_rewrite::{RewriteError, append_raw_body_with_map, rewrite_body};
+use wasm_sections::{Body, LocalsBelow, ModuleError, ModuleFault};
 
 /// Memory that is lent to one body after the other, and the result of the last.
 #[derive(Drop)]
@@ -78,7 +77,7 @@ macro_rules! rewrite_once {
         );
         match rewritten {
             Ok(function) => Ok(function),
-            Err(error) => Err(ModuleError::of_body(error, $body.start())),
+            Err(error) => Err(body_error(error, $body.start())),
         }
     }};
 }
@@ -110,7 +109,7 @@ macro_rules! rewrite_flat_once {
         );
         match rewritten {
             Ok(()) => Ok(()),
-            Err(error) => Err(ModuleError::of_body(error, $body.start())),
+            Err(error) => Err(body_error(error, $body.start())),
         }
     }};
 }
@@ -251,7 +250,7 @@ impl<'a> ParsedModule<'a> {
         );
         match rewritten {
             Ok(()) => Ok(()),
-            Err(error) => Err(ModuleError::of_body(error, body.start())),
+            Err(error) => Err(body_error(error, body.start())),
         }
     }
 
@@ -432,7 +431,7 @@ impl<'a> ParsedModule<'a> {
         );
         match parsed {
             Ok(function) => Ok(function),
-            Err(failure) => Err(ModuleError::of_body(RewriteError::Parse(failure), body.start())),
+            Err(failure) => Err(body_error(RewriteError::Parse(failure), body.start())),
         }
     }
 
@@ -494,7 +493,7 @@ impl<'a> ParsedModule<'a> {
         let numbers = &self.spaces.numbers;
         match append_raw_body_with_map(function, &self.module, numbers, raw, pairs) {
             Ok(()) => Ok(()),
-            Err(error) => Err(ModuleError::of_body(error, start)),
+            Err(error) => Err(body_error(error, start)),
         }
     }
 }

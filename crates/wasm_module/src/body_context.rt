@@ -3,18 +3,16 @@
 ghost use Rattle.std.specs.Prelude.{◌≡◌, ◌≤◌, ◌⊎◌, length, slice_get, Some, OnOk, IfOk, IfErr};
 ghost use Rattle.walrus_parser.specs.Bodies.{body_operators};
 ghost use Rattle.wasm_module.specs.Bodies.{IsWithin};
-ghost use Rattle.wasm_module.specs.CodeSections.{place_of, bytes_of, body_at};
-ghost use Rattle.wasm_module.specs.declared.fault.ModuleFault.TheVariants.{Memory};
-ghost use Rattle.wasm_module.specs.Declarations.{HaveLocals, parameters_of, first_numbers, max_locals};
+ghost use Rattle.wasm_sections.specs.CodeSections.{place_of, bytes_of, body_at};
+ghost use Rattle.wasm_sections.specs.declared.fault.ModuleFault.TheVariants.{Memory};
+ghost use Rattle.wasm_sections.specs.Declarations.{HaveLocals, parameters_of, first_numbers, max_locals};
 ghost use Rattle.wasm_module.specs.Refusals.{HasNoFront};
 ghost use Rattle.wasm_module.specs.RewrittenCode.{Extends, Enters};
 
-use crate::code::Body;
-use crate::fault::{ModuleError, ModuleFault};
-use crate::locals::{Locals, MAX_LOCALS, arguments};
 use crate::parsed::ParsedModule;
 use walrus_body::FunctionBody;
 use walrus_ir::{LocalId, ModuleLocals, TypeId};
+use wasm_sections::{Body, Locals, MAX_LOCALS, ModuleError, ModuleFault, arguments};
 
 /// The arguments of parsing a function's body.
 #[derive(Drop)]

@@ -4,16 +4,15 @@ ghost use Rattle.std.specs.Prelude.{◌≡◌, ℕ, List, length, OnOk, IfOk};
 ghost use Rattle.wasm_types.specs.declared.val_type.ValType.{ValType as ValueType};
 ghost use Rattle.walrus_body.specs.FunctionParts.{FunctionParts};
 ghost use Rattle.wasm_module.specs.declared.parsed.ParsedModule.{ParsedModule as Parsed};
-ghost use Rattle.wasm_module.specs.CodeSections.{BodyAt, body_at};
+ghost use Rattle.wasm_sections.specs.CodeSections.{BodyAt, body_at};
 ghost use Rattle.wasm_module.specs.RewrittenCode.{Extends, IsRewritten};
 
 use crate::bodies::Scratch;
-use crate::code::Body;
-use crate::fault::{ModuleError, ModuleFault};
 use crate::parsed::ParsedModule;
 use walrus_body::LocalFunction;
 use walrus_flat::ByteSink;
 use walrus_ir::ModuleLocals;
+use wasm_sections::{Body, ModuleError, ModuleFault};
 
 /// What is needed of a body besides its bytes.
 #[derive(Clone, Copy, Debug, PartialEq, Eq)]

@@ -4,7 +4,7 @@
 
 ghost use Rattle.std.specs.Prelude.{◌≡◌, [], OnOk, IfOk};
 ghost use Rattle.wasm_module.specs.declared.parsed.ParsedModule.{ParsedModule as Parsed};
-ghost use Rattle.wasm_module.specs.CodeSections.{body_at};
+ghost use Rattle.wasm_sections.specs.CodeSections.{body_at};
 ghost use Rattle.wasm_module.specs.KeptCode.{AreKept, KeepsChanged};
 ghost use Rattle.wasm_module.specs.RewrittenCode.{Extends, IsChanged};
 ghost use Rattle.wasm_module.specs.WrittenModules.{new_contents_in};
@@ -13,15 +13,12 @@ pub(crate) mod kept_bodies;
 
 use crate::bodies::Scratch;
 use crate::body_writer::ChangeFunction;
-use crate::changes::Changes;
 use crate::changing::kept_bodies::KeptBodies;
-use crate::code::Body;
 use crate::custom::Followers;
-use crate::fault::{ModuleError, ModuleFault};
-use crate::output::number_len;
 use crate::parsed::ParsedModule;
 use crate::rewriting::RewrittenModule;
 use walrus_body::LocalFunction;
+use wasm_sections::{Body, Changes, ModuleError, ModuleFault, number_len};
 
 impl<'a> ParsedModule<'a> {
     /// Parses a body, changes its function and its locals, and puts the raw body of the changed

@@ -5,23 +5,21 @@
 ghost use Rattle.std.specs.Prelude.{IsTrue};
 ghost use Rattle.wasm_module.specs.WrittenModules.{HasFollowedName, HasDebugName, HasSourceMapName};
 
-pub(crate) mod function_items;
 pub(crate) mod labels;
 
 use crate::bodies::Scratch;
+use crate::body_errors::body_error;
 use crate::body_writer::Needed;
-use crate::code::Body;
-use crate::custom::function_items::{FunctionItems, Item};
 use crate::custom::labels::follow_labels;
-use crate::fault::{ModuleError, ModuleFault};
-use crate::importing::moved_functions::FunctionNumbers;
-use crate::input::Input;
 use crate::parsed::ParsedModule;
-use crate::sections::{Section, SectionKind};
 use std::alloc::Global;
 use walrus_body::LocalFunction;
 use walrus_ir::{IdHashMap, InstrLocId, LocalId};
 use walrus_rewrite::RewriteError;
+use wasm_sections::{
+    Body, FunctionItems, FunctionNumbers, Input, Item, ModuleError, ModuleFault, Section,
+    SectionKind,
+};
 
 /// The greatest number of custom sections that are changed along with the code. Further ones are
 /// copied unchanged.
@@ -162,11 +160,11 @@ fn local_numbers(
     }
     let facts = match function.emit_facts() {
         Ok(facts) => facts,
-        Err(error) => return Err(ModuleError::of_body(RewriteError::Walk(error), start)),
+        Err(error) => return Err(body_error(RewriteError::Walk(error), start)),
     };
     match function.emit_locals(&parsed.module, &parsed.spaces.numbers, &facts.used_locals) {
         Ok((_, numbers)) => Ok(numbers),
-        Err(error) => Err(ModuleError::of_body(RewriteError::Emit(error), start)),
+        Err(error) => Err(body_error(RewriteError::Emit(error), start)),
     }
 }
 

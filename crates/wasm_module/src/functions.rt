@@ -1,62 +1,11 @@
-//! The functions of a module, imported ones first.
+//! The functions of a module, parsed one after the other.
 
 ghost use Rattle.wasm_module.specs.RewrittenCode.{Extends};
 
 use crate::bodies::Scratch;
-use crate::code::{Bodies, Body};
-use crate::fault::ModuleError;
 use crate::parsed::ParsedModule;
 use walrus_body::LocalFunction;
-use walrus_ir::TypeId;
-
-/// A function of a module that was read.
-#[derive(Clone, Copy)]
-pub struct Function<'a> {
-    /// Its index.
-    pub index: usize,
-    /// Its type, for `ParsedModule::params` and `ParsedModule::results`.
-    pub ty: TypeId,
-    /// Its body; `None` if it is imported.
-    pub body: Option<Body<'a>>,
-}
-
-/// The functions of a module by index, each with its type and its body.
-#[derive(Clone, Copy)]
-pub struct Functions<'p, 'a> {
-    /// The types of the functions that are left.
-    pub(crate) types: &'p [TypeId],
-    /// The number of functions.
-    pub(crate) total: usize,
-    /// The number of imported functions.
-    pub(crate) imported: usize,
-    /// The bodies of the functions that are left.
-    pub(crate) bodies: Bodies<'a>,
-}
-
-impl<'p, 'a> Iterator for Functions<'p, 'a> {
-    ghost use Rattle.std.specs.Prelude.{length};
-    ghost use Rattle.std.specs.Iterator.{at_most};
-    ghost use Rattle.wasm_module.specs.Views.{TakesFunction};
-
-    type Item = Function<'a>;
-
-    ghost next_gives = { TakesFunction };
-
-    ghost remaining = { λ s. at_most (length s.types.now) };
-
-    fn next(&mut self) -> Option<Function<'a>> {
-        let index = self.total.saturating_sub(self.types.len());
-        let (ty, types) = self.types.split_first()?;
-        let ty = *ty;
-        self.types = types;
-        let body = if index < self.imported {
-            None
-        } else {
-            self.bodies.next()
-        };
-        Some(Function { index, ty, body })
-    }
-}
+use wasm_sections::{Body, ModuleError};
 
 impl<'a> ParsedModule<'a> {
     /// Parses a body, and passes its function on.

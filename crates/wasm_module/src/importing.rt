@@ -4,22 +4,17 @@
 ghost use Rattle.std.specs.Prelude.{◌≡◌, ◌+◌, List, Ok, IfOk, OnOk, OnErr, option_map};
 ghost use Rattle.wasm_operators.specs.declared.types.Space.TheVariants.{Types};
 ghost use Rattle.walrus_maps.specs.IndexMaps.{number_of};
-ghost use Rattle.wasm_module.specs.MovedFunctions.{import_of};
+ghost use Rattle.wasm_sections.specs.MovedFunctions.{import_of};
 ghost use Rattle.wasm_module.specs.ImportedFunctions.{contents_if, AreMovedIf, MovesSection, MoveSections, naming_functions, ImportsFunction, AddsImport, HasOneImportMore, IsNextFunction, IsWrittenFunction};
-ghost use Rattle.wasm_module.specs.Sections.{SectionAt, IsModule, id_of};
+ghost use Rattle.wasm_sections.specs.Sections.{SectionAt, IsModule, id_of};
 
-pub(crate) mod moved_functions;
-pub(crate) mod renumbering;
-
-use crate::changes::Changes;
-use crate::fault::{ModuleError, ModuleFault};
-use crate::importing::moved_functions::FunctionNumbers;
-use crate::output::{write_bytes, write_number};
 use crate::parsed::ParsedModule;
-use crate::sections::SectionKind;
 use std::alloc::Global;
 use walrus_body::ParseError;
 use walrus_ir::{FunctionId, TypeId};
+use wasm_sections::{
+    Changes, FunctionNumbers, ModuleError, ModuleFault, SectionKind, write_bytes, write_number,
+};
 
 /// The kind of imported functions (WebAssembly core specification 3.0, binary format, imports).
 const IMPORTED_FUNCTION: u8 = 0;

@@ -8,10 +8,7 @@ ghost use Rattle.wasm_module.specs.Pieces.{counts_nothing, counts_both, appends_
 use std::io;
 use std::io::Write;
 use walrus_flat::ByteSink;
-
-/// A body of more bytes is written in pieces of about so many, after its size, which is counted
-/// first.
-pub(crate) const PIECE: usize = 0x1_0000;
+use wasm_sections::PIECE;
 
 /// Counts the bytes of a body.
 #[derive(Drop)]

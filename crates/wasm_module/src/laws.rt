@@ -5,7 +5,7 @@ ghost use Rattle.wasm_module.specs.declared.changing.kept_bodies.KeptBodies.{Kep
 ghost use Rattle.wasm_module.specs.declared.parsed.ParsedModule.{ParsedModule as Parsed};
 ghost use Rattle.wasm_module.specs.KeptCode.{IsKept, AreKept, IsChangedCode};
 ghost use Rattle.wasm_module.specs.RewrittenCode.{Extends};
-ghost use Rattle.wasm_module.specs.Sections.{SectionAt};
+ghost use Rattle.wasm_sections.specs.Sections.{SectionAt};
 ghost use Rattle.wasm_module.specs.WrittenModules.{IsWrittenCode};
 
 use crate::body_writer::ChangeFunction;

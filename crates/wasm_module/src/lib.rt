@@ -5,63 +5,37 @@
 mod adding;
 mod bodies;
 mod body_context;
+mod body_errors;
 mod body_writer;
-mod changes;
 mod changing;
-mod code;
-mod constant;
-mod constants;
 mod custom;
-mod exports;
-mod fault;
 mod functions;
-mod globals;
 mod importing;
-mod imports;
-mod input;
 mod large_bodies;
 mod laws;
-mod limits;
-mod locals;
 mod map_sink;
-mod memories;
 mod missing;
-mod names;
-mod output;
 mod parsed;
 mod references;
 mod rewriting;
-mod sections;
-mod segments;
 mod source_map_url;
-mod spaces;
-mod tables;
-mod tags;
-mod types;
 mod views;
 mod writing;
 
 pub use bodies::Scratch;
 pub use body_writer::{BodyWriter, ChangeFunction, Needed, Rewriting};
-pub use changes::Changes;
 pub use changing::kept_bodies::KeptBodies;
-pub use code::{Bodies, Body};
 pub use custom::{Note, NoteKind};
-pub use exports::{Export, Exports};
-pub use fault::{FaultName, ModuleError, ModuleFault};
-pub use functions::{Function, Functions};
-pub use globals::{DefinedGlobal, GlobalType, Globals};
-pub use imports::{Import, Imported, Imports};
 pub use laws::law_changed_code;
-pub use limits::Limits;
 pub use map_sink::{MapLines, MapSink, WrittenBody};
-pub use memories::{DefinedMemory, Memories};
-pub use names::{NamedFunction, NamedFunctions};
 pub use parsed::ParsedModule;
 pub use rewriting::RewrittenModule;
-pub use sections::{Section, SectionKind, Sections};
 pub use source_map_url::write_source_map_url;
-pub use tables::{DefinedTable, TableType, Tables};
-pub use tags::{DefinedTag, Tags};
 pub use walrus_flat::ByteSink;
+pub use wasm_sections::{
+    Bodies, Body, Changes, DefinedGlobal, DefinedMemory, DefinedTable, DefinedTag, Export, Exports,
+    FaultName, Function, Functions, GlobalType, Globals, Import, Imported, Imports, Limits,
+    Memories, ModuleError, ModuleFault, NamedFunction, NamedFunctions, Section, SectionKind,
+    Sections, TableType, Tables, Tags,
+};
 pub use writing::WriteError;

@@ -2,17 +2,16 @@
 //! `try` constructs.
 
 ghost use Rattle.std.specs.Prelude.{◌≡◌, IfErr};
-ghost use Rattle.wasm_module.specs.declared.fault.ModuleFault.TheVariants.{Memory};
-ghost use Rattle.wasm_module.specs.Declarations.{parameters_of, results_of};
+ghost use Rattle.wasm_sections.specs.declared.fault.ModuleFault.TheVariants.{Memory};
+ghost use Rattle.wasm_sections.specs.Declarations.{parameters_of, results_of};
 ghost use Rattle.wasm_module.specs.RewrittenCode.{Extends};
 
-use crate::code::Body;
 use crate::custom::labels::opened;
-use crate::fault::ModuleError;
 use crate::parsed::ParsedModule;
 use walrus_body::value_type;
 use walrus_ir::{InstrSeqType, TypeId, ValType};
 use wasm_ops::{BlockType, Operator, Reader};
+use wasm_sections::{Body, ModuleError};
 
 impl<'a> ParsedModule<'a> {
     /// The parameters of functions of this type; none if it isn't a function type.

@@ -1,19 +1,16 @@
 //! A module that was read.
 ghost use Rattle.std.specs.Prelude.{◌≡◌, ◌<◌, ◌≤◌, ◌↔◌, List, length, nat_lt, IsTrue, IfOk};
-ghost use Rattle.wasm_module.specs.Sections.{SectionAt, IsModule, next_rank};
+ghost use Rattle.wasm_sections.specs.Sections.{SectionAt, IsModule, next_rank};
 ghost use Rattle.wasm_module.specs.WrittenModules.{count_bodies};
 
-use crate::code::Bodies;
-use crate::fault::{ModuleError, ModuleFault};
-use crate::imports::Imported;
-use crate::input::Input;
-use crate::sections::{RANKS, Section, SectionKind, Sections};
-use crate::spaces::Spaces;
-use crate::types::{TypeKind, TypeReader, count_types};
 use std::alloc::Global;
 use walrus_body::{IndexError, ParseError, Space, value_type};
 use walrus_ir::{FunctionId, Module, ModuleLocals, ModuleTags, ModuleTypes, TypeId, ValType};
 use wasm_ops::RawValType;
+use wasm_sections::{
+    Bodies, Imported, Input, ModuleError, ModuleFault, RANKS, Section, SectionKind, Sections,
+    Spaces, TypeKind, TypeReader, count_types,
+};
 
 /// A module that was read: the data that is needed to parse the bodies of its functions, and their
 /// places. All ids are the indices, and types that bodies need and the module lacks come after its

@@ -1,13 +1,11 @@
 //! The functions that a module names outside of bodies (WebAssembly core specification 3.0, structure,
 //! modules).
 
-use crate::fault::ModuleError;
-use crate::input::Input;
 use crate::parsed::ParsedModule;
-use crate::sections::SectionKind;
 use walrus_body::Space;
 use walrus_ir::FunctionId;
 use wasm_ops::{Operator, Reader, ReferenceOp};
+use wasm_sections::{Input, ModuleError, SectionKind};
 
 /// The function that an operator of a constant expression names, and whether it is the last one.
 fn named(operator: &Operator<'_>) -> (Option<u32>, bool) {

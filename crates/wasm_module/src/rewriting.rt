@@ -4,20 +4,16 @@
 
 ghost use Rattle.std.specs.Prelude.{◌≡◌, [], true, IsTrue, OnOk, IfOk, IfSome, IfNone};
 ghost use Rattle.wasm_module.specs.RewrittenCode.{Extends};
-ghost use Rattle.wasm_module.specs.Sections.{section_at};
+ghost use Rattle.wasm_sections.specs.Sections.{section_at};
 ghost use Rattle.wasm_module.specs.WrittenModules.{new_contents_in, IsReplacedBy, IsCarriedOver, IsOmitted};
 
 use crate::bodies::Scratch;
 use crate::body_writer::{BodyWriter, Needed, Rewriting};
-use crate::changes::Changes;
-use crate::code::Body;
 use crate::custom::{
     Followed, Followers, Note, contents_at, follows_code, holds_debug, names_source_map,
 };
-use crate::fault::ModuleError;
-use crate::output::number_len;
 use crate::parsed::ParsedModule;
-use crate::sections::{Section, SectionKind};
+use wasm_sections::{Body, Changes, ModuleError, Section, SectionKind, number_len};
 
 /// A module that can be written: how its bodies are written, new contents of sections, and the size
 /// of its code section. `ParsedModule::write_module` writes it.

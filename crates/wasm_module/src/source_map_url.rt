@@ -3,15 +3,13 @@
 
 ghost use Rattle.std.specs.Prelude.{◌≡◌, IfOk, OnOk};
 ghost use Rattle.std.specs.Io.KnownBytes.{Appends};
-ghost use Rattle.wasm_module.specs.Sections.{section as whole_section};
+ghost use Rattle.wasm_sections.specs.Sections.{section as whole_section};
 ghost use Rattle.wasm_module.specs.WrittenModules.{url_contents};
 
-use crate::fault::ModuleError;
-use crate::output::write_bytes;
-use crate::sections::SectionKind;
 use crate::writing::{WriteError, put_section};
 use std::alloc::Global;
 use std::io::Write;
+use wasm_sections::{ModuleError, SectionKind, write_bytes};
 
 /// The contents of a custom section `sourceMappingURL` of this URL.
 fn contents_of(alloc: Global, url: &str) -> Result<Vec<u8>, ModuleError>

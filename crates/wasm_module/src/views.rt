@@ -1,56 +1,16 @@
 //! Views of a module that was read: its sections by kind, and the items in them. They take no
 //! memory.
 
-ghost use Rattle.std.specs.Prelude.{◌≡◌, List, length, option_map, Ok, IfOk, IfSome};
-ghost use Rattle.wasm_numbers.specs.Numbers.{u32};
-ghost use Rattle.wasm_module.specs.Sections.{SectionAt, IsModule, first_with, id_of, section_at};
-ghost use Rattle.wasm_module.specs.Views.{HasItems, HasBodies, HasSomeItems, HasStart};
+ghost use Rattle.std.specs.Prelude.{◌≡◌, List, length, option_map, IfOk, IfSome};
+ghost use Rattle.wasm_sections.specs.Sections.{SectionAt, IsModule, first_with, id_of, section_at};
+ghost use Rattle.wasm_sections.specs.Views.{HasItems, HasBodies, HasSomeItems, HasStart};
 
-use crate::code::{Bodies, Body};
-use crate::exports::Exports;
-use crate::fault::ModuleError;
-use crate::functions::Functions;
-use crate::globals::Globals;
-use crate::imports::Imports;
-use crate::input::Input;
-use crate::memories::Memories;
 use crate::parsed::ParsedModule;
-use crate::sections::{Section, SectionKind, Sections};
-use crate::tables::Tables;
-use crate::tags::Tags;
 use walrus_ir::FunctionId;
-
-/// The items of a section that are left, and their number.
-#[derive(Clone, Copy)]
-pub(crate) struct Items<'a> {
-    pub left: Input<'a>,
-    pub count: u32,
-}
-
-impl<'a> Items<'a> {
-    /// The items of a section or a subsection with these contents, which begin with their number.
-    pub fn of_contents(contents: Input<'a>) -> Result<Items<'a>, ModuleError>
-        ensures count { IfOk result (λ items. u32 contents.entry.rest.now
-            ≡ Ok (items.count, items.left.rest.now)) }
-        ensures end { IfOk result (λ items. items.left.end ≡ contents.entry.end) }
-    {
-        let mut left = contents;
-        match left.number() {
-            Ok(count) => Ok(Items { left, count }),
-            Err(error) => Err(error),
-        }
-    }
-
-    /// No items.
-    pub fn none() -> Items<'static>
-        ensures { result.count ≡ 0 }
-    {
-        Items {
-            left: Input::new(&[]),
-            count: 0,
-        }
-    }
-}
+use wasm_sections::{
+    Bodies, Body, Exports, Functions, Globals, Imports, Items, Memories, ModuleError, Section,
+    SectionKind, Sections, Tables, Tags,
+};
 
 impl<'a> ParsedModule<'a> {
     /// The section of this kind, if there is one. Of custom sections it is the first.

@@ -5,25 +5,25 @@ ghost use Rattle.std.specs.Prelude.{◌≡◌, ◌+◌, ℕ, List, [], ◌∷◌
 ghost use Rattle.std.specs.Io.KnownBytes.{Appends};
 ghost use Rattle.wasm_operators.specs.Shortest.{short_number};
 ghost use Rattle.wasm_module.specs.declared.parsed.ParsedModule.{ParsedModule as Parsed};
-ghost use Rattle.wasm_module.specs.CodeSections.{body_at, entry};
+ghost use Rattle.wasm_sections.specs.CodeSections.{body_at, entry};
 ghost use Rattle.wasm_module.specs.RewrittenCode.{Extends};
-ghost use Rattle.wasm_module.specs.Sections.{id_of, section as whole_section, section_at, SectionAt, IsModule};
-ghost use Rattle.wasm_module.specs.WrittenModules.{Puts, new_contents_in, between, new_after, added_bodies, HasItemsOf, IsWrittenCode, IsWrittenFor, IsWrittenAt, IsWrittenModule};
+ghost use Rattle.wasm_sections.specs.Sections.{id_of, section as whole_section, section_at, SectionAt, IsModule};
+ghost use Rattle.wasm_sections.specs.GivenContents.{added_bodies};
+ghost use Rattle.wasm_module.specs.WrittenModules.{Puts, new_contents_in, between, new_after, HasItemsOf, IsWrittenCode, IsWrittenFor, IsWrittenAt, IsWrittenModule};
 
 use crate::bodies::Scratch;
 use crate::body_writer::{BodyWriter, Needed};
-use crate::changes::Changes;
-use crate::code::{Bodies, Body};
-use crate::fault::{ModuleError, ModuleFault};
 use crate::large_bodies::Output;
 use crate::map_sink::{MapLines, MapSink, NoMap, WrittenBody};
-use crate::output::write_number;
 use crate::parsed::ParsedModule;
 use crate::rewriting::RewrittenModule;
-use crate::sections::{PREAMBLE, Section, SectionKind, Sections};
 use std::alloc::Global;
 use std::io;
 use std::io::Write;
+use wasm_sections::{
+    Bodies, Body, Changes, ModuleError, ModuleFault, PREAMBLE, Section, SectionKind, Sections,
+    write_number,
+};
 
 /// Why a module isn't written, or only a part of it.
 #[derive(Debug, Drop)]

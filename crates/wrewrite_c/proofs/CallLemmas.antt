@@ -4,7 +4,7 @@ use Rattle.std.proofs.Math.Bool.{and-true}
 use Rattle.std.proofs.lemmas.List.Folds.{list_any_more}
 use Rattle.std.specs.List.{list_any}
 use Rattle.std.specs.HashSet.{HashSet, IsEmpty, contains}
-use Rattle.wasm_module.specs.declared.changes.Changes.{Changes}
+use Rattle.wasm_sections.specs.declared.changes.Changes.{Changes}
 use Rattle.wasm_module.specs.declared.parsed.ParsedModule.{ParsedModule}
 use Rattle.wasm_module.specs.declared.changing.kept_bodies.KeptBodies.{KeptBodies}
 use Rattle.wasm_module.specs.KeptCode.{IsKept, AreKeptAs}

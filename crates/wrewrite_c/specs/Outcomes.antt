@@ -1,10 +1,10 @@
 -- How calls end.
 use Rattle.std.specs.Prelude.{◌≡◌, ◌≢◌, ◌⊎◌, ◌<◌, ◌≤◌, ◌-◌, ◌^◌, ℕ, List, [], ◌++◌, length, drop, Bool, true, false, MatchOption}
-use Rattle.wasm_module.specs.declared.fault.ModuleError.{ModuleError}
-use Rattle.wasm_module.specs.declared.fault.ModuleFault.{ModuleFault}
-use Rattle.wasm_module.specs.declared.fault.ModuleFault.TheVariants.{Memory, TooGreat}
+use Rattle.wasm_sections.specs.declared.fault.ModuleError.{ModuleError}
+use Rattle.wasm_sections.specs.declared.fault.ModuleFault.{ModuleFault}
+use Rattle.wasm_sections.specs.declared.fault.ModuleFault.TheVariants.{Memory, TooGreat}
 use Rattle.wasm_module.specs.declared.parsed.ParsedModule.{ParsedModule}
-use Rattle.wasm_module.specs.CodeSections.{BodyAt}
+use Rattle.wasm_sections.specs.CodeSections.{BodyAt}
 use Rattle.wasm_module.specs.Refusals.{IsRefused}
 use Rattle.wrewrite_c.specs.declared.outcome.Outcome.{Outcome}
 use Rattle.wrewrite_c.specs.declared.outcome.Refusal.{Refusal}

@@ -1,7 +1,7 @@
 //! Modules that are checked: their bodies are parsed, and nothing is written.
 
 ghost use Rattle.std.specs.Prelude.{IfErr, IfSome};
-ghost use Rattle.wasm_module.specs.CodeSections.{body_at};
+ghost use Rattle.wasm_sections.specs.CodeSections.{body_at};
 ghost use Rattle.wasm_module.specs.RewrittenCode.{Extends};
 ghost use Rattle.wasm_module.specs.Refusals.{IsRefused};
 ghost use Rattle.wrewrite_c.specs.Outcomes.{IsOfCheck};

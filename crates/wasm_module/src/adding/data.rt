@@ -3,18 +3,15 @@
 ghost use Rattle.std.specs.Prelude.{◌≡◌, ◌++◌, ℕ, true, List, Ok, OnOk, IfOk};
 ghost use Rattle.wasm_numbers.specs.Numbers.{u32};
 ghost use Rattle.wasm_operators.specs.Shortest.{short_number};
-ghost use Rattle.wasm_module.specs.Additions.{SetsContents, contents_with};
+ghost use Rattle.wasm_sections.specs.Additions.{SetsContents, contents_with};
 ghost use Rattle.wasm_module.specs.AddedItems.{active_data, passive_data, has_data_count, AddsData};
-ghost use Rattle.wasm_module.specs.Sections.{SectionAt, IsModule};
+ghost use Rattle.wasm_sections.specs.Sections.{SectionAt, IsModule};
 
-use crate::changes::Changes;
-use crate::constants::write_constant;
-use crate::fault::ModuleError;
-use crate::input::Input;
-use crate::output::{write_bytes, write_number};
 use crate::parsed::ParsedModule;
-use crate::sections::SectionKind;
 use walrus_ir::{DataId, Value};
+use wasm_sections::{
+    Changes, Input, ModuleError, SectionKind, write_bytes, write_constant, write_number,
+};
 
 /// Appends an active data segment: it is put into memory 0, from this address on.
 #[tactic(auto, using(wasm_encode::proofs::Appending::appending))]

@@ -5,66 +5,19 @@ ghost use Rattle.wasm_numbers.specs.Numbers.{u32};
 ghost use Rattle.wasm_operators.specs.declared.types.Space.TheVariants.{Types};
 ghost use Rattle.walrus_maps.specs.IndexMaps.{number_of};
 ghost use Rattle.walrus_rewrite.specs.RawBodies.{IsRawBodyOf};
-ghost use Rattle.wasm_module.specs.AddedFunctions.{input_with, AddsBody, AddsRawFunction, AddsFunction, HasOneFunctionMore};
-ghost use Rattle.wasm_module.specs.Declarations.{parameters_of};
-ghost use Rattle.wasm_module.specs.Sections.{SectionAt, IsModule};
-ghost use Rattle.wasm_module.specs.WrittenModules.{added_bodies};
+ghost use Rattle.wasm_module.specs.AddedFunctions.{input_with, AddsRawFunction, AddsFunction, HasOneFunctionMore};
+ghost use Rattle.wasm_sections.specs.Declarations.{parameters_of};
+ghost use Rattle.wasm_sections.specs.Sections.{SectionAt, IsModule};
+ghost use Rattle.wasm_sections.specs.GivenContents.{added_bodies};
 
 use crate::bodies::Scratch;
-use crate::changes::Changes;
-use crate::fault::{ModuleError, ModuleFault};
-use crate::input::Input;
-use crate::locals::{Locals, MAX_LOCALS};
-use crate::output::{number_len, write_bytes, write_number};
 use crate::parsed::ParsedModule;
-use crate::sections::SectionKind;
-use std::alloc::Global;
 use std::mem;
 use walrus_body::LocalFunction;
 use walrus_ir::{FunctionId, ModuleLocals, ValType};
-
-impl Changes {
-    /// The bodies that are added to the code section, as the contents of one.
-    fn added_code(&self) -> &[u8]
-        ensures { result.now ≡ added_bodies self.now }
-    {
-        match self.contents_of(SectionKind::Code) {
-            Some(contents) => contents,
-            None => &[0],
-        }
-    }
-
-    /// The number of bodies that are added to the code section, and these bodies, each after its
-    /// size.
-    pub(crate) fn added_bodies(&self) -> Result<(u32, &[u8]), ModuleError>
-        ensures { IfOk result (λ x. u32 (added_bodies self.now) ≡ Ok (x.0, x.1.now)) }
-    {
-        let mut bodies = Input::new(self.added_code());
-        match bodies.number() {
-            Ok(count) => Ok((count, bodies.rest())),
-            Err(error) => Err(error),
-        }
-    }
-
-    /// Adds this raw body to the code section, after those that were added before.
-    ///
-    /// # Errors
-    ///
-    /// `TooGreat` if the number of bytes or of bodies doesn't fit 32 bits; or `Memory`.
-    fn add_body(&mut self, alloc: Global, raw: &[u8]) -> Result<(), ModuleError>
-        ensures { OnOk result (AddsBody self.old self.new raw.now) }
-    {
-        let mut item = Vec::new(alloc);
-        match write_bytes(&mut item, raw) {
-            Ok(()) => {}
-            Err(error) => return Err(error),
-        }
-        match self.add_after(SectionKind::Code, &[0], &item) {
-            Ok(()) => Ok(()),
-            Err(error) => Err(error),
-        }
-    }
-}
+use wasm_sections::{
+    Changes, Locals, MAX_LOCALS, ModuleError, ModuleFault, SectionKind, number_len, write_number,
+};
 
 impl<'a> ParsedModule<'a> {
     /// `InconsistentChange` unless all functions that were imported or added besides those of the

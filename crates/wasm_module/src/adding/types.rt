@@ -6,19 +6,16 @@ ghost use Rattle.wasm_operators.specs.declared.types.Space.TheVariants.{Types};
 ghost use Rattle.wasm_operators.specs.Shortest.{short_value};
 ghost use Rattle.wasm_body.specs.Translation.{translate_value};
 ghost use Rattle.walrus_maps.specs.IndexMaps.{number_of, with_next_number};
-ghost use Rattle.wasm_module.specs.Additions.{AreUnchanged};
+ghost use Rattle.wasm_sections.specs.Additions.{AreUnchanged};
 ghost use Rattle.wasm_module.specs.AddedItems.{IsWrittenTypes, IsWrittenFunctionType, AddsFunctionType, HasFunctionType};
 ghost use Rattle.wasm_module.specs.RewrittenCode.{Extends};
-ghost use Rattle.wasm_module.specs.Sections.{SectionAt, IsModule};
+ghost use Rattle.wasm_sections.specs.Sections.{SectionAt, IsModule};
 
-use crate::changes::Changes;
-use crate::fault::ModuleError;
-use crate::output::write_number;
 use crate::parsed::ParsedModule;
-use crate::sections::SectionKind;
 use walrus_ir::{HeapType, RefType, TypeId, ValType};
 use wasm_encode::write_value_type;
 use wasm_ops::RawValType;
+use wasm_sections::{Changes, ModuleError, SectionKind, write_number};
 
 /// The first byte of a function type.
 const FUNCTION: u8 = 0x60;

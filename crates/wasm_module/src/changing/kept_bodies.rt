@@ -2,19 +2,18 @@
 
 ghost use Rattle.std.specs.Prelude.{◌≡◌, ◌+◌, ◌∷◌, ◌++◌, [], length, OnOk, IfOk, IfSome};
 ghost use Rattle.wasm_module.specs.declared.parsed.ParsedModule.{ParsedModule as Parsed};
-ghost use Rattle.wasm_module.specs.CodeSections.{body_at};
+ghost use Rattle.wasm_sections.specs.CodeSections.{body_at};
 ghost use Rattle.wasm_module.specs.KeptCode.{bodies_in, raws_in, IsKept};
 
 use crate::bodies::Scratch;
 use crate::body_writer::{BodyWriter, Needed};
-use crate::code::Body;
-use crate::fault::{ModuleError, ModuleFault};
 use crate::parsed::ParsedModule;
 use std::alloc::{AllocError, Global};
 use walrus_body::LocalFunction;
 use walrus_ir::InstrLocId;
 use wasm_encode::write_number;
 use wasm_ops::read_u64;
+use wasm_sections::{Body, ModuleError, ModuleFault};
 
 /// What is written for a body of the source.
 #[derive(Drop)]

@@ -2,12 +2,10 @@
 //! before it in the body.
 
 use crate::custom::RewrittenBody;
-use crate::custom::function_items::Item;
-use crate::fault::ModuleError;
-use crate::input::Input;
 use std::alloc::Global;
 use walrus_ir::InstrLocId;
 use wasm_ops::{BlockType, Operator, Reader};
+use wasm_sections::{Input, Item, ModuleError};
 
 /// The type of the construct that an operator opens, and which has a label; `None` if it opens
 /// none.

@@ -1,5 +1,5 @@
 use Rattle.std.proofs.Common.{◌≡◌, ℕ, List, [], ◌++◌}
-use Rattle.wasm_module.specs.CodeSections.{entry}
+use Rattle.wasm_sections.specs.CodeSections.{entry}
 use Rattle.wasm_module.proofs.source_map_url.contents_of.Goals as goal
 
 both_entries :

@@ -1,6 +1,6 @@
 use Rattle.std.proofs.Common.{◌≡◌, ◌≤◌, ◌<◌, ℕ, false, List, length, get_or, ap, subst, ◌∙◌, arith}
-use Rattle.wasm_module.specs.declared.changes.NewContents.{NewContents}
-use Rattle.wasm_module.specs.Sections.{rank, id_of, section}
+use Rattle.wasm_sections.specs.declared.changes.NewContents.{NewContents}
+use Rattle.wasm_sections.specs.Sections.{rank, id_of, section}
 use Rattle.wasm_module.specs.WrittenModules.{Puts, is_between}
 use Rattle.wasm_module.proofs.NewSectionLemmas.{is_within_ranks, is_before_ranks, is_after_ranks, one_new, one_elsewhere}
 use Rattle.wasm_module.proofs.writing.put_between.Goals as goal

@@ -1,4 +1,4 @@
-use Rattle.wasm_module.specs.CodeSections.{body_at}
+use Rattle.wasm_sections.specs.CodeSections.{body_at}
 use Rattle.wasm_module.proofs.RewritingLemmas.{rewritten_to}
 use Rattle.wasm_module.proofs.body_writer.RewritingBodyWriter.write_large_body.Goals as goal
 

@@ -2,7 +2,7 @@ use Rattle.std.proofs.Common.{ℕ, ℤ, List, subst, ap, ◌∙◌, rules, w32}
 use Rattle.std.proofs.lemmas.Int.{to_z-of_z}
 use mir.Val.{SFits}
 use Rattle.wasm_module.specs.AddedItems.{AddsData, active_data, has_data_count}
-use Rattle.wasm_module.proofs.AdditionLemmas.{from_empty}
+use Rattle.wasm_sections.proofs.AdditionLemmas.{from_empty}
 use Rattle.wasm_module.proofs.parsed.ParsedModule.add_data.Goals as goal
 
 pub returns-in-Ok-add_segment : goal.returns-in-Ok-add_segment

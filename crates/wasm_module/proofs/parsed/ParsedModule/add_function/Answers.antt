@@ -3,7 +3,7 @@ use Rattle.wasm_types.specs.declared.val_type.ValType.{ValType}
 use Rattle.walrus_rewrite.specs.RawBodies.{IsRawBodyOf}
 use Rattle.wasm_module.specs.declared.parsed.ParsedModule.{ParsedModule}
 use Rattle.wasm_module.specs.AddedFunctions.{input_with, AddsRawFunction}
-use Rattle.wasm_module.specs.Sections.{IsModule}
+use Rattle.wasm_sections.specs.Sections.{IsModule}
 use Rattle.wasm_module.proofs.parsed.ParsedModule.add_function.Goals as goal
 
 pub returns-in-Ok-clause-added : goal.returns-in-Ok-clause-added

@@ -1,5 +1,5 @@
 use Rattle.std.proofs.Common.{ℕ, List, subst}
-use Rattle.wasm_module.specs.Additions.{AddsItem}
+use Rattle.wasm_sections.specs.Additions.{AddsItem}
 use Rattle.wasm_module.proofs.parsed.ParsedModule.add_function_type.Goals as goal
 
 pub returns-in-Ok-add_item-clause-adds : goal.returns-in-Ok-add_item-clause-adds

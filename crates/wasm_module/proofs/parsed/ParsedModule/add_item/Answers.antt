@@ -1,6 +1,6 @@
 use Rattle.std.proofs.Common.{ℕ, List, subst}
-use Rattle.wasm_module.specs.Additions.{AddsAfter, AddsItem}
-use Rattle.wasm_module.specs.Sections.{id_of}
+use Rattle.wasm_sections.specs.Additions.{AddsAfter, AddsItem}
+use Rattle.wasm_sections.specs.Sections.{id_of}
 use Rattle.wasm_module.proofs.parsed.ParsedModule.add_item.Goals as goal
 
 pub returns-in-Ok-clause-ok : goal.returns-in-Ok-clause-ok

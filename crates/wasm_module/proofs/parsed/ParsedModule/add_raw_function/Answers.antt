@@ -1,6 +1,6 @@
 use Rattle.std.proofs.Common.{ℕ, List, subst, ◌∙◌}
-use Rattle.wasm_module.specs.Additions.{AddsItem}
-use Rattle.wasm_module.proofs.AdditionLemmas.{from_empty}
+use Rattle.wasm_sections.specs.Additions.{AddsItem}
+use Rattle.wasm_sections.proofs.AdditionLemmas.{from_empty}
 use Rattle.wasm_module.proofs.parsed.ParsedModule.add_raw_function.Goals as goal
 
 pub returns-in-Ok-add_item : goal.returns-in-Ok-add_item

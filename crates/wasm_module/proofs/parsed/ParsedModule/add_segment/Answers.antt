@@ -1,7 +1,8 @@
 use Rattle.std.proofs.Common.{◌≡◌, Bool, false, sym, subst, ◌∙◌}
-use Rattle.wasm_module.specs.Additions.{AddsItem}
+use Rattle.wasm_sections.specs.Additions.{AddsItem}
 use Rattle.wasm_module.specs.AddedItems.{AddsData, has_data_count}
-use Rattle.wasm_module.proofs.DataLemmas.{on_ok, uncounted}
+use Rattle.wasm_sections.proofs.AdditionLemmas.{on_ok}
+use Rattle.wasm_module.proofs.DataLemmas.{uncounted}
 use Rattle.wasm_module.proofs.parsed.ParsedModule.add_segment.Goals as goal
 
 pub returns-else-branch : goal.returns-else-branch

@@ -1,5 +1,5 @@
 use Rattle.std.proofs.Common.{◌≡◌, length, ap, ◌∙◌, arith}
-use Rattle.wasm_module.specs.declared.code.Bodies.{Bodies}
+use Rattle.wasm_sections.specs.declared.code.Bodies.{Bodies}
 use Rattle.wasm_module.specs.WrittenModules.{count_bodies}
 use Rattle.wasm_module.proofs.ModuleLemmas.{extends_same, extends_then}
 use Rattle.wasm_module.proofs.KeptLemmas.{none_kept, one_kept, all_kept}

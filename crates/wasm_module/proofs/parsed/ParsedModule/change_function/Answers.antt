@@ -1,5 +1,5 @@
 use Rattle.std.proofs.Common.{refl}
-use Rattle.wasm_module.specs.CodeSections.{body_at}
+use Rattle.wasm_sections.specs.CodeSections.{body_at}
 use Rattle.wasm_module.proofs.ModuleLemmas.{extends_kept}
 use Rattle.wasm_module.proofs.RewritingLemmas.{changed}
 use Rattle.wasm_module.proofs.parsed.ParsedModule.change_function.Goals as goal

@@ -1,8 +1,8 @@
 -- The operators are what follows the declarations.
 use Rattle.std.proofs.Common.{slice_get, sym, ◌∙◌, inl, inr}
 use Rattle.std.proofs.lemmas.Result.{err_from_is_err_and}
-use Rattle.wasm_module.specs.Declarations.{parameters_of}
-use Rattle.wasm_module.proofs.LocalLemmas.{operators_left, none_of_type}
+use Rattle.wasm_sections.specs.Declarations.{parameters_of}
+use Rattle.wasm_sections.proofs.LocalLemmas.{operators_left, none_of_type}
 use Rattle.wasm_module.proofs.parsed.ParsedModule.declared.Goals as goal
 
 pub returns-clause-locals : goal.returns-clause-locals

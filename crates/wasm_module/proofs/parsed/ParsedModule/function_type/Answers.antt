@@ -1,6 +1,6 @@
 use Rattle.std.proofs.Common.{ℕ, List, Result, is_err, sym, ap, subst, ◌∙◌}
 use Rattle.wasm_body.specs.declared.error.IndexError.{IndexError}
-use Rattle.wasm_module.specs.Sections.{IsModule}
+use Rattle.wasm_sections.specs.Sections.{IsModule}
 use Rattle.wasm_module.proofs.TypeLemmas.{is_found, is_added}
 use Rattle.wasm_module.proofs.parsed.ParsedModule.function_type.Goals as goal
 

@@ -1,5 +1,5 @@
 use Rattle.std.proofs.Common.{◌≤◌, ◌<◌, Some, ap, ◌∙◌, arith}
-use Rattle.wasm_module.specs.Sections.{rank, id_of}
+use Rattle.wasm_sections.specs.Sections.{rank, id_of}
 use Rattle.wasm_module.proofs.NewSectionLemmas.{one_passed, one_found, none_found}
 use Rattle.wasm_module.proofs.parsed.ParsedModule.next_rank.Goals as goal
 

@@ -1,5 +1,5 @@
 use Rattle.std.proofs.Common.{List}
-use Rattle.wasm_module.specs.Sections.{SectionAt, IsModule}
+use Rattle.wasm_sections.specs.Sections.{SectionAt, IsModule}
 use Rattle.wasm_module.proofs.NewSectionLemmas.{RankSoFar}
 use Rattle.wasm_module.proofs.parsed.ParsedModule.next_rank.Given as goal
 

@@ -1,7 +1,8 @@
 use Rattle.std.proofs.Common.{◌≡◌, ◌+◌, ◌<◌, ℕ, refl, subst, ◌∙◌, arith}
 use Rattle.std.specs.Prelude.{◌^◌}
-use Rattle.wasm_module.specs.Sections.{section_at}
-use Rattle.wasm_module.specs.WrittenModules.{added_bodies, count_bodies}
+use Rattle.wasm_sections.specs.Sections.{section_at}
+use Rattle.wasm_sections.specs.GivenContents.{added_bodies}
+use Rattle.wasm_module.specs.WrittenModules.{count_bodies}
 use Rattle.wasm_module.proofs.ModuleLemmas.{extends_same, extends_then}
 use Rattle.wasm_module.proofs.WritingLemmas.{if_so}
 use Rattle.wasm_module.proofs.CodeLemmas.{CodeSoFar, no_bodies, one_more_body, all_bodies}

@@ -1,5 +1,5 @@
 use Rattle.std.proofs.Common.{◌≡◌, ◌≢◌, refl, rules}
-use Rattle.wasm_module.specs.Sections.{id_of, section}
+use Rattle.wasm_sections.specs.Sections.{id_of, section}
 use Rattle.wasm_module.specs.WrittenModules.IsWrittenFor.{code, replaced}
 use Rattle.wasm_module.proofs.ModuleLemmas.{extends_same, then_ok}
 use Rattle.wasm_module.proofs.WritingLemmas.{if_so}

@@ -1,6 +1,6 @@
 use Rattle.std.proofs.Common.{◌≡◌, ◌≢◌, ℕ, List, ◌++◌, sym, ap, subst, ◌∙◌, arith}
 use Rattle.std.proofs.lemmas.List.{append-nil}
-use Rattle.wasm_module.specs.Sections.{rank, id_of, IsModule}
+use Rattle.wasm_sections.specs.Sections.{rank, id_of, IsModule}
 use Rattle.wasm_module.specs.WrittenModules.{new_after, new_after_section}
 use Rattle.wasm_module.proofs.WritingLemmas.{if_so, puts_then}
 use Rattle.wasm_module.proofs.NewSectionLemmas.{after_other}

@@ -1,5 +1,5 @@
 use Rattle.std.proofs.Common.{refl}
-use Rattle.wasm_module.specs.CodeSections.{body_at}
+use Rattle.wasm_sections.specs.CodeSections.{body_at}
 use Rattle.wasm_module.proofs.ModuleLemmas.{extends_kept}
 use Rattle.wasm_module.proofs.RefusalLemmas.{not_rewritten}
 use Rattle.wasm_module.proofs.RewritingLemmas.{rewritten}
@@ -25,7 +25,7 @@ returns-in-Err-clause-refused c =
     let enters = c.in_ok-ty.ensures.enters in
     let extends = extends_kept c.args.self.now c.enter.new.self _ c.enter.ensures.extends (record { bytes = refl; tags = refl; func_types = refl; imported = refl }) refl refl refl in
     not_rewritten _ _ c.args.self.now _ c.args.body.func (body_at c.args.body) made.ty c.local_lists-lists.result made.args.items made.locals made.body c.start.result c.in-Err.error
-    c.of_body.result
+    c.body_error.result
     (record {
       extends = extends;
       is_type = enters.is_type;
@@ -35,4 +35,4 @@ returns-in-Err-clause-refused c =
       args_are = enters.args_are;
       count_is = enters.count_is;
       local_ids = enters.local_ids;
-    }) c.local_lists-lists.ensures c.start.ensures.place c.in-Err.ensures.refused c.of_body.ensures.memory c.of_body.ensures.place
+    }) c.local_lists-lists.ensures c.start.ensures.place c.in-Err.ensures.refused c.body_error.ensures.memory c.body_error.ensures.place

@@ -1,4 +1,4 @@
-use Rattle.wasm_module.specs.CodeSections.{body_at}
+use Rattle.wasm_sections.specs.CodeSections.{body_at}
 use Rattle.wasm_module.proofs.ModuleLemmas.{extends_then}
 use Rattle.wasm_module.proofs.RefusalLemmas.{if_not_rewritten_then}
 use Rattle.wasm_module.proofs.RewritingLemmas.{rewritten_ok}

@@ -1,6 +1,6 @@
 use Rattle.std.proofs.Common.{◌≡◌, ◌==◌, true, false, Some, sym, ap, ◌∙◌, eq-eqb, ne_eqb}
-use Rattle.wasm_module.specs.Sections.{id_of}
-use Rattle.wasm_module.proofs.ViewLemmas.{one_passed, one_found, none_found}
+use Rattle.wasm_sections.specs.Sections.{id_of}
+use Rattle.wasm_sections.proofs.ViewLemmas.{one_passed, one_found, none_found}
 use Rattle.wasm_module.proofs.parsed.ParsedModule.section.Goals as goal
 
 pub returns-then-next-id : goal.returns-then-next-id

@@ -1,6 +1,6 @@
 use Rattle.std.proofs.Common.{List}
-use Rattle.wasm_module.specs.Sections.{SectionAt, IsModule, id_of}
-use Rattle.wasm_module.proofs.ViewLemmas.{FirstSoFar}
+use Rattle.wasm_sections.specs.Sections.{SectionAt, IsModule, id_of}
+use Rattle.wasm_sections.proofs.ViewLemmas.{FirstSoFar}
 use Rattle.wasm_module.proofs.parsed.ParsedModule.section.Given as goal
 
 abbrev pub invariant-sections : goal.invariant-sections

@@ -1,6 +1,6 @@
 use Rattle.std.proofs.Common.{ℕ, List, subst}
-use Rattle.wasm_module.specs.Additions.{SetsContents}
-use Rattle.wasm_module.proofs.AdditionLemmas.{from_empty}
+use Rattle.wasm_sections.specs.Additions.{SetsContents}
+use Rattle.wasm_sections.proofs.AdditionLemmas.{from_empty}
 use Rattle.wasm_module.proofs.parsed.ParsedModule.set_count.Goals as goal
 
 pub returns-in-Ok-set_contents : goal.returns-in-Ok-set_contents

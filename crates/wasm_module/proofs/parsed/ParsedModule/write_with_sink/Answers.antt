@@ -1,6 +1,6 @@
 use Rattle.std.proofs.Common.{◌≡◌, ℕ, List, ◌++◌, Some, refl, sym, ap, subst, ◌∙◌, length}
-use Rattle.wasm_module.specs.declared.sections.Sections.{Sections}
-use Rattle.wasm_module.specs.Sections.{preamble, IsModule}
+use Rattle.wasm_sections.specs.declared.sections.Sections.{Sections}
+use Rattle.wasm_sections.specs.Sections.{preamble, IsModule}
 use Rattle.wasm_module.proofs.ModuleLemmas.{extends_same, extends_then}
 use Rattle.wasm_module.proofs.SectionLemmas.{ModuleSoFar, no_sections, one_more_section, all_sections}
 use Rattle.wasm_module.proofs.parsed.ParsedModule.write_with_sink.Goals as goal

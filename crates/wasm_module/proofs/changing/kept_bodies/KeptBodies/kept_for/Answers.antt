@@ -1,7 +1,7 @@
 use Rattle.std.proofs.Common.{◌≡◌, List, ◌+◌, Some, length, slice_get, refl, subst, arith, rules}
 use Rattle.std.proofs.lemmas.Option.{slice_get_read}
 use Rattle.wasm_module.specs.declared.changing.kept_bodies.KeptBody.{KeptBody}
-use Rattle.wasm_module.specs.CodeSections.{body_at, bytes_of, place_of}
+use Rattle.wasm_sections.specs.CodeSections.{body_at, bytes_of, place_of}
 use Rattle.wasm_module.proofs.KeptLemmas.{is_kept, same_body}
 use Rattle.wasm_module.proofs.changing.kept_bodies.KeptBodies.kept_for.Goals as goal
 

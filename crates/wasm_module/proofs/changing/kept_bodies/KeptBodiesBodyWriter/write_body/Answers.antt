@@ -1,5 +1,5 @@
 use Rattle.std.proofs.Common.{◌≡◌, ℕ, List, subst, rules}
-use Rattle.wasm_module.specs.CodeSections.{body_at}
+use Rattle.wasm_sections.specs.CodeSections.{body_at}
 use Rattle.wasm_module.specs.KeptCode.{IsKept}
 use Rattle.wasm_module.proofs.ModuleLemmas.{extends_same}
 use Rattle.wasm_module.proofs.changing.kept_bodies.KeptBodiesBodyWriter.write_body.Goals as goal

@@ -1,7 +1,0 @@
-use Rattle.std.proofs.Common.{◌≡◌, drop}
-use Rattle.wasm_module.specs.Sections.{id_of}
-use Rattle.wasm_module.specs.WrittenModules.{contents_in}
-use Rattle.wasm_module.proofs.changes.Changes.contents_of.Given as goal
-
-abbrev pub invariant-given : goal.invariant-given
-invariant-given l = contents_in (drop l.given-index l.self.given.items) (id_of l.kind) ≡ contents_in l.self.given.items (id_of l.kind)

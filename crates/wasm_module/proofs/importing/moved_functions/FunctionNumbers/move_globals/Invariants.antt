@@ -1,6 +1,0 @@
-use Rattle.wasm_module.specs.MovedFunctions.{MovesGlobal}
-use Rattle.wasm_module.proofs.MovedLemmas.{SoFar}
-use Rattle.wasm_module.proofs.importing.moved_functions.FunctionNumbers.move_globals.Given as goal
-
-abbrev pub invariant-items : goal.invariant-items
-invariant-items l = SoFar (MovesGlobal l.self.imported l.self.added) l.counter l.initial.input.rest.now l.input.rest.now l.initial.out.items l.out.items

@@ -1,0 +1,93 @@
+-- Sections (WebAssembly core specification 3.0, binary format, modules): each is an id, the size of its contents, and its
+-- contents.
+use Rattle.std.specs.Prelude.{◌≡◌, ◌-◌, ℕ, ◌==◌, nat_lt, get_or, if◌then◌else◌, List, [], ◌∷◌, ◌++◌, length, Option, Some, None, Result, Ok, Err}
+use Rattle.wasm_numbers.specs.Numbers.{u32}
+use Rattle.wasm_operators.specs.Shortest.{short_number}
+use Rattle.wasm_sections.specs.declared.fault.ModuleError.{ModuleError}
+use Rattle.wasm_sections.specs.declared.sections.Section.{Section}
+use Rattle.wasm_sections.specs.declared.sections.SectionKind.{SectionKind}
+use Rattle.wasm_sections.specs.declared.sections.SectionKind.TheVariants as kind
+use Rattle.wasm_sections.specs.declared.sections.Sections.{Sections}
+
+-- the bytes that a module begins with: the magic number, and the version
+abbrev pub preamble : List ℕ
+preamble = 0x00 ∷ 0x61 ∷ 0x73 ∷ 0x6d ∷ 0x01 ∷ 0x00 ∷ 0x00 ∷ 0x00 ∷ []
+
+-- ---- as they are written: with the shortest encoding of the size
+
+abbrev pub section : (id : ℕ) → (contents : List ℕ) → List ℕ
+section id contents = id ∷ (short_number (length contents) ++ contents)
+
+-- ---- as they are read: with any encoding of the size
+
+-- a section in a file: its id, its contents, the place where they end, and all of its bytes
+pub record SectionAt : Type 0 where
+  pub id : ℕ
+  pub contents : List ℕ
+  pub end : ℕ
+  pub whole : List ℕ
+
+-- A text that ends at this place of the file begins with this section, and these bytes follow it.
+pub record Begins (end : ℕ) (text : List ℕ) (s : SectionAt) (following : List ℕ) : Type 0 where
+  pub sized : List ℕ
+  pub id_is : text ≡ s.id ∷ sized
+  pub size_is : u32 sized ≡ Ok (length s.contents, s.contents ++ following)
+  pub end_is : s.end ≡ end - length following
+  pub whole_is : text ≡ s.whole ++ following
+
+-- The text, which ends at this place of the file, is these sections.
+abbrev pub AreSections : (end : ℕ) → (text : List ℕ) → List SectionAt → Type 0
+AreSections end text [] = text ≡ []
+AreSections end text (s ∷ ss) = (following : List ℕ) × Begins end text s following × AreSections end following ss
+
+-- the file is a module with these sections
+abbrev pub IsModule : List ℕ → List SectionAt → Type 0
+IsModule file ss = (text : List ℕ) × (file ≡ preamble ++ text) × AreSections (length file) text ss
+
+-- The contents of a custom section begin with this name.
+abbrev pub BeginsWithName : (contents name : List ℕ) → Type 0
+BeginsWithName contents name = (following : List ℕ) × (u32 contents ≡ Ok (length name, name ++ following))
+
+-- the first of these sections that has this id, if there is one
+abbrev pub first_with : (id : ℕ) → List SectionAt → Option SectionAt
+first_with id [] = None
+first_with id (s ∷ ss) = if s.id == id then Some s else first_with id ss
+
+-- ---- their order
+
+-- The rank of a section, by its id: one that isn't custom comes before those of a greater rank. Custom ones may be anywhere.
+-- Tags come after memories, and the data count after elements.
+abbrev pub rank : (id : ℕ) → ℕ
+rank id = get_or (0 ∷ 1 ∷ 2 ∷ 3 ∷ 4 ∷ 5 ∷ 7 ∷ 8 ∷ 9 ∷ 10 ∷ 12 ∷ 13 ∷ 11 ∷ 6 ∷ []) id 0
+
+-- the first rank of these sections that is greater than this one; 14 if there is none
+abbrev pub next_rank : ℕ → List SectionAt → ℕ
+next_rank r [] = 14
+next_rank r (s ∷ ss) = if nat_lt r (rank s.id) then rank s.id else next_rank r ss
+
+-- ---- for values of the code
+
+abbrev pub id_of : SectionKind → ℕ
+id_of kind.Custom = 0
+id_of kind.Type = 1
+id_of kind.Import = 2
+id_of kind.Function = 3
+id_of kind.Table = 4
+id_of kind.Memory = 5
+id_of kind.Global = 6
+id_of kind.Export = 7
+id_of kind.Start = 8
+id_of kind.Element = 9
+id_of kind.Code = 10
+id_of kind.Data = 11
+id_of kind.DataCount = 12
+id_of kind.Tag = 13
+
+abbrev pub section_at : Section → SectionAt
+section_at s = record { id = id_of s.kind; contents = s.contents.rest.now; end = s.contents.end; whole = s.whole.now }
+
+-- A section is taken from those that are left; none if nothing is left.
+abbrev pub TakesSection : Sections → Option (Result Section ModuleError) → Sections → Type 0
+TakesSection s None t = s.left.rest.now ≡ []
+TakesSection s (Some (Err e)) t = Unit {0}
+TakesSection s (Some (Ok x)) t = Begins s.left.end s.left.rest.now (section_at x) t.left.rest.now × (t.left.end ≡ s.left.end)

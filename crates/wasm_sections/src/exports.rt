@@ -1,0 +1,145 @@
+//! Exports (WebAssembly core specification 3.0, binary format, modules).
+
+ghost use Rattle.std.specs.Prelude.{◌≡◌, ◌-◌, length, IfOk, IfSome};
+ghost use Rattle.wasm_sections.specs.Views.{IsExportKind, BeginsExport};
+
+use crate::fault::{ModuleError, ModuleFault};
+use crate::input::Input;
+use crate::items::Items;
+use walrus_maps::IndicesToIds;
+use wasm_body::{IndexError, Space};
+
+/// The index space of what an export of this kind names.
+fn exported_space(kind: u8) -> Option<Space>
+    ensures { IfSome result (λ space. IsExportKind space kind) }
+{
+    match kind {
+        0 => Some(Space::Funcs),
+        1 => Some(Space::Tables),
+        2 => Some(Space::Memories),
+        3 => Some(Space::Globals),
+        4 => Some(Space::Tags),
+        _ => None,
+    }
+}
+
+/// The kind of an export that names something in this index space; `None` if none does.
+pub fn export_kind(space: Space) -> Option<u8>
+    ensures { IfSome result (λ kind. IsExportKind space kind) }
+{
+    match space {
+        Space::Funcs => Some(0),
+        Space::Tables => Some(1),
+        Space::Memories => Some(2),
+        Space::Globals => Some(3),
+        Space::Tags => Some(4),
+        Space::Types | Space::Elements | Space::Data => None,
+    }
+}
+
+/// `OutOfRange` if nothing in the space has this index.
+fn check_index(indices: &IndicesToIds, space: Space, index: u32) -> Result<(), IndexError> {
+    match space {
+        Space::Tables => indices.get_table(index).map(|_| ()),
+        Space::Types => indices.get_type(index).map(|_| ()),
+        Space::Funcs => indices.get_func(index).map(|_| ()),
+        Space::Globals => indices.get_global(index).map(|_| ()),
+        Space::Memories => indices.get_memory(index).map(|_| ()),
+        Space::Elements => indices.get_element(index).map(|_| ()),
+        Space::Data => indices.get_data(index).map(|_| ()),
+        Space::Tags => indices.get_tag(index).map(|_| ()),
+    }
+}
+
+impl Input<'_> {
+    /// Reads past an index of this space; `IndexOutOfRange` if nothing has it.
+    pub fn index_in(&mut self, indices: &IndicesToIds, space: Space) -> Result<(), ModuleError> {
+        let begin = *self;
+        let index = self.number()?;
+        match check_index(indices, space, index) {
+            Ok(()) => Ok(()),
+            Err(error) => Err(ModuleError::of_index(error, begin.at())),
+        }
+    }
+
+    /// Reads past an export; `BadExportKind` if no export is of its kind.
+    pub fn export(&mut self, indices: &IndicesToIds) -> Result<(), ModuleError> {
+        self.name()?;
+        let begin = *self;
+        match exported_space(self.byte()?) {
+            Some(space) => self.index_in(indices, space),
+            None => Err(begin.fault(ModuleFault::BadExportKind)),
+        }
+    }
+}
+
+/// An export.
+#[derive(Clone, Copy, Debug)]
+pub struct Export<'a> {
+    /// Its name.
+    pub name: &'a str,
+    /// The index space of what it names.
+    pub space: Space,
+    /// The index of what it names.
+    pub index: u32,
+    /// Its place: a byte offset from the start of the file.
+    pub at: usize,
+}
+
+impl<'a> Input<'a> {
+    /// An export, whose index isn't looked up; `BadExportKind` if no export is of its kind.
+    fn read_export(&mut self) -> Result<Export<'a>, ModuleError>
+        ensures begins { IfOk result (λ x. BeginsExport self.old.rest.now x.name.now x.space x.index
+            self.new.rest.now) }
+        ensures place { IfOk result (λ x. x.at ≡ self.old.end - length self.old.rest.now) }
+        ensures same_end { IfOk result (λ _. self.new.end ≡ self.old.end) }
+    {
+        let at = self.at();
+        let name = self.name()?;
+        let begin = *self;
+        let kind = self.byte()?;
+        let Some(space) = exported_space(kind) else {
+            return Err(begin.fault(ModuleFault::BadExportKind));
+        };
+        let index = self.number()?;
+        Ok(Export {
+            name,
+            space,
+            index,
+            at,
+        })
+    }
+}
+
+/// The exports of a module, in order. A fault is the last item; a module that was read has none.
+#[derive(Clone, Copy)]
+pub struct Exports<'a> {
+    /// The exports that are left.
+    pub items: Items<'a>,
+}
+
+impl<'a> Iterator for Exports<'a> {
+    ghost use Rattle.std.specs.Iterator.{at_most};
+    ghost use Rattle.wasm_sections.specs.Views.{TakesExport};
+
+    type Item = Result<Export<'a>, ModuleError>;
+
+    ghost next_gives = { TakesExport };
+
+    ghost remaining = { λ s. at_most s.items.count };
+
+    fn next(&mut self) -> Option<Result<Export<'a>, ModuleError>> {
+        let count = self.items.count.checked_sub(1)?;
+        let mut left = self.items.left;
+        match left.read_export() {
+            Ok(export) => {
+                self.items = Items { left, count };
+                Some(Ok(export))
+            }
+            Err(error) => {
+                self.items.count = 0;
+                Some(Err(error))
+            }
+        }
+    }
+}

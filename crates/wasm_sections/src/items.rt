@@ -1,0 +1,41 @@
+//! The items of a section or a subsection, one after the other.
+
+ghost use Rattle.std.specs.Prelude.{◌≡◌, Ok, IfOk};
+ghost use Rattle.wasm_numbers.specs.Numbers.{u32};
+
+use crate::fault::ModuleError;
+use crate::input::Input;
+
+/// The items of a section that are left, and their number.
+#[derive(Clone, Copy)]
+pub struct Items<'a> {
+    /// The bytes of the items that are left.
+    pub left: Input<'a>,
+    /// How many items are left.
+    pub count: u32,
+}
+
+impl<'a> Items<'a> {
+    /// The items of a section or a subsection with these contents, which begin with their number.
+    pub fn of_contents(contents: Input<'a>) -> Result<Items<'a>, ModuleError>
+        ensures count { IfOk result (λ items. u32 contents.entry.rest.now
+            ≡ Ok (items.count, items.left.rest.now)) }
+        ensures end { IfOk result (λ items. items.left.end ≡ contents.entry.end) }
+    {
+        let mut left = contents;
+        match left.number() {
+            Ok(count) => Ok(Items { left, count }),
+            Err(error) => Err(error),
+        }
+    }
+
+    /// No items.
+    pub fn none() -> Items<'static>
+        ensures { result.count ≡ 0 }
+    {
+        Items {
+            left: Input::new(&[]),
+            count: 0,
+        }
+    }
+}
