@@ -1,6 +1,6 @@
-//! Tests of whole modules: the modules that are written, and their faults. A function here owns one
-//! large value and lends it to the next: one that owns several over calls that may fail takes minutes
-//! to prove.
+//! Tests of whole modules: the modules that are written, and their faults; and of the mappings of
+//! source maps. A function here owns one large value and lends it to the next: one that owns several
+//! over calls that may fail takes minutes to prove.
 #![tactic(auto)]
 
 #[cfg(test)]
@@ -15,6 +15,8 @@ mod every_operator;
 mod importing;
 #[cfg(test)]
 mod making;
+#[cfg(test)]
+mod mappings;
 #[cfg(test)]
 mod new_locals;
 #[cfg(test)]
