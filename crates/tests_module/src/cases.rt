@@ -6,7 +6,6 @@ use crate::texts::{bytes_of, fault_text};
 use crate::views::{
     push_bodies, push_has_bodies, push_references, push_storage, push_viewed, push_visited,
 };
-use crate::whole_modules::push_map_or_faults;
 use crate::writing::{Change, Output, push_changed};
 use std::alloc::Global;
 use std::process::Abort;
@@ -16,8 +15,6 @@ use wasm_module::{ModuleError, ParsedModule};
 /// What is checked about a module.
 #[derive(Clone, Copy)]
 pub(crate) enum Query<'i> {
-    /// Whether it is read.
-    Read,
     /// Its exports, imports, functions, numbers of items and custom sections.
     Viewed,
     /// Its start function, and where the bodies of its first four functions are.
@@ -30,16 +27,11 @@ pub(crate) enum Query<'i> {
     References,
     /// The functions that are visited, up to the one with this index, which is refused.
     Visited(usize),
-    /// The bodies that are refused; if there are none, its location map.
-    MapOrFaults,
     /// Whether so many globals are added to a module without any.
     HasGlobals(i32),
     /// What is written after these steps and this change.
     Written(&'i [Step<'i>], Change, Output<'i>),
 }
-
-/// The module that is written for one that is read, in hexadecimal.
-pub(crate) const REWRITTEN: Query<'static> = Query::Written(&[], Change::Rewrite, Output::Module);
 
 // Appends the result for a module that was read.
 fn push_result(
@@ -48,14 +40,12 @@ fn push_result(
     parsed: &mut ParsedModule<'_>,
 ) -> Result<(), ModuleError> {
     match query {
-        Query::Read => Ok(text.push_str("read")?),
         Query::Viewed => push_viewed(text, parsed),
         Query::Bodies => push_bodies(text, parsed),
         Query::HasBodies => push_has_bodies(text, parsed),
         Query::Storage => push_storage(text, parsed),
         Query::References => push_references(text, parsed),
         Query::Visited(last) => push_visited(text, parsed, last),
-        Query::MapOrFaults => push_map_or_faults(text, parsed),
         Query::HasGlobals(count) => push_has_globals(text, parsed, count),
         Query::Written(steps, change, output) => {
             push_changed(text, parsed, steps, change, output)

@@ -1,6 +1,7 @@
-//! Tests of whole modules: the modules that are written, and their faults; and of the mappings of
-//! source maps. A function here owns one large value and lends it to the next: one that owns several
-//! over calls that may fail takes minutes to prove.
+//! Tests of whole modules: what is in them, and what is written of them after a caller's changes; and
+//! of the mappings of source maps. What `wrewrite` writes, and which modules it refuses, is tested by
+//! `programs_test`. A function here owns one large value and lends it to the next: one that owns
+//! several over calls that may fail takes minutes to prove.
 #![tactic(auto)]
 
 #[cfg(test)]
@@ -9,8 +10,6 @@ mod additions;
 mod cases;
 #[cfg(test)]
 mod defining;
-#[cfg(test)]
-mod every_operator;
 #[cfg(test)]
 mod importing;
 #[cfg(test)]
@@ -25,7 +24,5 @@ mod numbering;
 mod texts;
 #[cfg(test)]
 mod views;
-#[cfg(test)]
-mod whole_modules;
 #[cfg(test)]
 mod writing;

@@ -1,7 +1,6 @@
 //! Views of a module: what is in its sections.
 use crate::cases::{Query, check};
-use crate::texts::FOLLOWED;
-use crate::whole_modules::EVERY_SECTION;
+use crate::texts::{EVERY_SECTION, FOLLOWED};
 use std::test::Fail;
 use walrus_body::LocalFunction;
 use wasm_module::{

@@ -3,8 +3,7 @@ use crate::importing::CallFirst;
 use crate::making::{Step, make_all};
 use crate::new_locals::NewLocals;
 use crate::numbering::Numbering;
-use crate::texts::{push_bytes, push_written};
-use crate::whole_modules::{push_map, push_notes};
+use crate::texts::{push_bytes, push_map, push_written};
 use std::alloc::Global;
 use walrus_ir::FunctionId;
 use wasm_module::{
@@ -35,8 +34,6 @@ pub(crate) enum Output<'i> {
     Module,
     /// Its location map.
     Map,
-    /// The notes on its sections.
-    Notes,
     /// Its bytes if a function is imported after it is rewritten.
     Late,
     /// The bytes of this other module if it is written with its bodies.
@@ -91,7 +88,6 @@ fn push_output<B: BodyWriter>(
     match output {
         Output::Module => push_written(text, parsed, rewritten),
         Output::Map => push_map(text, parsed, rewritten),
-        Output::Notes => push_notes(text, &rewritten.notes),
         Output::Late => push_late(text, parsed, rewritten),
         Output::Other(module) => push_other(text, module, rewritten),
     }
