@@ -1,4 +1,4 @@
-"""Prints the bodies of `OPERATOR_BODIES` of `module_rows.py` at the top, one for each operator:
+"""Prints the bodies of `OPERATOR_BODIES` of `tests/programs/module_rows.py`, one for each operator:
 
     python3 operator_rows.py operators.tsv | python3 every_operator.py
 

@@ -1,0 +1,154 @@
+"""What the examples wone, wgc, wloops and wtrace print; and node, if it is there, runs the modules before and after."""
+from modules import BAD_LABEL, BAD_LOCAL, NOP, PREAMBLE, TRAP, TYPES, exports, functions, module, number, section, vector
+from runs import TOP, case, holds, node, same, stored
+
+
+def example(name):
+    """The bytes of a file of an example: `examples/stdout`."""
+    with open(f"{TOP}/crates/{name}", "rb") as file:
+        return file.read()
+
+
+# `called` is what the script gives of the exports of an instance, `logged` what it logged, and `traced` the functions that it said
+# it calls.
+RUN_MODULE = """
+const bytes = require("fs").readFileSync(process.argv[1]);
+const logged = [];
+const traced = [];
+const imports = { m: { log: (number) => logged.push(number), tick: () => logged.push(0) }, host: { trace: (index) => traced.push(index) } };
+const exported = new WebAssembly.Instance(new WebAssembly.Module(bytes), imports).exports;
+const called = (SCRIPT)(exported);
+console.log(JSON.stringify({ called, logged, traced }));
+"""
+
+
+def engine(room, name, script):
+    """What node gives for a module and a function of its exports; None where there is no node."""
+    return node(room, RUN_MODULE.replace("SCRIPT", script), name)
+
+
+def runs_alike(room, before, after, script):
+    want, found = (engine(room, name, script) for name in (before, after))
+    if want is not None:
+        same((want["called"], want["logged"]), (found["called"], found["logged"]), script)
+
+
+# an i32 and 100 numbers for it
+SEEDS = "(exports) => Array.from({ length: 100 }, (_, seed) => String(exports.run(seed)))"
+
+
+@case("wone: the new body, and the old place of each operator")
+def _(room):
+    # local.get 0, i32.const 1 in three bytes, call 0, i32.add, end
+    same(example("examples/data/body.wone.txt"), room.works("wone", "200041810010006a0b"))
+    # nop, local.get 0, call 1, return, two nop that can't be reached, end
+    same(b"0010002000" + b"10020f0b\n1 added\n3 from 1\n5 from 3\n7 from 5\n8 from 8\n", room.works("wone", "0120001001" + "0f01010b"))
+
+
+@case("wone: a body that is refused, and words that are wrong")
+def _(room):
+    # a second local, a third function, a label that isn't open, no `end`; half a byte, and nothing
+    for words in (["20010b"], ["10020b"], ["0c010b"], ["2000"], ["200"], []):
+        status, out, err = room.run("wone", *words)
+        same((1, b""), (status, out), words)
+        holds("Error: ", err)
+
+
+@case("wgc: bodies that nothing reaches are taken away, and a run is as before")
+def _(room):
+    room.put("in", example("examples/data/garbage.wasm"))
+    room.put("out", room.works("wgc", "in"))
+    same(example("examples/data/garbage.wgc.wasm"), room.get("out"))
+    runs_alike(room, "in", "out", "(exports) => exports.run()")
+    # the second run finds nothing more, but takes away the same bodies again
+    same(example("examples/data/garbage.wgc.wasm"), room.works("wgc", "out"))
+
+
+@case("wgc: functions that element segments of each kind name are kept")
+def _(room):
+    # Of seven functions the first six are in segments: active, passive, of a table that is named, and declared, with indices and with
+    # expressions, whose type has a byte or two. The last one, 6, is in none: it is the number of an offset.
+    ref, offset = lambda index: b"\xd2" + number(index) + b"\x0b", b"\x41\6\x0b"
+    segments = [
+        b"\0" + offset + vector([b"\0"]),
+        b"\1\0" + vector([b"\1"]),
+        b"\2\0" + offset + b"\0" + vector([b"\2", b"\2"]),
+        b"\3\0" + vector([b"\3"]),
+        b"\4" + offset + vector([ref(4)]),
+        b"\5\x70" + vector([b"\xd0\x70\x0b", ref(5)]),
+        b"\6\0" + offset + b"\x70" + vector([ref(0)]),
+        b"\7\x63\x70" + vector([ref(0)]),
+    ]
+    table, elements = section(4, vector([b"\x70\0\7"])), section(9, vector(segments))
+
+    def of(bodies):
+        declared, code = functions(bodies)
+        return PREAMBLE + TYPES + declared + table + elements + code
+
+    room.put("in", of([NOP] * 7))
+    room.put("out", room.works("wgc", "in"))
+    same(of([b""] * 6 + [TRAP]), room.get("out"))
+
+
+@case("wgc: a real program runs as before")
+def _(room):
+    room.put("in", stored("sample.wasm"))
+    room.put("out", room.works("wgc", "in"))
+    runs_alike(room, "in", "out", SEEDS)
+
+
+@case("wgc, wloops, wtrace: a body that is refused, and words that are wrong")
+def _(room):
+    # The second body is reached, and the first isn't: both are looked at, in order.
+    room.put("in", module([BAD_LABEL, BAD_LOCAL], exported=exports([(b"out", 1)])))
+    label = "in: 0x21: a label is not open (NoSuchLabel)\n"
+    for program in ("wgc", "wloops", "wtrace"):
+        same((1, b"", f"{program}: {label}"), room.run(program, "in"))
+        room.put("other", b"\0asm\2\0\0\0")
+        status, out, err = room.run(program, "other")
+        same((1, b""), (status, out), program)
+        holds(f"{program}: other: 0x", err)
+        for words in ([], ["in", "in"]):
+            same((2, b"", f"usage: {program} IN.wasm >OUT.wasm\n"), room.run(program, *words))
+        same((1, b""), room.run(program, "none")[:2])
+    for words in ([], ["wnone", "in"]):
+        same((2, b"", "usage: examples wgc|wloops|wtrace IN.wasm >OUT.wasm, or examples wone HEX\n"), room.run("examples", *words))
+
+
+@case("wloops: each loop counts its turns")
+def _(room):
+    room.put("in", example("examples/data/loops.wasm"))
+    room.put("out", room.works("wloops", "in"))
+    same(example("examples/data/loops.wloops.wasm"), room.get("out"))
+    # 1 + .. + 10 in 10 turns; then 4 * 5 in 4 turns of the outer loop and 20 of the inner one; then 3 and 1 * 1 more
+    counters = "[0, 1, 2].map((it) => Number(exports[`loop_${it}`].value))"
+    found = engine(room, "out", f"(exports) => [exports.triangle(10), exports.product(4, 5), {counters}, exports.triangle(3), exports.product(1, 1), {counters}]")
+    if found is not None:
+        same([55, 20, [10, 4, 20], 6, 1, [13, 5, 21]], found["called"])
+    runs_alike(room, "in", "out", "(exports) => [1, 2, 3].map((it) => exports.triangle(it) + exports.product(it, 7))")
+
+
+@case("wloops: a real program runs as before, and has a counter for each loop")
+def _(room):
+    room.put("in", stored("sample.wasm"))
+    room.put("out", room.works("wloops", "in"))
+    runs_alike(room, "in", "out", SEEDS)
+    says = "wloops: out: 0x%x: an export has this name already (ExportTaken)\n" % (room.get("out").index(b"loop_0") - 1)
+    same((1, b"", says), room.run("wloops", "out"))
+
+
+@case("wtrace: each call is told to the host, with the index in the source")
+def _(room):
+    room.put("in", example("examples/data/calls.wasm"))
+    room.put("out", room.works("wtrace", "in"))
+    same(example("examples/stdout"), room.get("out"))
+    # The start function 3; 5! in 6 calls of 1; and 2, which calls 1 by the table, and that itself three times.
+    found = engine(room, "out", "(exports) => [exports.factorial(5), exports.doubled(3)]")
+    if found is not None:
+        same({"called": [120, 12], "logged": [0], "traced": [3] + [1] * 6 + [2] + [1] * 4}, found)
+    runs_alike(room, "in", "out", "(exports) => [exports.tick(), exports.doubled(4), exports.factorial(6)]")
+    # a second time the type is there; the first import is traced as every other function, by its new index, but has no body
+    room.put("again", room.works("wtrace", "out"))
+    found = engine(room, "again", "(exports) => [exports.doubled(1)]")
+    if found is not None:
+        same({"called": [2], "logged": [0], "traced": [4, 3, 3, 2, 2, 1, 2, 1]}, found)
