@@ -3,7 +3,7 @@ that is made here."""
 import base64
 
 from modules import PREAMBLE, number, read_number, section, sized, vector
-from runs import NODE, Skipped, case, node, same
+from runs import Skipped, case, node, same
 
 # The modules of node's own lexer of CommonJS and of its parser of HTTP, in base64, if it contains them.
 NODE_MODULES = """
@@ -144,8 +144,6 @@ def counts_alike(room, module, work):
 
 def of_node(room, place):
     """A module that node contains."""
-    if NODE is None:
-        raise Skipped("node isn't there")
     found = node(room, NODE_MODULES)[place]
     if found is None:
         raise Skipped("node's own sources don't contain this module")

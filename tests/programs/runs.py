@@ -112,9 +112,9 @@ def few_bytes():
 
 
 def node(room, script, *words):
-    """What node prints for a script and these words, as JSON; None where there is no node."""
+    """What node prints for a script and these words, as JSON. A case that needs it is skipped where there is no node."""
     if NODE is None:
-        return None
+        raise Skipped("node isn't there")
     words = [NODE, "--no-deprecation", "-e", script, *words]
     ran = subprocess.run(words, cwd=room.folder, stdout=subprocess.PIPE, stderr=subprocess.PIPE, timeout=60)
     same(0, ran.returncode, ran.stderr.decode())

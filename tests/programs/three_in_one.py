@@ -24,7 +24,8 @@ def _(room):
         said = room.works(program, "-V")
         shutil.copy(f"{room.programs}/{TOGETHER}", room.path(f"folder/{program}"))
         for started in (f"folder/{program}", f"./folder/../folder//{program}", room.path(f"folder/{program}")):
-            same(said, subprocess.run([started, "-V"], cwd=room.folder, stdout=subprocess.PIPE).stdout, started)
+            ran = subprocess.run([started, "-V"], cwd=room.folder, stdout=subprocess.PIPE, timeout=60)
+            same((0, said), (ran.returncode, ran.stdout), started)
         for started in (program, f"no/folder/{program}", b"\xc3\xa9/" + program.encode()):
             same(said, room.works(TOGETHER, "-V", started=started), started)
 
