@@ -1,3 +1,2 @@
-pub mod ReadBack
 pub mod Recording
 pub mod Validators

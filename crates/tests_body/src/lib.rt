@@ -1,11 +1,9 @@
-//! Tests of reading, parsing, walking, writing, rewriting and running bodies, for claims that no
-//! contract makes: worked rows and cases from outside, printed texts, and the calls of the laws.
-//! Many are a table of texts or of functions made by hand, each with the expected text (`cases`). A
-//! function here owns one large value and lends it to the next: one that owns several over calls
-//! that may fail takes minutes to prove. Shown elsewhere are: index maps, locals, facts, operators
-//! that are written, what `rewrite_body` and `CodeEntry` write, and that each call that allocates
-//! succeeds if there is memory, by the rows of `growths`; the output of `wbody`, by the rows of
-//! `wbody_rows`; deep nesting and long runs, by `programs_test`.
+//! Tests of reading, parsing, walking and writing, for claims that no contract makes: worked rows
+//! and cases from outside, printed texts, and the calls of the laws. A test is a table of texts or of
+//! functions made by hand, each with the expected text (`cases`). A function here owns one large
+//! value and lends it to the next: one that owns several over calls that may fail takes minutes to
+//! prove. Index maps, locals, facts, operators that are written, and that each call that allocates
+//! succeeds if there is memory, are shown by the rows of `growths`.
 #![tactic(auto)]
 
 #[cfg(test)]
@@ -23,32 +21,20 @@ mod exceptions;
 #[cfg(test)]
 mod facts;
 #[cfg(test)]
-mod fault_text;
-#[cfg(test)]
 mod function_text;
 #[cfg(test)]
 mod lent;
 #[cfg(test)]
-mod locating;
-#[cfg(test)]
 mod modules;
-#[cfg(test)]
-mod named;
 #[cfg(test)]
 mod parse_refusals;
 #[cfg(test)]
 mod parsing;
 #[cfg(test)]
-mod program;
-#[cfg(test)]
-mod read_back;
-#[cfg(test)]
 mod reading;
 mod recorder;
 #[cfg(test)]
 mod small_module;
-#[cfg(test)]
-mod unchanged;
 #[cfg(test)]
 mod validators;
 #[cfg(test)]

@@ -2,7 +2,7 @@
 //! refusals.
 ghost use Rattle.std.specs.Prelude.{◌≡◌, IfOk};
 
-use crate::fault_text::Fault;
+use crate::function_text::Fault;
 use std::alloc::{AllocError, Global};
 use std::fmt;
 use std::process::Abort;
