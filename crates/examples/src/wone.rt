@@ -37,7 +37,7 @@ fn push_new(indices: &mut IdsToIndices) -> Result<(), IndexError> {
 }
 
 /// Parses the body. The location of an operator is its place, since no function says otherwise.
-fn parse(alloc: Global, module: &Module, operators: &[u8]) -> Result<LocalFunction>
+fn parse(alloc: Global, module: &Module, bytes: &[u8]) -> Result<LocalFunction>
     requires { «module».now.code_section_offset ≡ 0 }
 {
     let (id, ty, arg) = (FunctionId::new(BODY), TypeId::new(0), LocalId::new(0));
@@ -47,11 +47,7 @@ fn parse(alloc: Global, module: &Module, operators: &[u8]) -> Result<LocalFuncti
     ids.push_local(id, arg)?;
     let (args, instrs) = (Vec::from_slice(alloc, &[arg])?, &mut Vec::new(alloc));
     let (start, ops, place) = (0, 0, None::<&fn(&usize) -> InstrLocId>);
-    let body = FunctionBody {
-        bytes: operators,
-        start,
-        ops,
-    };
+    let body = FunctionBody { bytes, start, ops };
     let function = LocalFunction::parse(
         module, &ids, id, ty, args, body, place, AcceptAll, instrs,
     )?;
@@ -78,31 +74,20 @@ fn print(rt: &(impl Print + AllocGlobal), raw: &[u8], pairs: &[(InstrLocId, usiz
 fn write(rt: &(impl Print + AllocGlobal), module: &Module, function: &LocalFunction) -> Result<()>
     requires { HasEntry function.now.builder }
 {
-    let (declared, mut pairs) = (IdHashSet::new(rt.alloc()), Vec::new(rt.alloc()));
     let mut indices = IdsToIndices::new(rt.alloc());
     push_new(&mut indices)?;
+    let (declared, mut pairs) = (IdHashSet::new(rt.alloc()), Vec::new(rt.alloc()));
     let (mut encoder, numbers) = begin_body(rt.alloc(), function, &declared, module, &indices)?;
     let map = Some(&mut pairs);
     function.emit_instructions(&module.types, &indices, &numbers, &mut encoder, map)?;
     print(rt, encoder.bytes(), &pairs)
 }
 
-/// Changes the body that the word after the tool's name contains. In a program of its own it is `main`.
-pub(crate) fn change(rt: &HostRuntime) -> Result<()> {
-    let alloc = rt.alloc();
-    let word = env::args(rt)?.nth(2).context("usage: wone HEX")?;
-    let operators = hex::decode(alloc, word.as_str())?;
-    let mut module = Module {
-        types: ModuleTypes::new(alloc),
-        tags: ModuleTags::new(alloc),
-        locals: ModuleLocals::new(alloc),
-        code_section_offset: 0,
-    };
-    // The type of the function, its entry type, and its parameter.
-    module.types.add_func(&[ValType::I32], &[ValType::I32])?;
-    module.types.add_entry(&[ValType::I32])?;
-    module.locals.add(ValType::I32)?;
-    let mut function = parse(alloc, &module, &operators)?;
+/// Changes a body, and prints it.
+fn change_body(rt: &(impl Print + AllocGlobal), module: &Module, bytes: &[u8]) -> Result<()>
+    requires { «module».now.code_section_offset ≡ 0 }
+{
+    let mut function = parse(rt.alloc(), module, bytes)?;
     if function.has_entry() {
         let entry = function.entry_block();
         let func = FunctionId::new(HOOK);
@@ -111,7 +96,27 @@ pub(crate) fn change(rt: &HostRuntime) -> Result<()> {
         function.block_mut(entry).instrs.insert(0, call)?;
     }
     if function.has_entry() {
-        write(rt, &module, &function)?;
+        write(rt, module, &function)?;
     }
     Ok(())
+}
+
+/// Changes the body that the word after the tool's name contains. In a program of its own it is `main`.
+pub(crate) fn change(rt: &HostRuntime) -> Result<()> {
+    let alloc = rt.alloc();
+    let word = env::args(rt)?.nth(2).context("usage: wone HEX")?;
+    let bytes = hex::decode(alloc, word.as_str())?;
+    // The type of the function, its entry type, and its parameter.
+    let mut types = ModuleTypes::new(alloc);
+    types.add_func(&[ValType::I32], &[ValType::I32])?;
+    types.add_entry(&[ValType::I32])?;
+    let mut locals = ModuleLocals::new(alloc);
+    locals.add(ValType::I32)?;
+    let module = Module {
+        types,
+        tags: ModuleTags::new(alloc),
+        locals,
+        code_section_offset: 0,
+    };
+    change_body(rt, &module, &bytes)
 }

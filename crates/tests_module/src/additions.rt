@@ -1,7 +1,7 @@
 //! Items that are added to modules, and exports of them.
 use crate::cases::{Query, check};
 use crate::making::{Item, OneType, Step};
-use crate::writing::{Change, Output};
+use crate::whole_modules::{Change, Output};
 use std::test::Fail;
 use walrus_ir::Value;
 use wasm_module::{Changes, ModuleError, ParsedModule, SectionKind};

@@ -6,7 +6,7 @@ use crate::texts::{bytes_of, fault_text};
 use crate::views::{
     push_bodies, push_has_bodies, push_references, push_storage, push_viewed, push_visited,
 };
-use crate::writing::{Change, Output, push_changed};
+use crate::whole_modules::{Change, Output, push_changed};
 use std::alloc::Global;
 use std::process::Abort;
 use std::test::Fail;

@@ -1,7 +1,7 @@
 //! Functions with a body that are added to modules.
 use crate::cases::{Query, check};
 use crate::making::{Item, Step};
-use crate::writing::{Change, Output};
+use crate::whole_modules::{Change, Output};
 use std::test::Fail;
 
 /// Types of functions from nothing to nothing, and from an i32 to an i32; an imported function f of

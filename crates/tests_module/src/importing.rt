@@ -1,7 +1,7 @@
 //! Functions that are imported besides those of a module: everything that names a function follows.
 use crate::cases::{Query, check};
 use crate::making::{Step, put_first};
-use crate::writing::{Change, Output};
+use crate::whole_modules::{Change, Output};
 use std::test::Fail;
 use walrus_body::LocalFunction;
 use walrus_ir::{Call, Const, FunctionId, Instr, ModuleLocals, Value};

@@ -25,4 +25,4 @@ mod texts;
 #[cfg(test)]
 mod views;
 #[cfg(test)]
-mod writing;
+mod whole_modules;

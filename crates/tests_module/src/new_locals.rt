@@ -2,7 +2,7 @@
 use crate::cases::{Query, check};
 use crate::making::put_first;
 use crate::texts::FOLLOWED;
-use crate::writing::{Change, Output};
+use crate::whole_modules::{Change, Output};
 use std::test::Fail;
 use walrus_body::LocalFunction;
 use walrus_ir::{Instr, LocalGet, ModuleLocals, ValType};

@@ -18,7 +18,7 @@ use wasm_sections::{
 ///
 /// # Example
 ///
-/// A module rewritten, as in `wrewrite_c/src/making.rt`:
+/// A module rewritten, as in `tests_module/src/whole_modules.rt`:
 ///
 /// ```text
 /// let mut parsed = ParsedModule::read(alloc, bytes)?;
