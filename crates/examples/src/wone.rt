@@ -48,10 +48,8 @@ fn parse(alloc: Global, module: &Module, bytes: &[u8]) -> Result<LocalFunction>
     let (args, instrs) = (Vec::from_slice(alloc, &[arg])?, &mut Vec::new(alloc));
     let (start, ops, place) = (0, 0, None::<&fn(&usize) -> InstrLocId>);
     let body = FunctionBody { bytes, start, ops };
-    let function = LocalFunction::parse(
-        module, &ids, id, ty, args, body, place, AcceptAll, instrs,
-    )?;
-    Ok(function)
+    let made = LocalFunction::parse(module, &ids, id, ty, args, body, place, AcceptAll, instrs)?;
+    Ok(made)
 }
 
 /// Prints a body and the old place of each of its operators.
