@@ -169,19 +169,36 @@ struct Measured {
     sum: usize,
 }
 
-/// Measures a module.
-fn measure(alloc: Global, task: Task<'_>, bytes: &[u8]) -> Result<Measured, ModuleError> {
-    let mut parsed = match ParsedModule::read(alloc, bytes) {
-        Ok(parsed) => parsed,
-        Err(error) => return Err(error),
-    };
+/// Adds up the numbers of all passes over a module, which share what they work with.
+fn sum_passes(
+    alloc: Global,
+    task: Task<'_>,
+    parsed: &mut ParsedModule<'_>,
+) -> Result<usize, ModuleError> {
     let mut scratch = Scratch::new(alloc);
-    match pass_all(task, &mut parsed, &mut scratch) {
+    pass_all(task, parsed, &mut scratch)
+}
+
+/// Measures a module that was read.
+fn measure_parsed(
+    alloc: Global,
+    task: Task<'_>,
+    parsed: &mut ParsedModule<'_>,
+) -> Result<Measured, ModuleError> {
+    match sum_passes(alloc, task, parsed) {
         Ok(sum) => Ok(Measured {
             bodies: parsed.body_count(),
-            bytes: count_bytes(&parsed),
+            bytes: count_bytes(parsed),
             sum,
         }),
+        Err(error) => Err(error),
+    }
+}
+
+/// Reads a module and measures it.
+fn measure(alloc: Global, task: Task<'_>, bytes: &[u8]) -> Result<Measured, ModuleError> {
+    match ParsedModule::read(alloc, bytes) {
+        Ok(mut parsed) => measure_parsed(alloc, task, &mut parsed),
         Err(error) => Err(error),
     }
 }
