@@ -41,7 +41,7 @@ fn parse(alloc: Global, module: &Module, bytes: &[u8]) -> Result<LocalFunction>
     requires { «module».now.code_section_offset ≡ 0 }
 {
     let (id, ty, arg) = (FunctionId::new(BODY), TypeId::new(0), LocalId::new(0));
-    let mut ids = IndicesToIds::new(alloc);
+    let mut ids = Box::new(alloc, IndicesToIds::new(alloc))?;
     ids.push_func(FunctionId::new(HELPER))?;
     ids.push_func(id)?;
     ids.push_local(id, arg)?;
@@ -72,7 +72,7 @@ fn print(rt: &(impl Print + AllocGlobal), raw: &[u8], pairs: &[(InstrLocId, usiz
 fn write(rt: &(impl Print + AllocGlobal), module: &Module, function: &LocalFunction) -> Result<()>
     requires { HasEntry function.now.builder }
 {
-    let mut indices = IdsToIndices::new(rt.alloc());
+    let mut indices = Box::new(rt.alloc(), IdsToIndices::new(rt.alloc()))?;
     push_new(&mut indices)?;
     let (declared, mut pairs) = (IdHashSet::new(rt.alloc()), Vec::new(rt.alloc()));
     let (mut encoder, numbers) = begin_body(rt.alloc(), function, &declared, module, &indices)?;
