@@ -296,6 +296,6 @@ fn run(rt: &HostRuntime, demo: &Demo) -> io::Result<()> {
 }
 
 fn main(rt: HostRuntime) -> io::Result<()> {
-    let demo = Demo::new(rt.alloc())?;
+    let demo = Box::new(rt.alloc(), Demo::new(rt.alloc())?)?;
     run(&rt, &demo)
 }
