@@ -7,6 +7,7 @@ ghost use Rattle.wasm_module.specs.Refusals.{IsRefused};
 ghost use Rattle.wrewrite_c.specs.Outcomes.{IsOfCheck};
 
 use crate::outcome::{Refusal, Stop};
+use crate::reading::read;
 use std::alloc::Global;
 use wasm_module::{Body, ModuleError, ParsedModule, Scratch};
 
@@ -52,14 +53,9 @@ fn check_bodies(
 pub(crate) fn check(alloc: Global, source: &[u8], first: usize) -> Result<(), Stop>
     ensures { IfErr result (IsOfCheck source.now first) }
 {
-    let mut parsed = match ParsedModule::read(alloc, source) {
+    let mut parsed = match read(alloc, source) {
         Ok(parsed) => parsed,
-        Err(error) => {
-            return Err(Stop::Refused(Refusal {
-                error,
-                function: None,
-            }));
-        }
+        Err(stop) => return Err(stop),
     };
     let mut scratch = Scratch::new(alloc);
     check_bodies(&mut parsed, first, &mut scratch)

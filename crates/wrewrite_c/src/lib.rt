@@ -11,6 +11,7 @@ mod checking;
 mod made;
 mod making;
 mod outcome;
+mod reading;
 
 use made::{Made, Sought};
 pub use outcome::{Outcome, TEXT_SIZE};

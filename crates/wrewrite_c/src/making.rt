@@ -10,6 +10,7 @@ ghost use Rattle.wrewrite_c.specs.Outcomes.{IsOfModule, IsMissing, IsMissingIn, 
 
 use crate::made::{Made, Sought};
 use crate::outcome::{Refusal, Stop};
+use crate::reading::read;
 use module_tools::function_at;
 use std::alloc::Global;
 use walrus_ir::{FunctionId, IdHashSet};
@@ -118,14 +119,9 @@ pub(crate) fn rewrite(
     ensures no_map { wanted.has_map ≡ false → made.new.lines.items ≡ made.old.lines.items }
     ensures stops { IfErr result IsOfModule }
 {
-    let mut parsed = match ParsedModule::read(alloc, source) {
+    let mut parsed = match read(alloc, source) {
         Ok(parsed) => parsed,
-        Err(error) => {
-            return Err(Stop::Refused(Refusal {
-                error,
-                function: None,
-            }));
-        }
+        Err(stop) => return Err(stop),
     };
     match rewrite_parsed(&mut parsed, wanted, made) {
         Ok(()) => Ok(()),
@@ -243,14 +239,9 @@ pub(crate) fn snip(
     ensures no_map { wanted.has_map ≡ false → made.new.lines.items ≡ made.old.lines.items }
     ensures stops { IfErr result (LacksFunction indices.now source.now) }
 {
-    let mut parsed = match ParsedModule::read(alloc, source) {
+    let mut parsed = match read(alloc, source) {
         Ok(parsed) => parsed,
-        Err(error) => {
-            return Err(Stop::Refused(Refusal {
-                error,
-                function: None,
-            }));
-        }
+        Err(stop) => return Err(stop),
     };
     snip_parsed(alloc, &mut parsed, indices, wanted, made)
 }
