@@ -48,7 +48,7 @@ def _(room):
     same(["in"], room.files())
 
 
-@case("each section that the code has left behind has its warning")
+@case("each section that is out of date once the code has changed has its warning")
 def _(room):
     for given, warnings in module_rows.WARNED:
         room.put("in", bytes.fromhex(given))
