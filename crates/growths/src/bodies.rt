@@ -220,7 +220,8 @@ fn run_with_indices(
 ) -> io::Result<()>
     requires { «module».now.code_section_offset ≡ 90 }
 {
-    let mut numbers = IdsToIndices::new(selection.alloc());
+    let alloc = selection.alloc();
+    let mut numbers = Box::new(alloc, IdsToIndices::new(alloc))?;
     match number_items(&mut numbers) {
         Ok(()) => run_over(selection, &Demo::new(module, indices, &numbers)),
         Err(_) => Err(io::Error::from(AllocError)),

@@ -83,6 +83,12 @@ fn last_instr(alloc: Global, wrong: Wrong) -> Result<Instr, AllocError> {
     Ok(instr)
 }
 
+/// Appends an instruction to a sequence.
+fn put(sequence: &mut InstrSeq, instr: Instr, location: InstrLocId) -> Result<(), AllocError> {
+    sequence.instrs.push((instr, location))?;
+    Ok(())
+}
+
 /// Gives a sequence its instructions. A function without a fault drops the local 1, with locations of
 /// its own. An unknown local comes before an unknown sequence, whose fault comes first.
 fn put_all(alloc: Global, sequence: &mut InstrSeq, wrong: Wrong) -> Result<(), AllocError> {
@@ -94,10 +100,9 @@ fn put_all(alloc: Global, sequence: &mut InstrSeq, wrong: Wrong) -> Result<(), A
     };
     if let Some(local) = local {
         let local = LocalId::new(local);
-        let instr = Instr::LocalGet(LocalGet { local });
-        sequence.instrs.push((instr, first))?;
+        put(sequence, Instr::LocalGet(LocalGet { local }), first)?;
     }
-    sequence.instrs.push((last_instr(alloc, wrong)?, last))?;
+    put(sequence, last_instr(alloc, wrong)?, last)?;
     if let Wrong::Nothing = wrong {
         sequence.end = InstrLocId::new(7);
     }

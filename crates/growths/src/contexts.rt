@@ -148,17 +148,22 @@ pub(crate) fn without_frame<'a>(alloc: Global, demo: &Demo<'a>) -> ValidationCon
     )
 }
 
-/// Opens a frame with a legacy `try` that has no clause, and the frame of its body with an
-/// instruction. Whether that is done: else memory ran out.
-fn open_try(alloc: Global, context: &mut ValidationContext<'_>) -> bool {
+/// Adds a legacy `try` that has no clause. Whether that is done: else memory ran out.
+fn add_try(alloc: Global, context: &mut ValidationContext<'_>) -> bool {
     let made = Instr::Try(Try {
         seq: InstrSeqId::new(1),
         catches: Vec::new(alloc),
     });
+    context.alloc_instr(made, InstrLocId::new(5)).is_ok()
+}
+
+/// Opens a frame with such a `try`, and the frame of its body with an instruction. Whether that is
+/// done: else memory ran out.
+fn open_try(alloc: Global, context: &mut ValidationContext<'_>) -> bool {
     context
         .push_control(BlockKind::FunctionEntry, &[], &[])
         .is_ok()
-        && context.alloc_instr(made, InstrLocId::new(5)).is_ok()
+        && add_try(alloc, context)
         && context.push_control(BlockKind::Try, &[], &[]).is_ok()
         && context.alloc_instr(Instr::Drop, InstrLocId::new(6)).is_ok()
 }

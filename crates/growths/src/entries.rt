@@ -63,7 +63,8 @@ pub(crate) fn run(
     call: &str,
     row: &str,
 ) -> io::Result<()> {
-    let mut indices = IdsToIndices::new(selection.alloc());
+    let alloc = selection.alloc();
+    let mut indices = Box::new(alloc, IdsToIndices::new(alloc))?;
     match number_items(&mut indices) {
         Ok(()) => run_with(selection, module, function, &mut indices, call, row),
         Err(_) => Err(io::Error::from(AllocError)),

@@ -111,8 +111,9 @@ fn run_one(
     row: &str,
     count: usize,
 ) -> io::Result<()> {
-    let mut items = Items::new(selection.alloc(), item);
-    selection.run_after(count, call, row, &mut items)
+    let alloc = selection.alloc();
+    let mut items = Box::new(alloc, Items::new(alloc, item))?;
+    selection.run_after(count, call, row, &mut *items)
 }
 
 /// Runs the scenarios of these calls that are selected. A list has room for four items first.

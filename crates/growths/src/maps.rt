@@ -287,8 +287,9 @@ fn run_one(
     first: usize,
     count: usize,
 ) -> io::Result<()> {
-    let mut maps = Maps::new(selection.alloc(), kind, first);
-    selection.run_after(count, call, row, &mut maps)
+    let alloc = selection.alloc();
+    let mut maps = Box::new(alloc, Maps::new(alloc, kind, first))?;
+    selection.run_after(count, call, row, &mut *maps)
 }
 
 /// Runs the scenarios of these calls that are selected.

@@ -266,17 +266,19 @@ const CALL: &str = "no-memory";
 const BODY: &str = "00410104400b0b";
 
 fn run_indices(selection: Selection<'_>) -> io::Result<()> {
-    let mut indices = IndicesToIds::new(selection.alloc());
+    let alloc = selection.alloc();
+    let mut indices = Box::new(alloc, IndicesToIds::new(alloc))?;
     match push_each(&mut indices) {
-        Ok(()) => selection.run(CALL, "indices", &mut indices),
+        Ok(()) => selection.run(CALL, "indices", &mut *indices),
         Err(_) => Err(io::Error::from(AllocError)),
     }
 }
 
 fn run_numbers(selection: Selection<'_>) -> io::Result<()> {
-    let mut numbers = IdsToIndices::new(selection.alloc());
+    let alloc = selection.alloc();
+    let mut numbers = Box::new(alloc, IdsToIndices::new(alloc))?;
     match number_each(&mut numbers) {
-        Ok(()) => selection.run(CALL, "numbers", &mut numbers),
+        Ok(()) => selection.run(CALL, "numbers", &mut *numbers),
         Err(_) => Err(io::Error::from(AllocError)),
     }
 }

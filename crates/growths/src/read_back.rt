@@ -157,7 +157,8 @@ fn run_with(selection: Selection<'_>, demo: &Demo<'_>, indices: &IndicesToIds) -
 
 /// Runs these scenarios that are selected.
 pub(crate) fn run(selection: Selection<'_>, demo: &Demo<'_>) -> io::Result<()> {
-    let mut indices = IndicesToIds::new(selection.alloc());
+    let alloc = selection.alloc();
+    let mut indices = Box::new(alloc, IndicesToIds::new(alloc))?;
     match push_undone(&mut indices) {
         Ok(()) => run_with(selection, demo, &indices),
         Err(_) => Err(io::Error::from(AllocError)),

@@ -68,16 +68,20 @@ pub(crate) fn instr(made: Made) -> Instr {
     }
 }
 
+fn at(location: u16) -> InstrLocId {
+    InstrLocId::new(u32::from(location))
+}
+
 /// Appends an instruction to the sequence in a slot, if there is one.
 pub(crate) fn put(
     builder: &mut FunctionBuilder,
     slot: usize,
-    instr: Instr,
+    made: Made,
     location: u16,
 ) -> Result<(), AllocError> {
     let seq = InstrSeqId::new(slot);
     match builder.has(seq) {
-        true => append(builder, seq, instr, InstrLocId::new(u32::from(location))),
+        true => append(builder, seq, instr(made), at(location)),
         false => Ok(()),
     }
 }
@@ -88,7 +92,7 @@ pub(crate) type Item = (usize, Made, u16);
 /// Appends instructions.
 pub(crate) fn put_all(builder: &mut FunctionBuilder, instrs: &[Item]) -> Result<(), AllocError> {
     for (slot, made, location) in instrs {
-        put(builder, *slot, instr(*made), *location)?;
+        put(builder, *slot, *made, *location)?;
     }
     Ok(())
 }
@@ -114,16 +118,25 @@ pub(crate) fn function(
     Ok(builder)
 }
 
-/// Appends to the first sequence a `try` with the body in this slot and these clauses.
+/// Appends to the first sequence, if there is one, a `try` with the body in this slot and these
+/// clauses.
 pub(crate) fn put_try(
     builder: &mut FunctionBuilder,
     body: usize,
     clauses: &[LegacyCatch],
     location: u16,
 ) -> Result<(), AllocError> {
-    let seq = InstrSeqId::new(body);
+    let (first, seq) = (InstrSeqId::new(0), InstrSeqId::new(body));
+    if !builder.has(first) {
+        return Ok(());
+    }
     let catches = Vec::from_slice(builder.allocator(), clauses)?;
-    put(builder, 0, Instr::Try(Try { seq, catches }), location)
+    append(
+        builder,
+        first,
+        Instr::Try(Try { seq, catches }),
+        at(location),
+    )
 }
 
 /// The instructions of `example` before its `try`.
@@ -183,7 +196,7 @@ pub(crate) fn deep(alloc: Global, depth: usize) -> Result<FunctionBuilder, Alloc
     let mut builder = sequences(alloc, depth.saturating_add(1))?;
     for slot in 0..depth {
         let next = Made::Block(slot.saturating_add(1));
-        put(&mut builder, slot, instr(next), 0)?;
+        put(&mut builder, slot, next, 0)?;
     }
     Ok(builder)
 }

@@ -66,12 +66,15 @@ fn push_opened(
     }
 }
 
+// Appends a frame that was closed, and its sequence.
+fn push_closed(text: &mut String, frame: &ControlFrame, seq: InstrSeqId) -> Result<(), AllocError> {
+    push_frame(text, frame)?;
+    write!(text, " of {}", seq.index())
+}
+
 fn pop(context: &mut ValidationContext<'_>, text: &mut String) -> Result<(), AllocError> {
     match context.pop_control() {
-        Ok((frame, seq)) => {
-            push_frame(text, &frame)?;
-            write!(text, " of {}", seq.index())
-        }
+        Ok((frame, seq)) => push_closed(text, &frame, seq),
         Err(error) => write!(text, " {error:?}"),
     }
 }
@@ -97,6 +100,33 @@ fn push_start(
 
 fn at(location: u16) -> InstrLocId {
     InstrLocId::new(u32::from(location))
+}
+
+// Appends an instruction with `alloc_instr`.
+fn put(context: &mut ValidationContext<'_>, made: Made, location: u16) -> Result<(), ParseError> {
+    context.alloc_instr(instr(made), at(location))
+}
+
+// Appends an instruction to the innermost frame with `alloc_instr_in_control`.
+fn put_here(
+    context: &mut ValidationContext<'_>,
+    made: Made,
+    location: u16,
+) -> Result<(), ParseError> {
+    context.alloc_instr_in_control(0, instr(made), at(location))
+}
+
+// Appends a `try` of a sequence, without clauses.
+fn put_try(
+    alloc: Global,
+    context: &mut ValidationContext<'_>,
+    seq: usize,
+) -> Result<(), ParseError> {
+    let made = Instr::Try(Try {
+        seq: InstrSeqId::new(seq),
+        catches: Vec::new(alloc),
+    });
+    context.alloc_instr(made, at(0))
 }
 
 fn put_around(
@@ -153,19 +183,9 @@ fn call(
         Step::Pop => pop(context, text),
         Step::Kill => push_done(text, context.unreachable()),
         Step::Show(n) => show(context, n, text),
-        Step::Put(made, location) => {
-            push_done(text, context.alloc_instr(instr(made), at(location)))
-        }
-        Step::PutTry(seq) => {
-            let seq = InstrSeqId::new(seq);
-            let catches = Vec::new(alloc);
-            let made = Instr::Try(Try { seq, catches });
-            push_done(text, context.alloc_instr(made, at(0)))
-        }
-        Step::PutHere(made, location) => push_done(
-            text,
-            context.alloc_instr_in_control(0, instr(made), at(location)),
-        ),
+        Step::Put(made, location) => push_done(text, put(context, made, location)),
+        Step::PutTry(seq) => push_done(text, put_try(alloc, context, seq)),
+        Step::PutHere(made, location) => push_done(text, put_here(context, made, location)),
         Step::PutAround(made, location) => put_around(context, made, location, text),
         Step::PutOutside(made, location) => put_outside(context, made, location, text),
         Step::Delegate(relative_depth) => {

@@ -95,7 +95,7 @@ fn emitted_text(alloc: Global, cx: &mut EmitContext<'_>) -> Result<String, Alloc
 }
 
 fn emitted_in(alloc: Global, module: &Module) -> Result<String, AllocError> {
-    let mut indices = IdsToIndices::new(alloc);
+    let mut indices = Box::new(alloc, IdsToIndices::new(alloc))?;
     let mut cx = EmitContext {
         module,
         indices: &mut indices,

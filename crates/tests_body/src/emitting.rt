@@ -69,7 +69,14 @@ fn write_under(
     write(text, function, &types, numbers, locals, encoder, map)
 }
 
-// The same with these numbers of locals: the local 5 has 300, and the local 6 has 0.
+// The local 5 has the number 300, and the local 6 has 0.
+fn number_locals(locals: &mut IdHashMap<LocalId, u32>) -> Result<(), AllocError> {
+    locals.insert(LocalId::new(5), 300)?;
+    locals.insert(LocalId::new(6), 0)?;
+    Ok(())
+}
+
+// The same with these numbers of locals.
 fn write_with(
     text: &mut String,
     function: &LocalFunction,
@@ -78,9 +85,10 @@ fn write_with(
     map: &mut Vec<(InstrLocId, usize)>,
 ) -> Result<(), AllocError> {
     let mut locals = IdHashMap::new(*text.allocator());
-    locals.insert(LocalId::new(5), 300)?;
-    locals.insert(LocalId::new(6), 0)?;
-    write_under(text, function, numbers, &locals, encoder, map)
+    match number_locals(&mut locals) {
+        Ok(()) => write_under(text, function, numbers, &locals, encoder, map),
+        Err(error) => Err(error),
+    }
 }
 
 // The same with the numbers of these tests.
@@ -90,7 +98,8 @@ fn write_into(
     encoder: &mut FunctionEncoder,
     map: &mut Vec<(InstrLocId, usize)>,
 ) -> Result<(), Fail> {
-    let mut numbers = IdsToIndices::new(*text.allocator());
+    let alloc = *text.allocator();
+    let mut numbers = Box::new(alloc, IdsToIndices::new(alloc))?;
     set_all(&mut numbers)?;
     Ok(write_with(text, function, &numbers, encoder, map)?)
 }

@@ -32,8 +32,21 @@ fn push_facts(text: &mut String, facts: &EmitFacts) -> Result<(), AllocError> {
     Ok(())
 }
 
-// Appends the facts that a visitor with this size at the beginning gathers, from the first sequence
-// on, and the fault.
+// Appends the facts that a visitor gathers from the first sequence on, and the fault.
+fn push_visited(
+    text: &mut String,
+    builder: &FunctionBuilder,
+    visitor: &mut FactsVisitor,
+) -> Result<(), AllocError> {
+    let returned = dfs_in_order(visitor, builder, InstrSeqId::new(0));
+    push_facts(text, &visitor.facts)?;
+    match returned {
+        Ok(()) => Ok(()),
+        Err(error) => write!(text, " {error:?}"),
+    }
+}
+
+// The same of a visitor with this size at the beginning.
 fn push_gathered(
     text: &mut String,
     builder: &FunctionBuilder,
@@ -41,12 +54,7 @@ fn push_gathered(
 ) -> Result<(), AllocError> {
     let mut visitor = FactsVisitor::new(*text.allocator());
     visitor.facts.size = before;
-    let returned = dfs_in_order(&mut visitor, builder, InstrSeqId::new(0));
-    push_facts(text, &visitor.facts)?;
-    match returned {
-        Ok(()) => Ok(()),
-        Err(error) => write!(text, " {error:?}"),
-    }
+    push_visited(text, builder, &mut visitor)
 }
 
 // Appends the result of a count that begins at a number, and the count after it.

@@ -3,7 +3,7 @@ use crate::cases::{About, check};
 use crate::function_text::push_parsed_function;
 use crate::small_module::{Setting, parse_lent};
 use std::test::Fail;
-use walrus_body::AcceptAll;
+use walrus_body::{AcceptAll, LocalFunction};
 use walrus_ir::{Instr, InstrLocId};
 
 // Trees of bodies that begin at the place 0, with the location of each operator.
@@ -205,12 +205,15 @@ fn asks_for_locations(rt: HostRuntime) -> Result<(), Fail> {
     Ok(())
 }
 
+fn push_whole(text: &mut String, function: &LocalFunction) -> Result<(), Fail> {
+    Ok(push_parsed_function(text, function)?)
+}
+
 // Appends the function that is parsed from an `if` with this list.
 fn push_lent(text: &mut String, instrs: &mut Vec<(Instr, InstrLocId)>) -> Result<(), Fail> {
     let alloc = *instrs.allocator();
     let function = parse_lent(alloc, Setting::PLAIN, "410104400b0b", AcceptAll, instrs)?;
-    push_parsed_function(text, &function)?;
-    Ok(())
+    push_whole(text, &function)
 }
 
 /// The contents of the caller's list make no difference.

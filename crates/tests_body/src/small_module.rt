@@ -14,13 +14,14 @@ use walrus_ir::{
     ModuleTags, ModuleTypes, TableId, TagId, TypeId, ValType,
 };
 
-/// A module and the ids of its old indices.
+/// A module and the ids of its old indices, in boxes: so a function that owns them is proved
+/// faster.
 #[derive(Drop)]
 pub(crate) struct Example {
     /// The module.
-    pub module: Module,
+    pub module: Box<Module>,
     /// The ids of its old indices.
-    pub indices: IndicesToIds,
+    pub indices: Box<IndicesToIds>,
 }
 
 /// 0 has no parameters and results, 1 and 2 have an `i32` parameter and an `i32` result, 3 is not a
@@ -74,26 +75,39 @@ fn push_ids(indices: &mut IndicesToIds) -> Result<(), IndexError> {
     Ok(())
 }
 
-fn module(alloc: Global, code_section_offset: usize) -> Result<Module, AllocError>
+// A module with these types.
+fn with_types(
+    alloc: Global,
+    types: ModuleTypes,
+    code_section_offset: usize,
+) -> Result<Module, AllocError>
     ensures { IfOk result (λ m. m.code_section_offset ≡ code_section_offset) }
 {
+    match tags(alloc) {
+        Ok(tags) => Ok(Module {
+            types,
+            tags,
+            locals: ModuleLocals::new(alloc),
+            code_section_offset,
+        }),
+        Err(error) => Err(error),
+    }
+}
+
+fn module(alloc: Global, code_section_offset: usize) -> Result<Box<Module>, AllocError>
+    ensures { IfOk result (λ m. m.value.code_section_offset ≡ code_section_offset) }
+{
     let types = types(alloc)?;
-    let tags = tags(alloc)?;
-    Ok(Module {
-        types,
-        tags,
-        locals: ModuleLocals::new(alloc),
-        code_section_offset,
-    })
+    Ok(Box::new(alloc, with_types(alloc, types, code_section_offset)?)?)
 }
 
 impl Example {
     /// The module, whose code begins at this place.
     pub(crate) fn new(alloc: Global, code_section_offset: usize) -> Result<Example, IndexError>
         ensures { IfOk result (λ example.
-            example.module.code_section_offset ≡ code_section_offset) }
+            example.module.value.code_section_offset ≡ code_section_offset) }
     {
-        let mut indices = IndicesToIds::new(alloc);
+        let mut indices = Box::new(alloc, IndicesToIds::new(alloc))?;
         push_ids(&mut indices)?;
         match module(alloc, code_section_offset) {
             Ok(module) => Ok(Example { module, indices }),
@@ -147,7 +161,7 @@ fn parse_in<V: OpCheck>(
     validator: V,
     instrs: &mut Vec<(Instr, InstrLocId)>,
 ) -> Result<LocalFunction, ParseFailure>
-    requires { example.now.module.code_section_offset ≡ setting.offset }
+    requires { example.now.module.value.code_section_offset ≡ setting.offset }
 {
     let alloc = *instrs.allocator();
     let Ok(bytes) = hex::decode(alloc, body) else {
@@ -220,11 +234,16 @@ pub(crate) fn push_noted(text: &mut String, body: &str) -> Result<(), Fail> {
     Ok(())
 }
 
-/// Appends the first sequence of the function with these operators.
-pub(crate) fn push_entry(text: &mut String, body: &str) -> Result<(), Fail> {
-    let function = parse_by(*text.allocator(), Setting::PLAIN, body, AcceptAll)?;
+// Appends the first sequence of a function.
+fn push_first(text: &mut String, function: &LocalFunction) -> Result<(), Fail> {
     if function.has_entry() {
         push_sequence(text, function.block(function.entry_block()))?;
     }
     Ok(())
+}
+
+/// Appends the first sequence of the function with these operators.
+pub(crate) fn push_entry(text: &mut String, body: &str) -> Result<(), Fail> {
+    let function = parse_by(*text.allocator(), Setting::PLAIN, body, AcceptAll)?;
+    push_first(text, &function)
 }

@@ -135,6 +135,18 @@ fn without_sequences(alloc: Global, ty: usize, args: usize) -> Result<LocalFunct
     Ok(LocalFunction::new(ids, builder))
 }
 
+// Fills a function without sequences, and adds it.
+fn add_filled(
+    parsed: &mut ParsedModule<'_>,
+    changes: &mut Changes,
+    function: &mut LocalFunction,
+    step: Step<'_>,
+) -> Result<FunctionId, ModuleError> {
+    fill(function, step)?;
+    let locals = [ValType::I32, ValType::I64, ValType::I32];
+    parsed.add_function(changes, function, &locals)
+}
+
 // Adds the function of a step.
 fn add_function(
     alloc: Global,
@@ -148,9 +160,7 @@ fn add_function(
         _ => (1, 1),
     };
     let mut function = without_sequences(alloc, ty, args)?;
-    fill(&mut function, step)?;
-    let locals = [ValType::I32, ValType::I64, ValType::I32];
-    parsed.add_function(changes, &function, &locals)
+    add_filled(parsed, changes, &mut function, step)
 }
 
 fn type_of(ty: OneType) -> Option<ValType> {

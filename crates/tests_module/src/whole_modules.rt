@@ -1,4 +1,5 @@
 //! How a module is written, and what is told of the module that is written.
+use crate::cases::read;
 use crate::importing::CallFirst;
 use crate::making::{Step, make_all};
 use crate::new_locals::NewLocals;
@@ -6,9 +7,7 @@ use crate::numbering::Numbering;
 use crate::texts::{push_bytes, push_map, push_written};
 use std::alloc::Global;
 use walrus_ir::FunctionId;
-use wasm_module::{
-    BodyWriter, Changes, KeptBodies, ModuleError, ParsedModule, Rewriting, RewrittenModule,
-};
+use wasm_module::{BodyWriter, Changes, ModuleError, ParsedModule, Rewriting, RewrittenModule};
 
 /// How a module is written.
 #[derive(Clone, Copy)]
@@ -60,10 +59,8 @@ fn push_other_bytes<B: BodyWriter>(
     bytes: &[u8],
     rewritten: &RewrittenModule<'_, B>,
 ) -> Result<(), ModuleError> {
-    match ParsedModule::read(*text.allocator(), bytes) {
-        Ok(mut parsed) => push_written(text, &mut parsed, rewritten),
-        Err(error) => Err(error),
-    }
+    let mut parsed = read(*text.allocator(), bytes)?;
+    push_written(text, &mut parsed, rewritten)
 }
 
 // The same of a module as text, which is in hexadecimal.
@@ -93,44 +90,30 @@ fn push_output<B: BodyWriter>(
     }
 }
 
-fn rewritten<'a>(
-    parsed: &mut ParsedModule<'a>,
-    change: Change,
-    changes: Changes,
-) -> Result<RewrittenModule<'a, Rewriting>, ModuleError> {
-    match change {
-        Change::Rewrite => parsed.rewrite_all(),
-        _ => parsed.rewrite_with(Rewriting, changes),
+// Appends what is told of the module that is written, if it is rewritten.
+fn push_made<B: BodyWriter + Drop>(
+    text: &mut String,
+    parsed: &mut ParsedModule<'_>,
+    made: Result<RewrittenModule<'_, B>, ModuleError>,
+    output: Output<'_>,
+) -> Result<(), ModuleError> {
+    match made {
+        Ok(rewritten) => push_output(text, parsed, &rewritten, output),
+        Err(error) => Err(error),
     }
 }
 
-fn changed<'a>(
-    parsed: &mut ParsedModule<'a>,
-    change: Change,
+// Appends what is told of the module that is written with these changes, each function of whose
+// source calls one first.
+fn push_calling(
+    text: &mut String,
+    parsed: &mut ParsedModule<'_>,
+    mut first: CallFirst,
     changes: Changes,
-    last: FunctionId,
-) -> Result<RewrittenModule<'a, KeptBodies<'a>>, ModuleError> {
-    match change {
-        Change::Number => parsed.change_all(&mut Numbering(0), changes),
-        Change::AddLocals => parsed.change_all(&mut NewLocals, changes),
-        Change::CallWithSeven(id) => {
-            let func = FunctionId::new(id);
-            parsed.change_all(
-                &mut CallFirst {
-                    func,
-                    argument: Some(7),
-                },
-                changes,
-            )
-        }
-        _ => parsed.change_all(
-            &mut CallFirst {
-                func: last,
-                argument: None,
-            },
-            changes,
-        ),
-    }
+    output: Output<'_>,
+) -> Result<(), ModuleError> {
+    let made = parsed.change_all(&mut first, changes);
+    push_made(text, parsed, made, output)
 }
 
 // Appends what is told of the module that is written with these changes.
@@ -143,14 +126,30 @@ fn push_with(
     output: Output<'_>,
 ) -> Result<(), ModuleError> {
     match change {
-        Change::Rewrite | Change::With => match rewritten(parsed, change, changes) {
-            Ok(rewritten) => push_output(text, parsed, &rewritten, output),
-            Err(error) => Err(error),
-        },
-        _ => match changed(parsed, change, changes, last) {
-            Ok(changed) => push_output(text, parsed, &changed, output),
-            Err(error) => Err(error),
-        },
+        Change::Rewrite => {
+            let made = parsed.rewrite_all();
+            push_made(text, parsed, made, output)
+        }
+        Change::With => {
+            let made = parsed.rewrite_with(Rewriting, changes);
+            push_made(text, parsed, made, output)
+        }
+        Change::Number => {
+            let made = parsed.change_all(&mut Numbering(0), changes);
+            push_made(text, parsed, made, output)
+        }
+        Change::AddLocals => {
+            let made = parsed.change_all(&mut NewLocals, changes);
+            push_made(text, parsed, made, output)
+        }
+        Change::CallLast => {
+            let (func, argument) = (last, None);
+            push_calling(text, parsed, CallFirst { func, argument }, changes, output)
+        }
+        Change::CallWithSeven(id) => {
+            let (func, argument) = (FunctionId::new(id), Some(7));
+            push_calling(text, parsed, CallFirst { func, argument }, changes, output)
+        }
     }
 }
 

@@ -82,8 +82,8 @@ fn located_with(
 ) -> Result<Option<u32>, Fail>
     requires { «module».now.code_section_offset ≡ 90 }
 {
-    let out = demo::numbers(alloc)?;
     let args = vec![in alloc; LocalId::new(0)]?;
+    let out = Box::new(alloc, demo::numbers(alloc)?)?;
     located_by(module, indices, &out, args, bytes, place)
 }
 
@@ -96,7 +96,7 @@ fn located_in(
 ) -> Result<Option<u32>, Fail>
     requires { «module».now.code_section_offset ≡ 90 }
 {
-    let indices = demo::indices(alloc)?;
+    let indices = Box::new(alloc, demo::indices(alloc)?)?;
     located_with(alloc, module, &indices, bytes, place)
 }
 

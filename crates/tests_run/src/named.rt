@@ -141,12 +141,6 @@ fn push_ids(indices: &mut IndicesToIds) -> Result<(), IndexError> {
     Ok(())
 }
 
-fn indices(alloc: Global) -> Result<IndicesToIds, IndexError> {
-    let mut indices = IndicesToIds::new(alloc);
-    push_ids(&mut indices)?;
-    Ok(indices)
-}
-
 // The place of a body, and the position of its first operator.
 #[derive(Clone, Copy)]
 struct Place {
@@ -195,8 +189,9 @@ fn named_by(
 }
 
 fn named(alloc: Global, place: Place, bytes: &[u8]) -> Result<NamedBody, ParseFailure> {
-    match indices(alloc) {
-        Ok(indices) => named_by(alloc, &indices, place, bytes),
+    let mut indices = IndicesToIds::new(alloc);
+    match push_ids(&mut indices) {
+        Ok(()) => named_by(alloc, &indices, place, bytes),
         Err(_) => Err(OUT_OF_MEMORY),
     }
 }

@@ -54,10 +54,7 @@ fn by_tree(alloc: Global, demo: &Demo, body: Body<'_>) -> Result<Appended, Alloc
         &mut appended.bytes,
         Some(&mut appended.pairs),
     );
-    appended.error = match rewritten {
-        Ok(_function) => None,
-        Err(error) => Some(error),
-    };
+    appended.error = rewritten.err();
     Ok(appended)
 }
 
@@ -84,10 +81,7 @@ fn without_tree(
         &mut appended.bytes,
         Some(&mut appended.pairs),
     );
-    appended.error = match rewritten {
-        Ok(()) => None,
-        Err(error) => Some(error),
-    };
+    appended.error = rewritten.err();
     Ok(appended)
 }
 

@@ -1,9 +1,9 @@
 //! The demo module: the index maps that `wbody` uses with it, and the bodies that are read in it.
-ghost use Rattle.std.specs.Prelude.{◌≡◌, ◌≤◌, ◌<◌, ◌+◌, ◌^◌, length};
+ghost use Rattle.std.specs.Prelude.{◌≡◌, ◌≤◌, ◌<◌, ◌+◌, ◌^◌, length, IfOk};
 
 use crate::fault::Fault;
 use std::alloc::{AllocError, Global};
-use walrus_body::{AcceptAll, FunctionBody, IdsToIndices, IndexError, IndicesToIds, LocalFunction};
+use walrus_body::{AcceptAll, FunctionBody, IdsToIndices, IndicesToIds, LocalFunction};
 use walrus_ir::{FunctionId, InstrLocId, LocalId, Module, TypeId};
 use walrus_run::{NamedBody, demo};
 
@@ -26,21 +26,29 @@ pub(crate) fn arguments(alloc: Global) -> Result<Vec<LocalId>, AllocError> {
 }
 
 /// The module, whose code begins at the place 0, with the ids of its old indices and its new
-/// indices.
+/// indices. Each is in a box, which is dropped in one step: a function that owns one of them itself
+/// takes long to prove.
 #[derive(Drop)]
 pub(crate) struct Demo {
     /// The module.
-    pub module: Module,
+    pub module: Box<Module>,
     /// The ids of its old indices.
-    pub indices: IndicesToIds,
+    pub indices: Box<IndicesToIds>,
     /// The new indices of its ids.
-    pub numbers: IdsToIndices,
-    ghost begins_at_zero: { «module».code_section_offset ≡ 0 },
+    pub numbers: Box<IdsToIndices>,
+    ghost begins_at_zero: { «module».value.code_section_offset ≡ 0 },
+}
+
+/// Puts a value in a box.
+fn in_box<T: Drop>(alloc: Global, value: T) -> Result<Box<T>, AllocError>
+    ensures { IfOk result (λ boxed. boxed.value ≡ value) }
+{
+    Ok(Box::new(alloc, value)?)
 }
 
 /// The ids of the old indices, with these as function 0's locals, in order.
-pub(crate) fn indices(alloc: Global, locals: &[LocalId]) -> Result<IndicesToIds, IndexError> {
-    let mut indices = demo::indices_of_items(alloc)?;
+pub(crate) fn indices(alloc: Global, locals: &[LocalId]) -> Result<Box<IndicesToIds>, Fault> {
+    let mut indices = in_box(alloc, demo::indices_of_items(alloc)?)?;
     for local in locals {
         indices.push_local(function(), *local)?;
     }
@@ -74,17 +82,15 @@ impl<'a> Body<'a> {
 }
 
 /// The ids of the module's old indices, and its new indices.
-fn maps(alloc: Global) -> Result<(IndicesToIds, IdsToIndices), IndexError> {
-    let indices = demo::indices(alloc)?;
-    match demo::numbers(alloc) {
-        Ok(numbers) => Ok((indices, numbers)),
-        Err(error) => Err(error),
-    }
+fn maps(alloc: Global) -> Result<(Box<IndicesToIds>, Box<IdsToIndices>), Fault> {
+    let indices = in_box(alloc, demo::indices(alloc)?)?;
+    let numbers = in_box(alloc, demo::numbers(alloc)?)?;
+    Ok((indices, numbers))
 }
 
 impl Demo {
     pub(crate) fn new(alloc: Global) -> Result<Demo, AllocError> {
-        let module = demo::module(alloc)?;
+        let module = Box::new(alloc, demo::module(alloc)?)?;
         match maps(alloc) {
             Ok((indices, numbers)) => Ok(Demo {
                 module,

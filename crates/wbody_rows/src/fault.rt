@@ -2,7 +2,7 @@
 
 use std::alloc::AllocError;
 use thiserror::Error;
-use walrus_body::{EmitError, ParseError, ParseFailure};
+use walrus_body::{EmitError, IndexError, ParseError, ParseFailure};
 use walrus_ir::WalkError;
 use walrus_run::RewriteError;
 
@@ -56,6 +56,13 @@ impl Fault {
 
 impl From<AllocError> for Fault {
     fn from(_: AllocError) -> Fault {
+        Fault::Memory
+    }
+}
+
+// The maps of the demo module are refused only if memory runs out.
+impl From<IndexError> for Fault {
+    fn from(_: IndexError) -> Fault {
         Fault::Memory
     }
 }

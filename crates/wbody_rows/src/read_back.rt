@@ -1,10 +1,11 @@
 //! The bytes written for a body, read back and written again.
+ghost use Rattle.walrus_body.specs.LocalFunctions.{HasEntry};
 
 use crate::demo::{Body, Demo, LOCALS, arguments, function, function_type, indices};
 use crate::fault::Fault;
 use std::alloc::{AllocError, Global};
 use walrus_body::{AcceptAll, IndicesToIds, LocalFunction};
-use walrus_ir::{IdHashMap, InstrLocId, LocalId};
+use walrus_ir::{IdHashMap, IdHashSet, InstrLocId, LocalId};
 use walrus_run::rewrite_body;
 use wasm_encode::FunctionEncoder;
 
@@ -15,7 +16,7 @@ pub(crate) struct Written {
     /// The place of the first operator.
     operators: usize,
     /// The ids of the numbers that are written.
-    undoing: IndicesToIds,
+    undoing: Box<IndicesToIds>,
 }
 
 impl Written {
@@ -43,16 +44,30 @@ fn by_number(alloc: Global, numbers: &IdHashMap<LocalId, u32>) -> Result<Vec<Loc
     Ok(locals)
 }
 
-/// The bytes written for a function.
-fn write(alloc: Global, demo: &Demo, function: &LocalFunction) -> Result<Written, Fault> {
-    if !function.has_entry() {
-        return Err(Fault::Unwritten);
+/// Appends a function's operators to its declarations. Returns their place.
+fn append_operators(
+    demo: &Demo,
+    function: &LocalFunction,
+    locals: &IdHashMap<LocalId, u32>,
+    encoder: &mut FunctionEncoder,
+) -> Result<usize, Fault>
+    requires { HasEntry function.now.builder }
+{
+    let operators = encoder.byte_len();
+    match function.emit_instructions(&demo.module.types, &demo.numbers, locals, encoder, None) {
+        Ok(()) => Ok(operators),
+        Err(error) => Err(Fault::from(error)),
     }
-    let facts = match function.emit_facts() {
-        Ok(facts) => facts,
-        Err(error) => return Err(Fault::from(error)),
-    };
-    let used = &facts.used_locals;
+}
+
+/// An encoder that begins with the declarations of the locals that a function uses, and the numbers
+/// that they have.
+fn begin(
+    alloc: Global,
+    demo: &Demo,
+    function: &LocalFunction,
+    used: &IdHashSet<LocalId>,
+) -> Result<(FunctionEncoder, IdHashMap<LocalId, u32>), Fault> {
     let (declarations, locals) = match function.emit_locals(&demo.module, &demo.numbers, used) {
         Ok(made) => made,
         Err(error) => return Err(Fault::from(error)),
@@ -60,33 +75,56 @@ fn write(alloc: Global, demo: &Demo, function: &LocalFunction) -> Result<Written
     if declarations.len() > LOCALS {
         return Err(Fault::Unwritten);
     }
-    let mut encoder = FunctionEncoder::new(alloc, &declarations)?;
-    let operators = encoder.byte_len();
-    let types = &demo.module.types;
-    if let Err(error) = function.emit_instructions(
-        types,
-        &demo.numbers,
-        &locals,
-        &mut encoder,
-        None,
-    ) {
-        return Err(Fault::from(error));
+    Ok((FunctionEncoder::new(alloc, &declarations)?, locals))
+}
+
+/// The bytes of a body that begins with the declarations in this encoder.
+fn finish(
+    alloc: Global,
+    demo: &Demo,
+    function: &LocalFunction,
+    mut encoder: FunctionEncoder,
+    locals: &IdHashMap<LocalId, u32>,
+) -> Result<Written, Fault>
+    requires { HasEntry function.now.builder }
+{
+    let operators = append_operators(demo, function, locals, &mut encoder)?;
+    let undoing = indices(alloc, &by_number(alloc, locals)?)?;
+    Ok(Written {
+        bytes: encoder.into_raw_body(),
+        operators,
+        undoing,
+    })
+}
+
+/// The bytes written for a function that uses these locals.
+fn write_using(
+    alloc: Global,
+    demo: &Demo,
+    function: &LocalFunction,
+    used: &IdHashSet<LocalId>,
+) -> Result<Written, Fault>
+    requires { HasEntry function.now.builder }
+{
+    let (encoder, locals) = begin(alloc, demo, function, used)?;
+    finish(alloc, demo, function, encoder, &locals)
+}
+
+/// The bytes written for a function.
+fn write(alloc: Global, demo: &Demo, function: &LocalFunction) -> Result<Written, Fault> {
+    if !function.has_entry() {
+        return Err(Fault::Unwritten);
     }
-    match indices(alloc, &by_number(alloc, &locals)?) {
-        Ok(undoing) => Ok(Written {
-            bytes: encoder.into_raw_body(),
-            operators,
-            undoing,
-        }),
-        Err(_) => Err(Fault::Memory),
+    match function.emit_facts() {
+        Ok(facts) => write_using(alloc, demo, function, &facts.used_locals),
+        Err(error) => Err(Fault::from(error)),
     }
 }
 
 /// The bytes that `rewrite_body` appends for a body.
 fn append(alloc: Global, demo: &Demo, body: Body<'_>) -> Result<Vec<u8>, Fault> {
-    let mut instrs = Vec::new(alloc);
+    let (mut instrs, mut pairs) = (Vec::new(alloc), Vec::new(alloc));
     let mut bytes = Vec::new(alloc);
-    let mut pairs = Vec::new(alloc);
     let rewritten = rewrite_body(
         &demo.module,
         body.indices,
@@ -101,9 +139,9 @@ fn append(alloc: Global, demo: &Demo, body: Body<'_>) -> Result<Vec<u8>, Fault> 
         &mut bytes,
         Some(&mut pairs),
     );
-    match rewritten {
-        Ok(_) => Ok(bytes),
-        Err(error) => Err(Fault::from(error)),
+    match rewritten.err() {
+        None => Ok(bytes),
+        Some(error) => Err(Fault::from(error)),
     }
 }
 
