@@ -1,4 +1,5 @@
 """The time that wrewrite takes is nearly linear in what it reads: many types, long types, and many locals."""
+import math
 import resource
 
 from modules import PREAMBLE, number, section, signed, sized, vector
@@ -32,10 +33,16 @@ def seconds(room, *words):
 
 def is_nearly_linear(room, make, few, many, *words):
     """Ten times as much takes at most forty times the time, on a machine that does other work too: in an ordered map a look-up takes the
-    logarithm, and more memory is slower; the square would be a hundred times. What a program takes that has nothing to do is left out."""
+    logarithm, and more memory is slower; the square would be a hundred times. What a program takes that has nothing to do is left out.
+    Where it seems to take longer it is run again, since other work makes both times longer, and the least counts."""
     least = seconds(room, "--check", room.put("none"))
-    short, long = (seconds(room, *words, room.put("in", make(count)), *(() if words else ("out",))) for count in (few, many))
-    assert long <= 40 * max(short, least, 0.01), f"{few}: {short:.3f} s, {many}: {long:.3f} s"
+    short = long = math.inf
+    for _ in range(3):
+        once = (seconds(room, *words, room.put("in", make(count)), *(() if words else ("out",))) for count in (few, many))
+        short, long = (min(pair) for pair in zip((short, long), once))
+        if long <= 40 * max(short, least, 0.01):
+            return
+    raise AssertionError(f"{few}: {short:.3f} s, {many}: {long:.3f} s")
 
 
 @case("a block of each of 10,000 to 100,000 types takes time nearly in proportion")

@@ -1,5 +1,6 @@
 """No body that is written is longer than its source in the shortest spelling, which spelling.py reads, and a body is rewritten
-alike by its tree and without it: in the modules of programs, and in valid bodies at random."""
+alike by its tree and without it: in the modules of programs, and in valid bodies at random. What is changed in these at random is
+refused alike, and by a check, too."""
 import random
 import re
 
@@ -119,3 +120,28 @@ def _(room):
         said = room.works(TOGETHER, "wbench", "compare", "1", source).decode()
         # the sum counts the bodies of which bytes or location pairs differ
         assert re.fullmatch(r"[1-9]\d* bodies, [1-9]\d* bytes, sum 0\n", said), said
+
+
+def refused_alike(room, module):
+    """Whether a module is refused; if it is, then by the check, by the rewriting without a tree and by the parse for the same fault: that
+    of the first function that a check names, or one of reading the module."""
+    room.put("in", module)
+    status, checked, err = room.run("wrewrite", "--check", "in")
+    first = (checked.decode() + err).splitlines()[:1]
+    for program in ("wrewrite", "wcount"):
+        found, _out, err = room.run(program, "in", "out")
+        same((status, first), (found, [line.replace(program, "wrewrite", 1) for line in err.splitlines()]), module)
+    return status != 0
+
+
+@case("bodies are refused alike by the check, by the rewriting without a tree and by the parse: 300 modules with changed bytes")
+def _(room):
+    choice = random.Random(7)
+    refused = 0
+    for seed in range(300):
+        module = bytearray(random_module(seed, 3))
+        # in the last two thirds, of which nearly all is bodies
+        for _ in range(choice.randrange(1, 4)):
+            module[choice.randrange(len(module) // 3, len(module))] = choice.randrange(256)
+        refused += refused_alike(room, bytes(module))
+    assert 150 < refused < 300, refused

@@ -12,7 +12,7 @@ use walrus_body::{
     ParseFailure,
 };
 use walrus_ir::{InstrLocId, LocalId, WalkError};
-use walrus_run::{FlatScratch, NamedBody, RewriteError, rewrite_body, rewrite_flat};
+use walrus_run::{FlatScratch, NamedBody, RewriteError, check_flat, rewrite_body, rewrite_flat};
 use wasm_ops::Operator;
 
 /// A validator that accepts every operator and keeps its place, or has no memory for it.
@@ -54,6 +54,8 @@ enum Kind {
     RewriteLateLocated,
     /// Without a tree.
     Flat,
+    /// Without a tree, and without writing.
+    Check,
     Read,
 }
 
@@ -206,6 +208,23 @@ impl OfBody<'_> {
         }
     }
 
+    /// Checks the body, without a tree.
+    fn check_flat(&mut self, returned: &mut Text) -> Result<(), AllocError> {
+        let demo = self.demo;
+        match check_flat(
+            demo.module,
+            demo.indices,
+            demo.function,
+            demo.ty,
+            body(self.source, false),
+            AcceptAll,
+            &mut self.flat,
+        ) {
+            Ok(()) => Ok(()),
+            Err(failure) => push_failure(returned, failure),
+        }
+    }
+
     fn push_rewritten(
         &mut self,
         args: Vec<LocalId>,
@@ -252,6 +271,7 @@ impl Scenario for OfBody<'_> {
             }
             Kind::Read => self.read(returned),
             Kind::Flat => self.rewrite_flat(&arguments(alloc)?, returned),
+            Kind::Check => self.check_flat(returned),
             _ => self.push_rewritten(arguments(alloc)?, returned),
         }
     }
@@ -262,11 +282,12 @@ impl Scenario for OfBody<'_> {
     }
 }
 
-const CALLS: [(&str, Kind); 5] = [
+const CALLS: [(&str, Kind); 6] = [
     ("LocalFunction::parse", Kind::Parse),
     ("LocalFunction::parse-keeping", Kind::ParseKeeping),
     ("rewrite_body", Kind::Rewrite),
     ("rewrite_flat", Kind::Flat),
+    ("check_flat", Kind::Check),
     ("NamedBody::read", Kind::Read),
 ];
 

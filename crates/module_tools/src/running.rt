@@ -198,8 +198,8 @@ fn fault_of<'a>(
     body: Body<'a>,
     scratch: &mut Scratch,
 ) -> Option<ModuleError> {
-    match parsed.parse(body, scratch) {
-        Ok(_function) => None,
+    match parsed.check(body, scratch) {
+        Ok(()) => None,
         Err(error) => Some(error),
     }
 }

@@ -42,6 +42,7 @@ pub mod TypeBytes
 pub mod WrittenLoop
 -- a body that was checked, with the function's own type
 pub mod CheckedWhole
+pub mod FlatChecks
 -- a body that was checked and written
 pub mod FlatBodies
 pub mod FlatResults

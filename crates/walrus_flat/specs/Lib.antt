@@ -17,3 +17,5 @@ pub mod Laws
 pub mod WrittenBody
 -- the contract of rewriting without a tree
 pub mod RewrittenFlat
+-- the contract of checking without a tree
+pub mod FlatChecks

@@ -1,4 +1,4 @@
-//! Rewriting bodies without their trees: a body is checked, and then written while it is read again.
+//! Checking and rewriting bodies without their trees: a body is checked, and then written while it is read again.
 #![tactic(auto)]
 
 mod body_indices;
@@ -10,6 +10,7 @@ mod control;
 mod cursor;
 mod declarations;
 mod draft;
+mod flat_check;
 mod laws;
 mod local_numbers;
 mod open_sequence;
@@ -23,6 +24,7 @@ mod write_body;
 mod writer;
 
 pub use byte_sink::ByteSink;
+pub use flat_check::check_flat;
 pub use laws::{law_append_alike, law_raw_body, law_renumbered};
 pub use rewriting::{rewrite_flat, rewrite_flat_to};
 pub use scratch::FlatScratch;

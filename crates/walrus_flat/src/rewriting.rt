@@ -1,7 +1,6 @@
 //! Rewriting a body without its tree.
 ghost use Rattle.std.proofs.Common.{inl};
 ghost use Rattle.std.specs.Prelude.{◌≡◌, ◌⊎◌, ◌++◌, ◌≤◌, ◌<◌, ◌+◌, ◌^◌, ℕ, List, [], length, Option, Some, OnOk, OnErr, IfOk, IfErr, IsErr, false};
-ghost use Rattle.wasm_body.specs.declared.error.ParseError.TheVariants.{Memory as MemoryFault};
 ghost use Rattle.wasm_body.specs.declared.error.EmitError.TheVariants.{Memory};
 ghost use Rattle.wasm_flat.specs.Flat.{first_state};
 ghost use Rattle.walrus_rewrite.specs.RawBodies.{Begins, IsNotBegun};
@@ -18,9 +17,6 @@ ghost use Rattle.walrus_numbering.specs.NumberMaps.{numbers_by};
 ghost use Rattle.walrus_rewrite.specs.declared.error.RewriteError.TheVariants.{Parse, Emit as EmitFault};
 ghost use Rattle.walrus_rewrite.specs.Errors.{IsOutOfMemory};
 ghost use Rattle.walrus_rewrite.specs.RewrittenBodies.{RefusesRewriting, IsOfWriting};
-ghost use Rattle.walrus_flat.specs.Checked.{env_of};
-ghost use Rattle.walrus_flat.specs.Checkers.{used_in};
-ghost use Rattle.walrus_flat.specs.CheckedBody.{BeginsBody, setting_at, entry_in, ChecksAll};
 ghost use Rattle.walrus_flat.specs.UsedLocals.{is_used, entries_of};
 ghost use Rattle.walrus_flat.specs.Written.{state_of};
 ghost use Rattle.walrus_flat.specs.WrittenBody.{again, IsAccepted, WritesBody, RefusesWriting};
@@ -29,14 +25,11 @@ ghost use Rattle.walrus_flat.specs.RewrittenFlat.{emit_input, is_none, Composes,
 
 use crate::body_indices::BodyIndices;
 use crate::byte_sink::{ByteSink, InMemory};
-use crate::check_body::check_operators;
-use crate::checker::Checker;
 use crate::cursor::Cursor;
 use crate::declarations::write_declarations;
 use crate::draft::Draft;
+use crate::flat_check::check;
 use crate::local_numbers::{LocalNumbers, NumberedLocals, declare_locals};
-use crate::open_sequence::OpenSequence;
-use crate::place_limit::PlaceLimit;
 use crate::scratch::FlatScratch;
 use crate::sequences::{Next, OpenSequences, Written};
 use crate::used_locals::UsedLocals;
@@ -50,98 +43,6 @@ use walrus_parser::{FunctionBody, OpCheck, failure};
 use walrus_rewrite::{RewriteError, append_lists};
 use wasm_body::{EmitError, ParseError, ParseFailure};
 use wasm_translate::Lists;
-
-/// The entry type of a function of this type.
-fn entry_type(module: &Module, ty: TypeId) -> Result<TypeId, ParseError>
-    ensures { result ≡ entry_in «module».now.types ty }
-{
-    let types = &module.types;
-    if !types.is_func(ty) {
-        return Err(ParseError::NotAFunctionType);
-    }
-    match types.find_for_function_entry(types.results(ty)) {
-        Some(entry) => Ok(entry),
-        None => Err(ParseError::EntryTypeMissing),
-    }
-}
-
-/// A checker that has checked no operator. It takes the lists of the scratch.
-fn begin_check<'a>(
-    alloc: Global,
-    module: &'a Module,
-    indices: &'a IndicesToIds,
-    function: FunctionId,
-    ty: TypeId,
-    entry: TypeId,
-    scratch: &mut FlatScratch,
-) -> Result<Checker<'a>, ParseError>
-    ensures begins { IfOk result BeginsBody }
-    ensures env { IfOk result (λ c. env_of c
-        ≡ environment_of «module».now indices.now function ty) }
-    ensures none { IfOk result (λ c. (x : ℕ) → used_in c x ≡ false) }
-    ensures err { IfErr result (λ e. e ≡ MemoryFault) }
-{
-    let mut open = mem::replace(&mut scratch.open, Vec::new(alloc));
-    open.clear();
-    let last = mem::replace(&mut scratch.used, UsedLocals::new(alloc));
-    let used = last.cleared(alloc);
-    let first = OpenSequence {
-        kind: BlockKind::FunctionEntry,
-        ty: InstrSeqType::MultiValue(entry),
-        before: false,
-    };
-    match open.push(first) {
-        Ok(()) => Ok(Checker {
-            module,
-            indices: BodyIndices {
-                ids: indices,
-                function,
-                locals: indices.locals_of(function),
-            },
-            ty,
-            open,
-            dead: false,
-            used,
-            lists: Lists::new(alloc),
-        }),
-        Err(_) => Err(ParseError::Memory),
-    }
-}
-
-/// The first pass over the operators of a body. The scratch then holds the locals that live
-/// operators name.
-fn check<V: OpCheck>(
-    alloc: Global,
-    module: &Module,
-    indices: &IndicesToIds,
-    function: FunctionId,
-    ty: TypeId,
-    ops: &[u8],
-    start: usize,
-    has_limit: bool,
-    validator: V,
-    scratch: &mut FlatScratch,
-) -> Result<(), ParseFailure>
-    requires { start + length ops.now < 2 ^ 64 }
-    ensures { ChecksAll (setting_at (environment_of «module».now indices.now function ty) start
-        V.check (V.state validator)) has_limit ops.now (is_used scratch.new.used) result }
-{
-    let entry = match entry_type(module, ty) {
-        Ok(entry) => entry,
-        Err(error) => return Err(failure(error, start)),
-    };
-    let mut checker = match begin_check(alloc, module, indices, function, ty, entry, scratch) {
-        Ok(checker) => checker,
-        Err(error) => return Err(failure(error, start)),
-    };
-    let mut reader = Cursor::new(ops, start);
-    let limit = PlaceLimit::new(has_limit);
-    let result = check_operators(&mut checker, &mut reader, limit, validator);
-    let Checker { open, used, .. } = checker;
-    scratch.open = open;
-    scratch.used = used;
-    result
-}
 
 /// The sequences of a body of which nothing is written. They take the list of the scratch.
 fn begin_sequences(alloc: Global, scratch: &mut FlatScratch) -> Result<OpenSequences, EmitError>

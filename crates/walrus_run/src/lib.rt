@@ -19,7 +19,7 @@ pub use walrus_body::{
     law_accepted_again, law_any_locations, law_emission_faults, law_empty_continues,
     law_executions, law_inverse_undoes, law_locations, law_read_back, law_validity,
 };
-pub use walrus_flat::{FlatScratch, law_append_alike, rewrite_flat};
+pub use walrus_flat::{FlatScratch, check_flat, law_append_alike, rewrite_flat};
 pub use walrus_machine::{
     Ending, Event, NamedBlockType, NamedCast, NamedCatch, NamedImmediates, NamedIndex, NamedMemArg,
     NamedOp, Outcome, Run,

@@ -5,9 +5,12 @@ use Rattle.std.specs.Fn.{Shared}
 use Rattle.wasm_types.specs.declared.val_type.ValType.{ValType}
 use Rattle.walrus_ir.specs.Function.{Function}
 use Rattle.wasm_body.specs.Pairs.{Pair}
+use Rattle.wasm_body.specs.SourceTree.{Body}
+use Rattle.wasm_body.specs.Naming.{Occurrence}
+use Rattle.wasm_body.specs.Parsing.Accepted.{Accepted}
 use Rattle.walrus_parser.specs.declared.body.FunctionBody.{FunctionBody}
 use Rattle.walrus_body.specs.FunctionParts.{FunctionParts}
-use Rattle.walrus_parser.specs.Bodies.{AcceptsBody, body_input}
+use Rattle.walrus_parser.specs.Bodies.{AcceptsBody, body_input, body_setting, body_operators}
 use Rattle.walrus_body.specs.EmittedInstructions.{LentPairs, Left}
 use Rattle.walrus_numbering.specs.NumberMaps.{numbers_by}
 use Rattle.walrus_rewrite.specs.RawBodies.{EmitInput, emit_input, IsRawBodyOf, AppendsRawBody}
@@ -16,7 +19,7 @@ use Rattle.walrus_flat.specs.RewrittenFlat.{RewritesFlat}
 use Rattle.wasm_module.specs.declared.parsed.ParsedModule.{ParsedModule}
 use Rattle.wasm_sections.specs.CodeSections.{BodyAt}
 use Rattle.wasm_sections.specs.LocalsBelow.{locals_below}
-use Rattle.wasm_module.specs.RewrittenCode.{Extends, Enters, IsRewrittenAs, IsRewritten, IsParsed, OneChange, IsChanged}
+use Rattle.wasm_module.specs.RewrittenCode.{Extends, Enters, IsRewrittenAs, IsRewritten, IsAccepted, IsParsed, OneChange, IsChanged}
 use Rattle.wasm_module.proofs.ModuleLemmas.{extends_then}
 
 -- no location function
@@ -97,6 +100,23 @@ parsed {F} {calls} source now function b type id args count body made enters is_
       is_parsed = record { body = x.body; accepted = x.accepted; is_function = x.is_function; args_are = args_are };
     }
 
+-- what a check accepts
+pub accepted :
+    (source now : ParsedModule) (function : ℕ) (b : BodyAt) (type id : ℕ) (args : List ℕ) (count : ℕ) (body : FunctionBody) →
+    Enters source function b now type args count body → id ≡ 0 →
+    (tree : Body Occurrence) × Accepted (body_setting now.module now.spaces.indices id type body locals_below count None) (body_operators body) tree →
+    IsAccepted source function b now
+accepted source now function b type id args count body enters is_first a = record {
+  type = type;
+  args = args;
+  count = count;
+  body = body;
+  enters = enters;
+  tree = a.0;
+  accepted =
+      subst (λ (n : ℕ). Accepted (body_setting now.module now.spaces.indices n type body locals_below count None) (body_operators body) a.0) is_first a.1;
+}
+
 -- ---- of a module that the source was before
 
 pub enters_then :
@@ -161,6 +181,20 @@ pub parsed_ok :
     IfOk r (IsParsed source function b now)
 parsed_ok source a now function b (Ok made) e p = parsed_then source a now function b made e p
 parsed_ok source a now function b (Err x) e p = tt
+
+pub accepted_ok :
+    {E : Type 0} (source a now : ParsedModule) (function : ℕ) (b : BodyAt) (r : Result (Unit {0}) E) → Extends source a → OnOk r (IsAccepted a function b now) →
+    OnOk r (IsAccepted source function b now)
+accepted_ok source a now function b (Ok u) e p = record {
+  type = p.type;
+  args = p.args;
+  count = p.count;
+  body = p.body;
+  enters = enters_then source a now function b p.type p.args p.count p.body e p.enters;
+  tree = p.tree;
+  accepted = p.accepted;
+}
+accepted_ok source a now function b (Err x) e p = tt
 
 -- ---- a function that is changed
 

@@ -71,7 +71,17 @@ pub record IsRewritten (source : ParsedModule) (function : ℕ) (b : BodyAt) (ra
   pub pairs : List Pair
   pub is_rewritten : IsRewrittenAs now type args count body raw pairs
 
--- ---- one body whose function is changed before it is written
+-- ---- one body that is checked, or whose function is changed before it is written
+
+-- The operators of this function's body, parsed with these declarations, are accepted.
+pub record IsAccepted (source : ParsedModule) (function : ℕ) (b : BodyAt) (now : ParsedModule) : Type 0 where
+  pub type : ℕ
+  pub args : List ℕ
+  pub count : ℕ
+  pub body : FunctionBody
+  pub enters : Enters source function b now type args count body
+  pub tree : Body Occurrence
+  pub accepted : Accepted (body_setting now.module now.spaces.indices 0 type body locals_below count None) (body_operators body) tree
 
 -- The operators are accepted, as above, and the function has their normal form, and these arguments.
 pub record IsParsedAs (now : ParsedModule) (type : ℕ) (args : List ℕ) (count : ℕ) (source : FunctionBody) (made : FunctionParts) : Type 0 where

@@ -21,7 +21,7 @@ use wasm_sections::{Body, LocalsBelow, ModuleError, ModuleFault};
 #[derive(Drop)]
 pub struct Scratch {
     instrs: Vec<(Instr, InstrLocId)>,
-    flat: FlatScratch,
+    pub(crate) flat: FlatScratch,
     /// The raw body that was written last.
     pub raw: Vec<u8>,
     /// Its location pairs, if they were requested: for each operator that was written its location,
@@ -43,7 +43,7 @@ impl Scratch {
 }
 
 /// Whether a body needs a type that the module doesn't have.
-fn needs_type(error: &ModuleError) -> bool {
+pub(crate) fn needs_type(error: &ModuleError) -> bool {
     let ModuleFault::Parse(fault) = error.fault else {
         return false;
     };

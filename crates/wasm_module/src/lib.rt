@@ -8,6 +8,7 @@ mod body_context;
 mod body_errors;
 mod body_writer;
 mod changing;
+mod checking;
 mod custom;
 mod functions;
 mod importing;

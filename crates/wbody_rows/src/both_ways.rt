@@ -1,11 +1,11 @@
-//! A body rewritten by its tree and without it.
+//! A body rewritten by its tree and without it, and checked without it.
 
 use crate::demo::{Body, Demo, arguments, function, function_type};
 use crate::fault::Fault;
 use std::alloc::{AllocError, Global};
 use walrus_body::AcceptAll;
 use walrus_ir::InstrLocId;
-use walrus_run::{FlatScratch, RewriteError, rewrite_body, rewrite_flat};
+use walrus_run::{FlatScratch, RewriteError, check_flat, rewrite_body, rewrite_flat};
 
 /// What is appended for a body: its bytes and its location pairs; and why nothing is.
 #[derive(Drop)]
@@ -85,8 +85,31 @@ fn without_tree(
     Ok(appended)
 }
 
+/// Whether a check of a body finds the fault for which the parse refuses it, and none where it doesn't.
+fn is_checked_alike(
+    demo: &Demo,
+    body: Body<'_>,
+    scratch: &mut FlatScratch,
+    error: &Option<RewriteError>,
+) -> bool {
+    let checked = check_flat(
+        &demo.module,
+        body.indices,
+        function(),
+        function_type(),
+        body.at_zero(),
+        AcceptAll,
+        scratch,
+    );
+    match (checked, error) {
+        (Err(failure), Some(RewriteError::Parse(other))) => failure == *other,
+        (Err(_), _) | (Ok(()), Some(RewriteError::Parse(_))) => false,
+        (Ok(()), _) => true,
+    }
+}
+
 /// Checks that a body is rewritten alike by its tree and without it: the same bytes, location pairs
-/// and fault.
+/// and fault; and that a check alone finds its fault.
 pub(crate) fn rewritten_alike(
     alloc: Global,
     demo: &Demo,
@@ -94,6 +117,9 @@ pub(crate) fn rewritten_alike(
     scratch: &mut FlatScratch,
 ) -> Result<(), Fault> {
     let flat = without_tree(alloc, demo, body, scratch)?;
+    if !is_checked_alike(demo, body, scratch, &flat.error) {
+        return Err(Fault::FlatDiffers);
+    }
     match by_tree(alloc, demo, body) {
         Ok(tree) => flat.compare(&tree, Fault::FlatDiffers),
         Err(AllocError) => Err(Fault::Memory),

@@ -1,4 +1,4 @@
-//! Modules that are checked: their bodies are parsed, and nothing is written.
+//! Modules that are checked: nothing is made of their bodies, and nothing is written.
 
 ghost use Rattle.std.specs.Prelude.{IfErr, IfSome};
 ghost use Rattle.wasm_sections.specs.CodeSections.{body_at};
@@ -21,13 +21,13 @@ fn fault_of<'a>(
     ensures refused { IfSome result
         (IsRefused parsed.old body.entry.func (body_at body.entry) parsed.new) }
 {
-    match parsed.parse(body, scratch) {
-        Ok(_function) => None,
+    match parsed.check(body, scratch) {
+        Ok(()) => None,
         Err(error) => Some(error),
     }
 }
 
-/// Parses the bodies from that of this function on.
+/// Checks the bodies from that of this function on.
 fn check_bodies(
     parsed: &mut ParsedModule<'_>,
     first: usize,
@@ -49,7 +49,7 @@ fn check_bodies(
     Ok(())
 }
 
-/// Parses the bodies of a module, from that of this function on.
+/// Checks the bodies of a module, from that of this function on.
 pub(crate) fn check(alloc: Global, source: &[u8], first: usize) -> Result<(), Stop>
     ensures { IfErr result (IsOfCheck source.now first) }
 {

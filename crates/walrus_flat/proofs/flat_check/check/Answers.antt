@@ -7,7 +7,7 @@ use Rattle.walrus_maps.specs.Environments.{environment_of}
 use Rattle.walrus_flat.specs.Checked.{env_of}
 use Rattle.walrus_flat.specs.CheckedBody.{setting_at, ChecksOperators}
 use Rattle.walrus_flat.proofs.CheckedWhole.{checks_all, entry_fault}
-use Rattle.walrus_flat.proofs.rewriting.check.Goals as goal
+use Rattle.walrus_flat.proofs.flat_check.check.Goals as goal
 
 pub returns-in-Err : goal.returns-in-Err
 returns-in-Err g c =
