@@ -1,5 +1,5 @@
 -- A body that is checked without a tree.
-use Rattle.std.proofs.Common.{◌≡◌, ℕ, List, Option, None, Result, Ok, Err, Bool, true, inl, inr, refl, absurd}
+use Rattle.std.proofs.Common.{◌≡◌, ℕ, List, Option, None, Result, Ok, Err, Bool, true, inl, inr, refl}
 use Rattle.wasm_operators.proofs.ReadingBytes.{reading_agrees}
 use Rattle.wasm_body.specs.declared.error.ParseFailure.{ParseFailure}
 use Rattle.wasm_body.specs.Parsing.Accepted.{Setting}
