@@ -84,6 +84,18 @@ fn with_body(
     Ok(functions)
 }
 
+/// The functions with a body that nothing reaches, where these are the callees of each.
+fn unreached(
+    alloc: Global,
+    parsed: &ParsedModule<'_>,
+    all: &IdHashMap<FunctionId, Vec<FunctionId>>,
+) -> Result<IdHashSet<FunctionId>, ModuleError> {
+    let mut functions = with_body(alloc, parsed)?;
+    let mut pending = parsed.referenced_functions()?;
+    remove_reached(all, &mut pending, &mut functions)?;
+    Ok(functions)
+}
+
 /// Takes away bodies that nothing reaches.
 #[derive(Clone, Copy)]
 pub(crate) struct Collecting;
@@ -98,9 +110,9 @@ impl Tool for Collecting {
         _functions: IdHashSet<FunctionId>,
     ) -> Result<(Option<Snipping>, Changes), ModuleError> {
         let all = all_callees(alloc, parsed)?;
-        let mut functions = with_body(alloc, parsed)?;
-        let mut pending = parsed.referenced_functions()?;
-        remove_reached(&all, &mut pending, &mut functions)?;
-        Ok((Some(Snipping::new(functions)), Changes::new(alloc)))
+        match unreached(alloc, parsed, &all) {
+            Ok(functions) => Ok((Some(Snipping::new(functions)), Changes::new(alloc))),
+            Err(error) => Err(error),
+        }
     }
 }

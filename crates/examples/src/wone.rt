@@ -81,10 +81,14 @@ fn write(rt: &(impl Print + AllocGlobal), module: &Module, function: &LocalFunct
     print(rt, encoder.bytes(), &pairs)
 }
 
-/// Changes a body, and prints it.
-fn change_body(rt: &(impl Print + AllocGlobal), module: &Module, bytes: &[u8]) -> Result<()>
-    requires { «module».now.code_section_offset ≡ 0 }
+/// Describes the module of a body, changes the body, and prints it.
+fn change_body(rt: &(impl Print + AllocGlobal), module: &mut Module, bytes: &[u8]) -> Result<()>
+    requires { «module».old.code_section_offset ≡ 0 }
 {
+    // The type of the function, its entry type, and its parameter.
+    module.types.add_func(&[ValType::I32], &[ValType::I32])?;
+    module.types.add_entry(&[ValType::I32])?;
+    module.locals.add(ValType::I32)?;
     let mut function = parse(rt.alloc(), module, bytes)?;
     if function.has_entry() {
         let entry = function.entry_block();
@@ -104,17 +108,11 @@ pub(crate) fn change(rt: &HostRuntime) -> Result<()> {
     let alloc = rt.alloc();
     let word = env::args(rt)?.nth(2).context("usage: wone HEX")?;
     let bytes = hex::decode(alloc, word.as_str())?;
-    // The type of the function, its entry type, and its parameter.
-    let mut types = ModuleTypes::new(alloc);
-    types.add_func(&[ValType::I32], &[ValType::I32])?;
-    types.add_entry(&[ValType::I32])?;
-    let mut locals = ModuleLocals::new(alloc);
-    locals.add(ValType::I32)?;
-    let module = Module {
-        types,
+    let mut module = Module {
+        types: ModuleTypes::new(alloc),
         tags: ModuleTags::new(alloc),
-        locals,
+        locals: ModuleLocals::new(alloc),
         code_section_offset: 0,
     };
-    change_body(rt, &module, &bytes)
+    change_body(rt, &mut module, &bytes)
 }

@@ -1,10 +1,10 @@
 //! `wbench`: passes over the bodies of a module, to measure what a pass costs.
 
-ghost use Rattle.std.specs.Prelude.{◌≤◌, IfOk};
+ghost use Rattle.std.specs.Prelude.{◌≡◌, ◌≤◌, IfOk};
 ghost use Rattle.std.specs.Process.{exit_status};
 
 use module_tools::{exit_code, read_file, words};
-use std::alloc::Global;
+use std::alloc::{AllocError, Global};
 use std::io;
 use std::process::ExitCode;
 use std::rt::{Env, Files};
@@ -54,31 +54,48 @@ impl Pass {
         scratch: &mut Scratch,
     ) -> Result<usize, ModuleError> {
         match self {
-            Pass::Parse => match parsed.parse(body, scratch) {
-                Ok(function) => Ok(function.instruction_mapping.len()),
-                Err(error) => Err(error),
-            },
-            Pass::Rewrite => match parsed.rewrite(body, scratch) {
-                Ok(_function) => Ok(scratch.raw.len()),
-                Err(error) => Err(error),
-            },
-            Pass::Map => match parsed.rewrite_with_pairs(body, scratch) {
-                Ok(_function) => Ok(scratch.raw.len().saturating_add(scratch.pairs.len())),
-                Err(error) => Err(error),
-            },
-            Pass::Flat => match parsed.rewrite_flat(body, scratch) {
-                Ok(()) => Ok(scratch.raw.len()),
-                Err(error) => Err(error),
-            },
-            Pass::FlatMap => match parsed.rewrite_flat_with_pairs(body, scratch) {
-                Ok(()) => Ok(scratch.raw.len().saturating_add(scratch.pairs.len())),
-                Err(error) => Err(error),
-            },
-            Pass::Compare => match parsed.rewrite_with_pairs(body, scratch) {
-                Ok(_function) => compare_flat(parsed, body, scratch),
-                Err(error) => Err(error),
-            },
+            Pass::Parse => count_operators(parsed, body, scratch),
+            Pass::Rewrite => {
+                done(parsed.rewrite(body, scratch))?;
+                Ok(scratch.raw.len())
+            }
+            Pass::Map => {
+                done(parsed.rewrite_with_pairs(body, scratch))?;
+                Ok(scratch.raw.len().saturating_add(scratch.pairs.len()))
+            }
+            Pass::Flat => {
+                parsed.rewrite_flat(body, scratch)?;
+                Ok(scratch.raw.len())
+            }
+            Pass::FlatMap => {
+                parsed.rewrite_flat_with_pairs(body, scratch)?;
+                Ok(scratch.raw.len().saturating_add(scratch.pairs.len()))
+            }
+            Pass::Compare => {
+                done(parsed.rewrite_with_pairs(body, scratch))?;
+                compare_flat(parsed, body, scratch)
+            }
         }
+    }
+}
+
+/// Drops what was made: a function that takes it apart itself takes long to prove.
+fn done<T: Drop>(made: Result<T, ModuleError>) -> Result<(), ModuleError> {
+    match made {
+        Ok(_made) => Ok(()),
+        Err(error) => Err(error),
+    }
+}
+
+/// Parses a body, and returns how many operators were read.
+fn count_operators<'a>(
+    parsed: &mut ParsedModule<'a>,
+    body: Body<'a>,
+    scratch: &mut Scratch,
+) -> Result<usize, ModuleError> {
+    match parsed.parse(body, scratch) {
+        Ok(function) => Ok(function.instruction_mapping.len()),
+        Err(error) => Err(error),
     }
 }
 
@@ -195,12 +212,25 @@ fn measure_parsed(
     }
 }
 
-/// Reads a module and measures it.
-fn measure(alloc: Global, task: Task<'_>, bytes: &[u8]) -> Result<Measured, ModuleError> {
+/// Puts a value in a box.
+fn in_box<T: Drop>(alloc: Global, value: T) -> Result<Box<T>, AllocError>
+    ensures { IfOk result (λ boxed. boxed.value ≡ value) }
+{
+    Ok(Box::new(alloc, value)?)
+}
+
+/// Reads a module, into a box, which is dropped in one step.
+fn read(alloc: Global, bytes: &[u8]) -> Result<Box<ParsedModule<'_>>, ModuleError> {
     match ParsedModule::read(alloc, bytes) {
-        Ok(mut parsed) => measure_parsed(alloc, task, &mut parsed),
+        Ok(parsed) => Ok(in_box(alloc, parsed)?),
         Err(error) => Err(error),
     }
+}
+
+/// Reads a module and measures it.
+fn measure(alloc: Global, task: Task<'_>, bytes: &[u8]) -> Result<Measured, ModuleError> {
+    let mut parsed = read(alloc, bytes)?;
+    measure_parsed(alloc, task, &mut parsed)
 }
 
 /// Measures a module, prints what it found or why it found nothing, and returns the status.
