@@ -73,7 +73,7 @@ def _(room):
     with open(f"{DATA}/fib.wasm", "rb") as file:
         room.put("in", file.read())
     # its only body has 28 bytes, none of which changes, and 17 operators
-    for words, total in ((["parse", "1"], 17), (["rewrite", "1"], 28), (["map", "1"], 28 + 17), (["map", "3"], 3 * (28 + 17)), (["map", "0"], 0), (["flat", "1"], 28), (["flatmap", "1"], 28 + 17)):
+    for words, total in ((["check", "1"], 1), (["check", "3"], 3), (["parse", "1"], 17), (["rewrite", "1"], 28), (["map", "1"], 28 + 17), (["map", "3"], 3 * (28 + 17)), (["map", "0"], 0), (["flat", "1"], 28), (["flatmap", "1"], 28 + 17)):
         same(f"1 bodies, 28 bytes, sum {total}\n".encode(), room.works(TOGETHER, "wbench", *words, "in"))
     for words in ([], ["map", "1"], ["mad", "1", "in"], ["map", "x", "in"], ["map", "1", "in", "more"]):
         status, out, err = room.run(TOGETHER, "wbench", *words)

@@ -13,11 +13,13 @@ use wasm_module::{Body, ModuleError, ParsedModule, Scratch};
 /// Its name, with which its messages begin.
 const NAME: &str = "wbench";
 
-const USAGE: &str = "usage: wbench parse|rewrite|map|flat|flatmap|compare PASSES IN.wasm";
+const USAGE: &str = "usage: wbench check|parse|rewrite|map|flat|flatmap|compare PASSES IN.wasm";
 
 /// What a pass does with each body.
 #[derive(Clone, Copy)]
 enum Pass {
+    /// Checks it.
+    Check,
     /// Parses it.
     Parse,
     /// Parses and writes it.
@@ -35,6 +37,7 @@ enum Pass {
 impl Pass {
     fn named(name: &str) -> Option<Pass> {
         match name {
+            "check" => Some(Pass::Check),
             "parse" => Some(Pass::Parse),
             "rewrite" => Some(Pass::Rewrite),
             "map" => Some(Pass::Map),
@@ -45,8 +48,9 @@ impl Pass {
         }
     }
 
-    /// Does it with a body, and returns a number that depends on the result: how many operators
-    /// were read; how many bytes were written; how many bytes and pairs; or 1 if both ways differ.
+    /// Does it with a body, and returns a number that depends on the result: 1 if it is accepted; how
+    /// many operators were read; how many bytes were written; how many bytes and pairs; or 1 if both
+    /// ways differ.
     fn run<'a>(
         self,
         parsed: &mut ParsedModule<'a>,
@@ -54,6 +58,10 @@ impl Pass {
         scratch: &mut Scratch,
     ) -> Result<usize, ModuleError> {
         match self {
+            Pass::Check => {
+                parsed.check(body, scratch)?;
+                Ok(1)
+            }
             Pass::Parse => count_operators(parsed, body, scratch),
             Pass::Rewrite => {
                 done(parsed.rewrite(body, scratch))?;
