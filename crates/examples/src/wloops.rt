@@ -42,7 +42,8 @@ fn loop_bodies(function: &LocalFunction) -> Result<Vec<InstrSeqId>, ModuleError>
 /// source, so that they have the default location.
 fn add_count(block: &mut InstrSeq, global: GlobalId) -> Result<(), AllocError> {
     let nowhere = InstrLocId::default();
-    let (value, op) = (Value::I64(1), BinaryOp::I64Add);
+    let value = Value::I64(1);
+    let op = BinaryOp::I64Add;
     let instrs = &mut block.instrs;
     instrs.insert(0, (Instr::GlobalSet(GlobalSet { global }), nowhere))?;
     instrs.insert(0, (Instr::Binop(Binop { op }), nowhere))?;
@@ -80,26 +81,6 @@ impl ChangeFunction for CountTurns {
     }
 }
 
-/// Adds counters, with ids one after the other. Returns the change that gives each loop the next.
-fn add_counters(
-    alloc: Global,
-    parsed: &mut ParsedModule<'_>,
-    changes: &mut Changes,
-) -> Result<CountTurns, ModuleError> {
-    let (mut count, mut first): (usize, usize) = (0, 0);
-    parsed.for_each_function(|_index: usize, function: &LocalFunction| {
-        count = count.saturating_add(loop_bodies(function)?.len());
-        Ok(())
-    })?;
-    for number in 0..count {
-        let name = format!(in alloc; "loop_{number}")?;
-        let global = parsed.add_value_global(changes, Value::I64(0), true)?;
-        parsed.export_global(changes, name.as_str(), global)?;
-        first = global.index().saturating_sub(number);
-    }
-    Ok(CountTurns(first))
-}
-
 /// Counts the turns of loops.
 #[derive(Clone, Copy)]
 pub(crate) struct Counting;
@@ -113,8 +94,19 @@ impl Tool for Counting {
         parsed: &mut ParsedModule<'_>,
         _functions: IdHashSet<FunctionId>,
     ) -> Result<(Option<CountTurns>, Changes), ModuleError> {
-        let mut changes = Changes::new(alloc);
-        let turns = add_counters(alloc, parsed, &mut changes)?;
-        Ok((Some(turns), changes))
+        let mut count: usize = 0;
+        parsed.for_each_function(|_index: usize, function: &LocalFunction| {
+            count = count.saturating_add(loop_bodies(function)?.len());
+            Ok(())
+        })?;
+        let (mut changes, mut first) = (Changes::new(alloc), 0);
+        for number in 0..count {
+            let name = format!(in alloc; "loop_{number}")?;
+            let global = parsed.add_value_global(&mut changes, Value::I64(0), true)?;
+            parsed.export_global(&mut changes, name.as_str(), global)?;
+            // They have the next indices, one after the other.
+            first = global.index().saturating_sub(number);
+        }
+        Ok((Some(CountTurns(first)), changes))
     }
 }
