@@ -50,90 +50,17 @@ pub(crate) fn needs_type(error: &ModuleError) -> bool {
     fault == ParseError::TypeMissing || fault == ParseError::EntryTypeMissing
 }
 
-/// Rewrites a body unchanged, with a list of location pairs or none.
-macro_rules! rewrite_once {
-    ($parsed:ident, $body:ident, $instrs:expr, $raw:expr, $map:expr) => {{
-        let BodyContext {
-            ty,
-            args,
-            body: source,
-            locals,
-        } = $parsed.enter($body)?;
-        let lists = $parsed.spaces.local_lists();
-        let rewritten = rewrite_body(
-            &$parsed.module,
-            &$parsed.spaces.indices,
-            lists,
-            ty,
-            args,
-            source,
-            // A location is the operator's place in the file.
-            None::<&fn(&usize) -> InstrLocId>,
-            LocalsBelow(locals),
-            $instrs,
-            &$parsed.spaces.numbers,
-            $raw,
-            $map,
-        );
-        match rewritten {
-            Ok(function) => Ok(function),
-            Err(error) => Err(body_error(error, $body.start())),
-        }
-    }};
-}
-
-/// Rewrites a body unchanged and without its tree, with a list of location pairs or none.
-macro_rules! rewrite_flat_once {
-    ($parsed:ident, $body:ident, $flat:expr, $raw:expr, $map:expr) => {{
-        let BodyContext {
-            ty,
-            args,
-            body: source,
-            locals,
-        } = $parsed.enter($body)?;
-        let lists = $parsed.spaces.local_lists();
-        let rewritten = rewrite_flat(
-            &$parsed.module,
-            &$parsed.spaces.indices,
-            lists,
-            ty,
-            args.as_slice(),
-            source,
-            // A location is the operator's place in the file.
-            None::<&fn(&usize) -> InstrLocId>,
-            LocalsBelow(locals),
-            &$parsed.spaces.numbers,
-            $flat,
-            $raw,
-            $map,
-        );
-        match rewritten {
-            Ok(()) => Ok(()),
-            Err(error) => Err(body_error(error, $body.start())),
-        }
-    }};
+/// The list for location pairs, if they are needed.
+fn list_if<T>(needs_pairs: bool, pairs: &mut Vec<T>) -> Option<&mut Vec<T>> {
+    if needs_pairs { Some(pairs) } else { None }
 }
 
 impl<'a> ParsedModule<'a> {
+    /// Rewrites a body without its tree, in the module as it is.
     fn rewrite_flat_once(
         &mut self,
         body: Body<'a>,
-        scratch: &mut Scratch,
-    ) -> Result<(), ModuleError>
-        ensures extends { Extends self.old self.new }
-        ensures rewritten { OnOk result
-            (IsRewritten self.old body.entry.func (body_at body.entry) scratch.new.raw.items) }
-        ensures refused { IfErr result
-            (IsNotRewritten self.old body.entry.func (body_at body.entry) self.new) }
-    {
-        let Scratch { flat, raw, .. } = scratch;
-        raw.clear();
-        rewrite_flat_once!(self, body, flat, raw, None)
-    }
-
-    fn rewrite_flat_once_with_pairs(
-        &mut self,
-        body: Body<'a>,
+        needs_pairs: bool,
         scratch: &mut Scratch,
     ) -> Result<(), ModuleError>
         ensures extends { Extends self.old self.new }
@@ -150,7 +77,57 @@ impl<'a> ParsedModule<'a> {
         } = scratch;
         raw.clear();
         pairs.clear();
-        rewrite_flat_once!(self, body, flat, raw, Some(pairs))
+        let BodyContext {
+            ty,
+            args,
+            body: source,
+            locals,
+        } = self.enter(body)?;
+        let lists = self.spaces.local_lists();
+        let rewritten = rewrite_flat(
+            &self.module,
+            &self.spaces.indices,
+            lists,
+            ty,
+            args.as_slice(),
+            source,
+            // A location is the operator's place in the file.
+            None::<&fn(&usize) -> InstrLocId>,
+            LocalsBelow(locals),
+            &self.spaces.numbers,
+            flat,
+            raw,
+            list_if(needs_pairs, pairs),
+        );
+        match rewritten {
+            Ok(()) => Ok(()),
+            Err(error) => Err(body_error(error, body.start())),
+        }
+    }
+
+    /// The same, after the types that the body needs are added, if the module lacks one.
+    fn rewrite_flat_with_types(
+        &mut self,
+        body: Body<'a>,
+        needs_pairs: bool,
+        scratch: &mut Scratch,
+    ) -> Result<(), ModuleError>
+        ensures extends { Extends self.old self.new }
+        ensures rewritten { OnOk result
+            (IsRewritten self.old body.entry.func (body_at body.entry) scratch.new.raw.items) }
+        ensures refused { IfErr result
+            (IsNotRewritten self.old body.entry.func (body_at body.entry) self.new) }
+    {
+        match self.rewrite_flat_once(body, needs_pairs, scratch) {
+            Ok(()) => Ok(()),
+            Err(error) => {
+                if !needs_type(&error) {
+                    return Err(error);
+                }
+                self.add_missing_types(body)?;
+                self.rewrite_flat_once(body, needs_pairs, scratch)
+            }
+        }
     }
 
     /// Rewrites a body as `rewrite` does, without its tree: the same bytes, at less cost.
@@ -165,16 +142,7 @@ impl<'a> ParsedModule<'a> {
         ensures refused { IfErr result
             (IsNotRewritten self.old body.entry.func (body_at body.entry) self.new) }
     {
-        match self.rewrite_flat_once(body, scratch) {
-            Ok(()) => Ok(()),
-            Err(error) => {
-                if !needs_type(&error) {
-                    return Err(error);
-                }
-                self.add_missing_types(body)?;
-                self.rewrite_flat_once(body, scratch)
-            }
-        }
+        self.rewrite_flat_with_types(body, false, scratch)
     }
 
     /// The same as `rewrite_flat`, with its location pairs.
@@ -193,16 +161,7 @@ impl<'a> ParsedModule<'a> {
         ensures refused { IfErr result
             (IsNotRewritten self.old body.entry.func (body_at body.entry) self.new) }
     {
-        match self.rewrite_flat_once_with_pairs(body, scratch) {
-            Ok(()) => Ok(()),
-            Err(error) => {
-                if !needs_type(&error) {
-                    return Err(error);
-                }
-                self.add_missing_types(body)?;
-                self.rewrite_flat_once_with_pairs(body, scratch)
-            }
-        }
+        self.rewrite_flat_with_types(body, true, scratch)
     }
 
     /// Rewrites a body without its tree, as `rewrite_flat`, to a sink. Types that only one of its handlers
@@ -302,24 +261,11 @@ impl<'a> ParsedModule<'a> {
         }
     }
 
+    /// Rewrites a body by its tree, in the module as it is.
     fn rewrite_once(
         &mut self,
         body: Body<'a>,
-        scratch: &mut Scratch,
-    ) -> Result<LocalFunction, ModuleError>
-        ensures extends { Extends self.old self.new }
-        ensures rewritten { OnOk result
-            (IsRewritten self.old body.entry.func (body_at body.entry) scratch.new.raw.items) }
-        ensures refused { IfErr result
-            (IsNotRewritten self.old body.entry.func (body_at body.entry) self.new) }
-    {
-        scratch.raw.clear();
-        rewrite_once!(self, body, &mut scratch.instrs, &mut scratch.raw, None)
-    }
-
-    fn rewrite_once_with_pairs(
-        &mut self,
-        body: Body<'a>,
+        needs_pairs: bool,
         scratch: &mut Scratch,
     ) -> Result<LocalFunction, ModuleError>
         ensures extends { Extends self.old self.new }
@@ -336,7 +282,57 @@ impl<'a> ParsedModule<'a> {
         } = scratch;
         raw.clear();
         pairs.clear();
-        rewrite_once!(self, body, instrs, raw, Some(pairs))
+        let BodyContext {
+            ty,
+            args,
+            body: source,
+            locals,
+        } = self.enter(body)?;
+        let lists = self.spaces.local_lists();
+        let rewritten = rewrite_body(
+            &self.module,
+            &self.spaces.indices,
+            lists,
+            ty,
+            args,
+            source,
+            // A location is the operator's place in the file.
+            None::<&fn(&usize) -> InstrLocId>,
+            LocalsBelow(locals),
+            instrs,
+            &self.spaces.numbers,
+            raw,
+            list_if(needs_pairs, pairs),
+        );
+        match rewritten {
+            Ok(function) => Ok(function),
+            Err(error) => Err(body_error(error, body.start())),
+        }
+    }
+
+    /// The same, after the types that the body needs are added, if the module lacks one.
+    fn rewrite_with_types(
+        &mut self,
+        body: Body<'a>,
+        needs_pairs: bool,
+        scratch: &mut Scratch,
+    ) -> Result<LocalFunction, ModuleError>
+        ensures extends { Extends self.old self.new }
+        ensures rewritten { OnOk result
+            (IsRewritten self.old body.entry.func (body_at body.entry) scratch.new.raw.items) }
+        ensures refused { IfErr result
+            (IsNotRewritten self.old body.entry.func (body_at body.entry) self.new) }
+    {
+        match self.rewrite_once(body, needs_pairs, scratch) {
+            Ok(function) => Ok(function),
+            Err(error) => {
+                if !needs_type(&error) {
+                    return Err(error);
+                }
+                self.add_missing_types(body)?;
+                self.rewrite_once(body, needs_pairs, scratch)
+            }
+        }
     }
 
     /// Rewrites a body: its declarations of locals and its operators, as
@@ -359,16 +355,7 @@ impl<'a> ParsedModule<'a> {
         ensures refused { IfErr result
             (IsNotRewritten self.old body.entry.func (body_at body.entry) self.new) }
     {
-        match self.rewrite_once(body, scratch) {
-            Ok(function) => Ok(function),
-            Err(error) => {
-                if !needs_type(&error) {
-                    return Err(error);
-                }
-                self.add_missing_types(body)?;
-                self.rewrite_once(body, scratch)
-            }
-        }
+        self.rewrite_with_types(body, false, scratch)
     }
 
     /// The same as `rewrite`, with its location pairs.
@@ -387,16 +374,7 @@ impl<'a> ParsedModule<'a> {
         ensures refused { IfErr result
             (IsNotRewritten self.old body.entry.func (body_at body.entry) self.new) }
     {
-        match self.rewrite_once_with_pairs(body, scratch) {
-            Ok(function) => Ok(function),
-            Err(error) => {
-                if !needs_type(&error) {
-                    return Err(error);
-                }
-                self.add_missing_types(body)?;
-                self.rewrite_once_with_pairs(body, scratch)
-            }
-        }
+        self.rewrite_with_types(body, true, scratch)
     }
 
     fn parse_once(
