@@ -1,5 +1,7 @@
 //! Parsing the operators of a body.
-ghost use Rattle.std.specs.Prelude.{◌≡◌, ◌≤◌, ◌<◌, ◌+◌, ◌^◌, [], length, Some, IfOk, IfErr, Ok};
+ghost use Rattle.std.specs.Prelude.{◌≡◌, ◌≤◌, ◌<◌, ◌+◌, ◌^◌, [], length, Some, IfOk, IfErr, OnOk, Ok};
+ghost use Rattle.wasm_body.specs.declared.error.ParseError.TheVariants as parse;
+ghost use Rattle.wasm_body.specs.Parsing.Lists.{failure as failure_at};
 ghost use Rattle.walrus_validators.specs.Locating.{MayCall, end_of};
 ghost use Rattle.walrus_context.specs.OpenTrees.{env_of};
 ghost use Rattle.walrus_parser.specs.BodyParsers.{Begins};
@@ -15,7 +17,7 @@ use walrus_validators::{
     OpCheck, accepted_at, check_common, checked, failure, location_at, read_other, refused,
 };
 use wasm_body::{ParseError, ParseFailure};
-use wasm_ops::{Operator, Reader};
+use wasm_ops::{Operator, ReadError, Reader};
 
 /// A function's sequences, and the place (less the code offset) and location of each operator that
 /// was read.
@@ -103,6 +105,26 @@ fn parse_at_once<V: OpCheck, F: Fn(&usize) -> InstrLocId>(
     Ok(Attempt::Taken)
 }
 
+/// The failure at bytes that aren't read as an operator.
+fn unread(error: &ReadError, at: usize) -> ParseFailure
+    ensures { result ≡ failure_at (parse.Read error.now) at }
+{
+    failure(ParseError::Read(*error), at)
+}
+
+/// Refuses bytes after the function's own `end`.
+fn check_ended(reader: &Reader<'_>) -> Result<(), ParseFailure>
+    ensures ok { OnOk result (length reader.now.rest ≡ 0) }
+    ensures err { IfErr result (λ f. (0 < length reader.now.rest)
+        × (f ≡ failure_at parse.Trailing reader.now.place)) }
+{
+    if reader.eof() {
+        Ok(())
+    } else {
+        Err(failure(ParseError::Trailing, reader.original_position()))
+    }
+}
+
 /// Parses the operators of a body, none of which is read yet. Places in the mapping are less the
 /// code offset. If the body is accepted, the caller's list is given back. It isn't inlined, so that
 /// what it calls may be.
@@ -142,7 +164,7 @@ fn parse_operators<V: OpCheck, F: Fn(&usize) -> InstrLocId>(
         let read = read_other(reader);
         let operator = match &read {
             Ok(operator) => operator,
-            Err(error) => return Err(failure(ParseError::Read(*error), at)),
+            Err(error) => return Err(unread(error, at)),
         };
         let location = match accepted_at(at, operator, asked, on_instr_pos, &mut validator) {
             Ok(location) => location,
@@ -152,8 +174,9 @@ fn parse_operators<V: OpCheck, F: Fn(&usize) -> InstrLocId>(
             return Err(failure(ParseError::Memory, at));
         }
         if matches!(operator, Operator::End) && parser.is_outermost() {
-            if !reader.eof() {
-                return Err(failure(ParseError::Trailing, reader.original_position()));
+            match check_ended(reader) {
+                Ok(()) => {}
+                Err(failure) => return Err(failure),
             }
             match parser.finish(location, lent) {
                 Ok(builder) => return Ok(ParsedOperators::new(builder, instruction_mapping)),

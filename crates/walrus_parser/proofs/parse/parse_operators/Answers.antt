@@ -64,9 +64,9 @@ returns-in-Err-read g c =
     let state = g.V.OpCheck.state c.parse_at_once.new.validator in
     let e = c.in-Err-read.error in
     let known : (read_operation now.rest ≡ Err e.fault) × (e.at ≡ now.place) = IfErr-at_err (λ (e : ReadError). (read_operation now.rest ≡ Err e.fault) × (e.at ≡ now.place)) c.in-Err-read.is (subst (λ (r : Position). IfErr c.read_other-read.result (λ (e : ReadError). (read_operation r.rest ≡ Err e.fault) × (e.at ≡ r.place))) not.0 c.read_other-read.ensures.err) in
-    inr (unread g.F.Fn i c.requires.offset c.parse_at_once.new.parser state now.place now.rest c.parse_at_once.new.mapping.items (Read e) c.failure.result so some
+    inr (unread g.F.Fn i c.requires.offset c.parse_at_once.new.parser state now.place now.rest c.parse_at_once.new.mapping.items (Read e) c.unread.result so some
     (is_not_read (has_location a.on_instr_pos) g.V.OpCheck.check state now.place now.rest e.fault known.0 ∙ ap (λ p. Err (Read (record { fault = e.fault; at = p }))) (sym known.1))
-    (c.failure.ensures ∙ ap (failure (Read e)) c.original_position-at.ensures))
+    (c.unread.ensures ∙ ap (failure (Read e)) c.original_position-at.ensures))
 
 pub returns-in-Err-accepted_at : goal.returns-in-Err-accepted_at
 returns-in-Err-accepted_at g c =
@@ -97,10 +97,10 @@ returns g c =
     let now = c.loop-reader.reader in
     let none : length now.rest ≡ 0 = search rules in
     inr (ends_early g.F.Fn i c.requires.offset c.loop-reader.parser (g.V.OpCheck.state c.loop-reader.validator) now.place now.rest c.loop-reader.instruction_mapping.items c.failure-2.result c.loop-reader.invariant none
-    (c.failure-2.ensures ∙ ap (failure MissingEnd) c.original_position-2.ensures))
+    (c.failure-2.ensures ∙ ap (failure MissingEnd) c.original_position.ensures))
 
-pub returns-then-not-eof : goal.returns-then-not-eof
-returns-then-not-eof g c =
+pub returns-in-Err-check_ended : goal.returns-in-Err-check_ended
+returns-in-Err-check_ended g c =
     let a = c.args in
     let i = operators_input (env_of a.parser.context) a.reader.now a.code_offset a.on_instr_pos g.V.OpCheck.check (g.V.OpCheck.state a.validator) in
     let not = subst (λ k. ParsesAtOnce g.F.Fn a.on_instr_pos g.V.OpCheck.check (g.V.OpCheck.state c.loop-reader.validator) (g.V.OpCheck.state c.parse_at_once.new.validator) c.original_position-at.result a.code_offset c.loop-reader.reader c.parse_at_once.new.reader c.loop-reader.parser c.parse_at_once.new.parser c.loop-reader.instruction_mapping.items c.parse_at_once.new.mapping.items (Ok k)) c.in-Ok-Left.field-0-is c.in-Ok-Left.ensures in
@@ -122,14 +122,14 @@ returns-then-not-eof g c =
     let located : Locates g.F.Fn a.on_instr_pos now.place c.in-Ok-accepted_at.location = subst (λ p. Locates g.F.Fn a.on_instr_pos p c.in-Ok-accepted_at.location) at_is c.in-Ok-accepted_at.ensures.located in
     let is : c.in-Ok.operator ≡ End = search rules in
     let alone : length p.context.frames ≤ 1 = search rules in
-    let more : 0 < length next.rest = search rules in
+    let past = c.in-Err-check_ended.ensures.err in
     let top = no_layers p f.layers f.sequence f.keeps alone in
     let take : admitted (has_location a.on_instr_pos) g.V.OpCheck.check state now.place now.rest ≡ Ok (record { spelt = end_operation; rest = next.rest; state = then }) =
     reads ∙ ap (λ o. Ok (record { spelt = meaning o; rest = next.rest; state = then })) is in
     let pushed : c.try_push.new.list.items ≡ m ++ (now.place - a.code_offset, c.in-Ok-accepted_at.location) ∷ [] =
     c.try_push.ensures.done c.if-not-try_push.false ∙ ap (λ at. m ++ (at - a.code_offset, c.in-Ok-accepted_at.location) ∷ []) c.original_position-at.ensures in
     let whole = over_end g.F.Fn i c.requires.offset p state then now.place next.place now.rest next.rest m c.try_push.new.list.items c.in-Ok-accepted_at.location f top take located moves.0 moves.1 pushed in
-    inr (goes_past g.F.Fn i c.requires.offset _ then next.place next.rest c.try_push.new.list.items c.failure-then-not-eof.result whole more (c.failure-then-not-eof.ensures ∙ ap (failure Trailing) c.original_position.ensures))
+    inr (goes_past g.F.Fn i c.requires.offset _ then next.place next.rest c.try_push.new.list.items c.in-Err-check_ended.failure whole past.0 past.1)
 
 pub loop-reader-smaller : goal.loop-reader-smaller
 loop-reader-smaller g c =
@@ -227,7 +227,7 @@ returns-in-Ok-finish g c =
     let located : Locates g.F.Fn a.on_instr_pos now.place c.in-Ok-accepted_at.location = subst (λ p. Locates g.F.Fn a.on_instr_pos p c.in-Ok-accepted_at.location) at_is c.in-Ok-accepted_at.ensures.located in
     let is : c.in-Ok.operator ≡ End = search rules in
     let alone : length p.context.frames ≤ 1 = search rules in
-    let last : length next.rest ≡ 0 = search rules in
+    let last = c.in-Ok-check_ended.ensures.ok in
     let top = no_layers p f.layers f.sequence f.keeps alone in
     let take : admitted (has_location a.on_instr_pos) g.V.OpCheck.check state now.place now.rest ≡ Ok (record { spelt = end_operation; rest = next.rest; state = then }) =
     reads ∙ ap (λ o. Ok (record { spelt = meaning o; rest = next.rest; state = then })) is in
