@@ -26,7 +26,7 @@ use Rattle.walrus_rewrite.specs.RawBodies.{EmitInput}
 use Rattle.walrus_rewrite.specs.RewrittenBodies.{RefusesRewriting, IsOfWriting}
 use Rattle.walrus_flat.specs.Sinks.{OfWhole}
 use Rattle.walrus_flat.proofs.SinkLemmas.{all_taken}
-use Rattle.walrus_flat.specs.RewrittenFlat.{FinishesTo, Finishes, FinishesBoth, Composes, RewritesFlat}
+use Rattle.walrus_flat.specs.RewrittenFlat.{FinishesTo, IsUntouched, Finishes, FinishesBoth, Composes, RewritesFlat}
 
 -- the operators end where the body ends
 pub ends_there : (start ops : ℕ) (bytes rest : List ℕ) → ops ≤ length bytes → rest ≡ drop ops bytes → start + length bytes ≡ start + ops + length rest
@@ -47,6 +47,24 @@ finishes_not m f e old new = subst (λ n. Finishes n old new (Err f)) (sym e) re
 
 pub finishes_not_both : (m : Result Drafted RewriteError) (f : RewriteError) → m ≡ Err f → (old new : List ℕ) (ps qs : List Pair) → FinishesBoth m old new ps qs (Err f)
 finishes_not_both m f e old new ps qs = subst (λ n. FinishesBoth n old new ps qs (Err f)) (sym e) refl
+
+-- a sink that was given nothing more
+pub same_sink : {Sink : Type 0} (s : Sink) (e : RewriteError) → IsUntouched s s e
+same_sink s (Parse f) = refl
+same_sink s (Walk w) = tt
+same_sink s (Emit e) = tt
+
+untouched_twice : {Sink : Type 0} (a b c : Sink) (e : RewriteError) → IsUntouched a b e → IsUntouched b c e → IsUntouched a c e
+untouched_twice a b c (Parse f) p q = q ∙ p
+untouched_twice a b c (Walk w) p q = tt
+untouched_twice a b c (Emit e) p q = tt
+
+pub untouched_to :
+    {Sink : Type 0} (goes : List ℕ → Type 0) (a b c : Sink) (m : Result Drafted RewriteError) → IfErr m (IsUntouched a b) → (r : Result (Unit {0}) RewriteError) → FinishesTo goes m r →
+    IfErr r (IsUntouched b c) → IfErr r (IsUntouched a c)
+untouched_to goes a b c m h (Ok u) end k = tt
+untouched_to goes a b c (Ok made) h (Err e) end k = subst (IsUntouched a c) (sym end) tt
+untouched_to goes a b c (Err f) h (Err e) end k = untouched_twice a b c e (subst (IsUntouched a b) (sym end) h) k
 
 module _ {S F : Type 0} (asks : Shared F (Bor ℕ × Unit {0}) ℕ) (i : ParseInput S F) (by : EmitInput) where
   -- the bytes are accepted as a body, with the locations of a mapping

@@ -14,7 +14,7 @@ use Rattle.walrus_parser.specs.Bodies.{ParseInput, setting_with, mapped_by}
 use Rattle.walrus_parser.specs.Settings.{operators_of, IsMapping}
 use Rattle.walrus_body.specs.EmittedInstructions.{LentPairs, Left}
 use Rattle.walrus_rewrite.specs.declared.error.RewriteError.{RewriteError}
-use Rattle.walrus_rewrite.specs.declared.error.RewriteError.TheVariants.{Emit}
+use Rattle.walrus_rewrite.specs.declared.error.RewriteError.TheVariants.{Parse, Walk, Emit}
 use Rattle.walrus_rewrite.specs.RawBodies.{EmitInput, IsRawBody, Begins, IsNotBegun, AppendsPairs}
 use Rattle.walrus_ir.specs.Function.{Function}
 use Rattle.walrus_rewrite.specs.RewrittenBodies.{KeepsSource, Rewrites}
@@ -54,6 +54,12 @@ FinishesTo goes (Ok made) (Ok u) = goes made.output.bytes
 FinishesTo goes (Ok made) (Err e) = e ≡ Emit Memory
 FinishesTo goes (Err f) (Ok u) = ⊥
 FinishesTo goes (Err f) (Err e) = e ≡ f
+
+-- If the body isn't accepted, the sink took nothing.
+abbrev pub IsUntouched : {Sink : Type 0} → (old new : Sink) → RewriteError → Type 0
+IsUntouched old new (Parse f) = new ≡ old
+IsUntouched old new (Walk w) = Unit {0}
+IsUntouched old new (Emit e) = Unit {0}
 
 -- They are appended.
 abbrev pub Finishes : Result Drafted RewriteError → (old new : List ℕ) → Result (Unit {0}) RewriteError → Type 0

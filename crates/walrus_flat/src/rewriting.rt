@@ -21,7 +21,7 @@ ghost use Rattle.walrus_flat.specs.UsedLocals.{is_used, entries_of};
 ghost use Rattle.walrus_flat.specs.Written.{state_of};
 ghost use Rattle.walrus_flat.specs.WrittenBody.{again, IsAccepted, WritesBody, RefusesWriting};
 ghost use Rattle.walrus_flat.specs.Sinks.{OfWhole};
-ghost use Rattle.walrus_flat.specs.RewrittenFlat.{emit_input, is_none, Composes, WritesAll, IsNotAllWritten, FinishesTo, Finishes, FinishesBoth, RewritesFlat};
+ghost use Rattle.walrus_flat.specs.RewrittenFlat.{emit_input, is_none, Composes, WritesAll, IsNotAllWritten, FinishesTo, IsUntouched, Finishes, FinishesBoth, RewritesFlat};
 
 use crate::body_indices::BodyIndices;
 use crate::byte_sink::{ByteSink, InMemory};
@@ -279,6 +279,7 @@ fn write_body<V: OpCheck, F: Fn(&usize) -> InstrLocId, S: ByteSink>(
     ensures err { IfErr result (RefusesRewriting F.Fn (input_of «module».now indices.now function
         ty start ops.now on_instr_pos.entry V.check (V.state validator)) (emit_input
         «module».now out.now args.now)) }
+    ensures untouched { IfErr result (IsUntouched sink.old sink.new) }
 {
     let limited = has_limit(on_instr_pos);
     match check(
@@ -497,7 +498,8 @@ fn finish_to<S: ByteSink>(
     buffer: &mut Vec<u8>,
     sink: &mut S,
 ) -> Result<(), RewriteError>
-    ensures { FinishesTo (S.takes sink.old sink.new) made result }
+    ensures finishes { FinishesTo (S.takes sink.old sink.new) made result }
+    ensures untouched { IfErr result (IsUntouched sink.old sink.new) }
 {
     match made {
         Ok(draft) => {
@@ -517,8 +519,8 @@ fn finish_to<S: ByteSink>(
 ///
 /// # Errors
 ///
-/// Those of `rewrite_flat`, and `Memory` also where the sink couldn't take bytes. The sink may then have
-/// taken a part of the body.
+/// Those of `rewrite_flat`, and `Memory` also where the sink couldn't take bytes. If the body isn't
+/// accepted the sink takes nothing; after another error it may have taken a part of the body.
 pub fn rewrite_flat_to<V: OpCheck, F: Fn(&usize) -> InstrLocId, S: ByteSink>(
     module: &Module,
     indices: &IndicesToIds,
@@ -552,6 +554,7 @@ pub fn rewrite_flat_to<V: OpCheck, F: Fn(&usize) -> InstrLocId, S: ByteSink>(
           types = «module».now.locals;
           args = args.now;
         })) }
+    ensures untouched { IfErr result (IsUntouched sink.old sink.new) }
 {
     let alloc = *buffer.allocator();
     let start = body.start + body.ops;

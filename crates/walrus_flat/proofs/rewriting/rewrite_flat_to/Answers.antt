@@ -5,7 +5,7 @@ use Rattle.walrus_validators.specs.Locating.{MayCall}
 use Rattle.walrus_rewrite.specs.RewrittenBodies.{RefusesRewriting}
 use Rattle.walrus_flat.specs.Sinks.{OfWhole}
 use Rattle.walrus_flat.specs.RewrittenFlat.{emit_input, Composes}
-use Rattle.walrus_flat.proofs.FlatResults.{ends_there, flat_to, refused_to}
+use Rattle.walrus_flat.proofs.FlatResults.{ends_there, flat_to, refused_to, untouched_to}
 use Rattle.walrus_flat.proofs.rewriting.rewrite_flat_to.Goals as goal
 
 pub write_body-made-requires-clause-fits : goal.write_body-made-requires-clause-fits
@@ -28,7 +28,7 @@ returns-clause-rewritten g c =
     let middle = c.write_body-made.new.sink in
     let takes = g.S.ByteSink.takes in
     let ok = subst (λ (xs : List ℕ). IfOk made (OfWhole takes a.sink.now middle (Composes g.F.Fn (input_of a.module.now a.indices.now a.id a.ty (a.body.start + a.body.ops) xs a.on_instr_pos g.V.OpCheck.check (g.V.OpCheck.state a.validator)) (emit_input a.module.now a.out.now a.args.now) false))) c.operators-ops.ensures c.write_body-made.ensures.ok in
-    flat_to g.F.Fn (body_input a.module.now a.indices.now a.id a.ty a.body a.on_instr_pos g.V.OpCheck.check (g.V.OpCheck.state a.validator)) (emit_input a.module.now a.out.now a.args.now) takes a.sink.now middle c.finish_to.new.sink (g.met.S.ByteSink.one_by_one a.sink.now middle c.finish_to.new.sink) made ok c.finish_to.result c.finish_to.ensures
+    flat_to g.F.Fn (body_input a.module.now a.indices.now a.id a.ty a.body a.on_instr_pos g.V.OpCheck.check (g.V.OpCheck.state a.validator)) (emit_input a.module.now a.out.now a.args.now) takes a.sink.now middle c.finish_to.new.sink (g.met.S.ByteSink.one_by_one a.sink.now middle c.finish_to.new.sink) made ok c.finish_to.result c.finish_to.ensures.finishes
 
 pub returns-clause-refused : goal.returns-clause-refused
 returns-clause-refused g c =
@@ -36,4 +36,11 @@ returns-clause-refused g c =
     let made = c.write_body-made.result in
     let middle = c.write_body-made.new.sink in
     let err = subst (λ (xs : List ℕ). IfErr made (RefusesRewriting g.F.Fn (input_of a.module.now a.indices.now a.id a.ty (a.body.start + a.body.ops) xs a.on_instr_pos g.V.OpCheck.check (g.V.OpCheck.state a.validator)) (emit_input a.module.now a.out.now a.args.now))) c.operators-ops.ensures c.write_body-made.ensures.err in
-    refused_to g.F.Fn (body_input a.module.now a.indices.now a.id a.ty a.body a.on_instr_pos g.V.OpCheck.check (g.V.OpCheck.state a.validator)) (emit_input a.module.now a.out.now a.args.now) (g.S.ByteSink.takes middle c.finish_to.new.sink) made err c.finish_to.result c.finish_to.ensures
+    refused_to g.F.Fn (body_input a.module.now a.indices.now a.id a.ty a.body a.on_instr_pos g.V.OpCheck.check (g.V.OpCheck.state a.validator)) (emit_input a.module.now a.out.now a.args.now) (g.S.ByteSink.takes middle c.finish_to.new.sink) made err c.finish_to.result c.finish_to.ensures.finishes
+
+pub returns-clause-untouched : goal.returns-clause-untouched
+returns-clause-untouched g c =
+    let middle = c.write_body-made.new.sink in
+    let last = c.finish_to.new.sink in
+    untouched_to (g.S.ByteSink.takes middle last) c.args.sink.now middle last c.write_body-made.result c.write_body-made.ensures.untouched c.finish_to.result c.finish_to.ensures.finishes
+    c.finish_to.ensures.untouched
