@@ -22,7 +22,7 @@ use Rattle.wasm_sections.specs.CodeSections.{BodyAt}
 use Rattle.wasm_sections.specs.LocalsBelow.{locals_below}
 use Rattle.wasm_module.specs.RewrittenCode.{Extends, Enters}
 use Rattle.wasm_module.specs.Refusals.{place_in_file, HasFaultAt, IsRefused, IsNotRewritten}
-use Rattle.wasm_module.proofs.RewritingLemmas.{enters_then}
+use Rattle.wasm_module.proofs.RewritingLemmas.{entered_then}
 
 -- ---- a parse
 
@@ -35,11 +35,7 @@ refused source now function b type id args count body f e enters is_first r out_
     elim r [
       | inl memory ↦ inl (out_of_memory memory)
       | inr fault ↦ inr (inr (record {
-        type = type;
-        args = args;
-        count = count;
-        body = body;
-        enters = enters;
+        entered = record { type = type; args = args; count = count; body = body; enters = enters };
         failure = f;
         is_first =
             subst (λ (n : ℕ). FirstFault (body_setting now.module now.spaces.indices n type body locals_below count None) (body_operators body) f) is_first fault;
@@ -86,11 +82,7 @@ not_rewritten F calls source now function b type id args count body start (Emit 
       | inr none ↦ inr (
         place ∙ same,
         record {
-          type = type;
-          args = args;
-          count = count;
-          body = body;
-          enters = enters;
+          entered = record { type = type; args = args; count = count; body = body; enters = enters };
           tree = none.0;
           accepted =
               accepted_without F (λ locations. body_setting now.module now.spaces.indices 0 type body locals_below count locations) (body_operators body) none.0
@@ -119,11 +111,7 @@ not_rewritten_flat F calls source now function b type id given args count body s
 
 fault_then : (source a now : ParsedModule) (function : ℕ) (b : BodyAt) (at : ℕ) → Extends source a → HasFaultAt a function b now at → HasFaultAt source function b now at
 fault_then source a now function b at e p = record {
-  type = p.type;
-  args = p.args;
-  count = p.count;
-  body = p.body;
-  enters = enters_then source a now function b p.type p.args p.count p.body e p.enters;
+  entered = entered_then source a now function b e p.entered;
   failure = p.failure;
   is_first = p.is_first;
   place = p.place;
@@ -155,11 +143,7 @@ if_not_rewritten_then source a now function b (Err e) extends p =
       | inr none ↦ inr (
         none.0,
         record {
-          type = none.1.type;
-          args = none.1.args;
-          count = none.1.count;
-          body = none.1.body;
-          enters = enters_then source a now function b none.1.type none.1.args none.1.count none.1.body extends none.1.enters;
+          entered = entered_then source a now function b extends none.1.entered;
           tree = none.1.tree;
           accepted = none.1.accepted;
           error = none.1.error;

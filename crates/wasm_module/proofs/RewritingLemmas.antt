@@ -4,11 +4,14 @@ use Rattle.std.specs.Borrow.{Bor}
 use Rattle.std.specs.Fn.{Shared}
 use Rattle.wasm_types.specs.declared.val_type.ValType.{ValType}
 use Rattle.walrus_ir.specs.Function.{Function}
+use Rattle.walrus_ir.specs.declared.module.Module.{Module}
 use Rattle.wasm_body.specs.Pairs.{Pair}
 use Rattle.wasm_body.specs.SourceTree.{Body}
 use Rattle.wasm_body.specs.Naming.{Occurrence}
 use Rattle.wasm_body.specs.Parsing.Accepted.{Accepted}
 use Rattle.walrus_parser.specs.declared.body.FunctionBody.{FunctionBody}
+use Rattle.walrus_maps.specs.declared.indices_to_ids.IndicesToIds.{IndicesToIds}
+use Rattle.walrus_maps.specs.IndexMaps.{local_of}
 use Rattle.walrus_body.specs.FunctionParts.{FunctionParts}
 use Rattle.walrus_parser.specs.Bodies.{AcceptsBody, body_input, body_setting, body_operators}
 use Rattle.walrus_body.specs.EmittedInstructions.{LentPairs, Left}
@@ -18,9 +21,10 @@ use Rattle.walrus_rewrite.specs.RewrittenBodies.{Rewrites}
 use Rattle.walrus_flat.specs.RewrittenFlat.{RewritesFlat}
 use Rattle.wasm_module.specs.declared.parsed.ParsedModule.{ParsedModule}
 use Rattle.wasm_sections.specs.CodeSections.{BodyAt}
+use Rattle.wasm_sections.specs.Declarations.{parameters_of, HaveLocals, first_numbers}
 use Rattle.wasm_sections.specs.LocalsBelow.{locals_below}
-use Rattle.wasm_module.specs.RewrittenCode.{Extends, Enters, IsRewrittenAs, IsRewritten, IsAccepted, IsParsed, OneChange, IsChanged}
-use Rattle.wasm_module.proofs.ModuleLemmas.{extends_then}
+use Rattle.wasm_module.specs.RewrittenCode.{Extends, Enters, Entered, IsRewrittenAs, IsRewritten, IsAccepted, IsParsed, OneChange, IsChanged}
+use Rattle.wasm_module.proofs.ModuleLemmas.{Alike, extends_then, extends_kept}
 
 -- no location function
 abbrev no_location_function : (F : Type 0) → Option (Bor F)
@@ -44,11 +48,7 @@ rewritten {F} {Z} {calls} {made} {mapping} {entry} {exit} source now function b 
     record { body = x.accepts.body; accepted = x.accepts.accepted; is_raw_body = x.is_raw_body; keeps = x.keeps } in
     record {
       now = now;
-      type = type;
-      args = args;
-      count = count;
-      body = body;
-      enters = enters;
+      entered = record { type = type; args = args; count = count; body = body; enters = enters };
       pairs = x.pairs;
       is_rewritten = subst (λ (l : List ℕ). IsRewrittenAs now type args count body l x.pairs) all is_rewritten;
     }
@@ -71,11 +71,7 @@ rewritten_flat {F} {Z} {calls} {entry} {exit} source now function b type id give
     record { body = x.body; accepted = x.accepted; is_raw_body = x.is_raw_body; keeps = x.keeps } in
     record {
       now = now;
-      type = type;
-      args = args;
-      count = count;
-      body = body;
-      enters = enters;
+      entered = record { type = type; args = args; count = count; body = body; enters = enters };
       pairs = x.pairs;
       is_rewritten = subst (λ (l : List ℕ). IsRewrittenAs now type args count body l x.pairs) all is_rewritten;
     }
@@ -92,11 +88,7 @@ parsed {F} {calls} source now function b type id args count body made enters is_
     λ n. AcceptsBody calls (body_input now.module now.spaces.indices n type body (no_location_function F) locals_below count) made.builder made.instruction_mapping in
     let x = subst At is_first accepts in
     record {
-      type = type;
-      args = args;
-      count = count;
-      body = body;
-      enters = enters;
+      entered = record { type = type; args = args; count = count; body = body; enters = enters };
       is_parsed = record { body = x.body; accepted = x.accepted; is_function = x.is_function; args_are = args_are };
     }
 
@@ -107,14 +99,29 @@ pub accepted :
     (tree : Body Occurrence) × Accepted (body_setting now.module now.spaces.indices id type body locals_below count None) (body_operators body) tree →
     IsAccepted source function b now
 accepted source now function b type id args count body enters is_first a = record {
-  type = type;
-  args = args;
-  count = count;
-  body = body;
-  enters = enters;
+  entered = record { type = type; args = args; count = count; body = body; enters = enters };
   tree = a.0;
   accepted =
       subst (λ (n : ℕ). Accepted (body_setting now.module now.spaces.indices n type body locals_below count None) (body_operators body) a.0) is_first a.1;
+}
+
+-- ---- after a step that changes neither the module nor its index maps
+
+pub enters_kept :
+    (source a now : ParsedModule) (function : ℕ) (b : BodyAt) (type : ℕ) (args : List ℕ) (count : ℕ) (body : FunctionBody) →
+    Alike a now → now.module ≡ a.module → now.spaces.indices ≡ a.spaces.indices → now.spaces.numbers ≡ a.spaces.numbers →
+    Enters source function b a type args count body → Enters source function b now type args count body
+enters_kept source a now function b type args count body alike is_module indices numbers enters = record {
+  extends = extends_kept source a now enters.extends alike (ap (λ (m : Module). m.types) is_module) indices numbers;
+  is_type = enters.is_type;
+  bytes = enters.bytes;
+  start = enters.start;
+  locals =
+      subst (λ (m : Module). HaveLocals now.spaces.indices (parameters_of m.types type) b.bytes (body_operators body) m.locals) (sym is_module)
+      (subst (λ (x : IndicesToIds). HaveLocals x (parameters_of a.module.types type) b.bytes (body_operators body) a.module.locals) (sym indices) enters.locals);
+  args_are = enters.args_are ∙ ap (λ (m : Module). first_numbers (length (parameters_of m.types type))) (sym is_module);
+  count_is = enters.count_is ∙ ap (λ (m : Module). length m.locals) (sym is_module);
+  local_ids = λ local is_below. subst (λ (x : IndicesToIds). local_of x 0 local ≡ Ok local) (sym indices) (enters.local_ids local is_below);
 }
 
 -- ---- of a module that the source was before
@@ -133,14 +140,19 @@ enters_then source a now function b type args count body e enters = record {
   local_ids = enters.local_ids;
 }
 
+abbrev pub entered_then : (source a now : ParsedModule) (function : ℕ) (b : BodyAt) → Extends source a → Entered a function b now → Entered source function b now
+entered_then source a now function b e x = record {
+  type = x.type;
+  args = x.args;
+  count = x.count;
+  body = x.body;
+  enters = enters_then source a now function b x.type x.args x.count x.body e x.enters;
+}
+
 pub rewritten_then : (source a : ParsedModule) (function : ℕ) (b : BodyAt) (raw : List ℕ) → Extends source a → IsRewritten a function b raw → IsRewritten source function b raw
 rewritten_then source a function b raw e r = record {
   now = r.now;
-  type = r.type;
-  args = r.args;
-  count = r.count;
-  body = r.body;
-  enters = enters_then source a r.now function b r.type r.args r.count r.body e r.enters;
+  entered = entered_then source a r.now function b e r.entered;
   pairs = r.pairs;
   is_rewritten = r.is_rewritten;
 }
@@ -168,11 +180,7 @@ measured_then source a function b (Err x) e p = tt
 pub parsed_then :
     (source a now : ParsedModule) (function : ℕ) (b : BodyAt) (made : FunctionParts) → Extends source a → IsParsed a function b now made → IsParsed source function b now made
 parsed_then source a now function b made e p = record {
-  type = p.type;
-  args = p.args;
-  count = p.count;
-  body = p.body;
-  enters = enters_then source a now function b p.type p.args p.count p.body e p.enters;
+  entered = entered_then source a now function b e p.entered;
   is_parsed = p.is_parsed;
 }
 
@@ -186,11 +194,7 @@ pub accepted_ok :
     {E : Type 0} (source a now : ParsedModule) (function : ℕ) (b : BodyAt) (r : Result (Unit {0}) E) → Extends source a → OnOk r (IsAccepted a function b now) →
     OnOk r (IsAccepted source function b now)
 accepted_ok source a now function b (Ok u) e p = record {
-  type = p.type;
-  args = p.args;
-  count = p.count;
-  body = p.body;
-  enters = enters_then source a now function b p.type p.args p.count p.body e p.enters;
+  entered = entered_then source a now function b e p.entered;
   tree = p.tree;
   accepted = p.accepted;
 }

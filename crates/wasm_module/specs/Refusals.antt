@@ -1,6 +1,6 @@
 -- Bodies that are refused: because memory ran out, or for the first fault of the body (WebAssembly core specification 3.0,
 -- binary format, code section).
-use Rattle.std.specs.Prelude.{◌≡◌, ◌⊎◌, ◌<◌, ℕ, List, [], length, slice_get, Some, None}
+use Rattle.std.specs.Prelude.{◌≡◌, ◌⊎◌, ◌<◌, ℕ, List, [], length, slice_get, Some}
 use Rattle.wasm_types.specs.declared.val_type.ValType.{ValType}
 use Rattle.wasm_body.specs.SourceTree.{Body}
 use Rattle.wasm_body.specs.Naming.{Occurrence}
@@ -8,9 +8,8 @@ use Rattle.wasm_body.specs.NormalForm.{body_tree}
 use Rattle.wasm_body.specs.declared.error.EmitError.{EmitError}
 use Rattle.wasm_body.specs.declared.error.ParseFailure.{ParseFailure}
 use Rattle.wasm_body.specs.Parsing.Accepted.{Accepted, FirstFault}
-use Rattle.walrus_parser.specs.declared.body.FunctionBody.{FunctionBody}
 use Rattle.walrus_maps.specs.Environments.{environment_of}
-use Rattle.walrus_parser.specs.Bodies.{body_setting, body_operators}
+use Rattle.walrus_parser.specs.Bodies.{body_operators}
 use Rattle.walrus_numbering.specs.NumberMaps.{numbers_by}
 use Rattle.walrus_rewrite.specs.declared.error.RewriteError.{RewriteError}
 use Rattle.walrus_rewrite.specs.declared.error.RewriteError.TheVariants.{Parse, Walk, Emit}
@@ -20,8 +19,7 @@ use Rattle.wasm_sections.specs.declared.fault.ModuleFault.TheVariants.{Memory}
 use Rattle.wasm_module.specs.declared.parsed.ParsedModule.{ParsedModule}
 use Rattle.wasm_sections.specs.CodeSections.{BodyAt}
 use Rattle.wasm_sections.specs.Declarations.{parameters_of, HaveLocals, max_locals}
-use Rattle.wasm_sections.specs.LocalsBelow.{locals_below}
-use Rattle.wasm_module.specs.RewrittenCode.{Enters}
+use Rattle.wasm_module.specs.RewrittenCode.{Entered, setting_in}
 
 -- the place in the file of a fault of a body that begins at this place
 abbrev pub place_in_file : ℕ → RewriteError → ℕ
@@ -37,13 +35,9 @@ HasNoFront now function bytes =
 
 -- The operators of this function's body, parsed with these declarations, have a first fault, at this place of the file.
 pub record HasFaultAt (source : ParsedModule) (function : ℕ) (b : BodyAt) (now : ParsedModule) (at : ℕ) : Type 0 where
-  pub type : ℕ
-  pub args : List ℕ
-  pub count : ℕ
-  pub body : FunctionBody
-  pub enters : Enters source function b now type args count body
+  pub entered : Entered source function b now
   pub failure : ParseFailure
-  pub is_first : FirstFault (body_setting now.module now.spaces.indices 0 type body locals_below count None) (body_operators body) failure
+  pub is_first : FirstFault (setting_in now entered.type entered.count entered.body) (body_operators entered.body) failure
   pub place : at ≡ failure.at
 
 -- The body of this function of the source isn't parsed, in the module as it is then.
@@ -52,17 +46,13 @@ IsRefused source function b now e = (e.fault ≡ Memory) ⊎ (HasNoFront now fun
 
 -- The operators are accepted, but their normal form has no raw body, for one of the reasons why that of a parsed body has none.
 pub record HasNoBytes (source : ParsedModule) (function : ℕ) (b : BodyAt) (now : ParsedModule) : Type 0 where
-  pub type : ℕ
-  pub args : List ℕ
-  pub count : ℕ
-  pub body : FunctionBody
-  pub enters : Enters source function b now type args count body
+  pub entered : Entered source function b now
   pub tree : Body Occurrence
-  pub accepted : Accepted (body_setting now.module now.spaces.indices 0 type body locals_below count None) (body_operators body) tree
+  pub accepted : Accepted (setting_in now entered.type entered.count entered.body) (body_operators entered.body) tree
   pub error : EmitError
   pub has_none :
-      HasNoParsedBody (record { to = numbers_by now.module.types now.spaces.numbers []; types = now.module.locals; args = args })
-      (body_tree (environment_of now.module now.spaces.indices 0 type) tree) error
+      HasNoParsedBody (record { to = numbers_by now.module.types now.spaces.numbers []; types = now.module.locals; args = entered.args })
+      (body_tree (environment_of now.module now.spaces.indices 0 entered.type) tree) error
 
 -- The body of this function of the source isn't rewritten.
 abbrev pub IsNotRewritten : ParsedModule → ℕ → BodyAt → ParsedModule → ModuleError → Type 0

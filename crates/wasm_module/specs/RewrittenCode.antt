@@ -7,7 +7,7 @@ use Rattle.wasm_body.specs.SourceTree.{Body}
 use Rattle.wasm_body.specs.Naming.{Occurrence}
 use Rattle.wasm_body.specs.NormalForm.{body_tree}
 use Rattle.wasm_body.specs.Pairs.{Pair}
-use Rattle.wasm_body.specs.Parsing.Accepted.{Accepted}
+use Rattle.wasm_body.specs.Parsing.Accepted.{Setting, Accepted}
 use Rattle.walrus_parser.specs.declared.body.FunctionBody.{FunctionBody}
 use Rattle.walrus_maps.specs.Environments.{environment_of}
 use Rattle.walrus_maps.specs.IndexMaps.{local_of}
@@ -48,12 +48,23 @@ pub record Enters (source : ParsedModule) (function : ℕ) (b : BodyAt) (now : P
   pub count_is : count ≡ length now.module.locals
   pub local_ids : (local : ℕ) → local < count → local_of now.spaces.indices 0 local ≡ Ok local
 
--- The operators of the body are accepted, in the module and its index maps, by the validator that knows this number of
--- locals; and these bytes are the raw body of their normal form. It executes the operators of the source and ends in the same
+-- The same, with what it is parsed with.
+pub record Entered (source : ParsedModule) (function : ℕ) (b : BodyAt) (now : ParsedModule) : Type 0 where
+  pub type : ℕ
+  pub args : List ℕ
+  pub count : ℕ
+  pub body : FunctionBody
+  pub enters : Enters source function b now type args count body
+
+-- The operators of a body are parsed in the module and its index maps, with the validator that knows this number of locals.
+abbrev pub setting_in : ParsedModule → (type count : ℕ) → FunctionBody → Setting ℕ
+setting_in now type count body = body_setting now.module now.spaces.indices 0 type body locals_below count None
+
+-- The operators of the body are accepted; and these bytes are the raw body of their normal form. It executes the operators of the source and ends in the same
 -- way, and its pairs contain their locations, which are places in the file.
 pub record IsRewrittenAs (now : ParsedModule) (type : ℕ) (args : List ℕ) (count : ℕ) (source : FunctionBody) (raw : List ℕ) (pairs : List Pair) : Type 0 where
   pub body : Body Occurrence
-  pub accepted : Accepted (body_setting now.module now.spaces.indices 0 type source locals_below count None) (body_operators source) body
+  pub accepted : Accepted (setting_in now type count source) (body_operators source) body
   pub is_raw_body :
       IsRawBody (record { to = numbers_by now.module.types now.spaces.numbers []; types = now.module.locals; args = args })
       (body_tree (environment_of now.module now.spaces.indices 0 type) body) raw pairs
@@ -63,41 +74,29 @@ pub record IsRewrittenAs (now : ParsedModule) (type : ℕ) (args : List ℕ) (co
 -- The body of this function of the source is rewritten as these bytes.
 pub record IsRewritten (source : ParsedModule) (function : ℕ) (b : BodyAt) (raw : List ℕ) : Type 0 where
   pub now : ParsedModule
-  pub type : ℕ
-  pub args : List ℕ
-  pub count : ℕ
-  pub body : FunctionBody
-  pub enters : Enters source function b now type args count body
+  pub entered : Entered source function b now
   pub pairs : List Pair
-  pub is_rewritten : IsRewrittenAs now type args count body raw pairs
+  pub is_rewritten : IsRewrittenAs now entered.type entered.args entered.count entered.body raw pairs
 
 -- ---- one body that is checked, or whose function is changed before it is written
 
 -- The operators of this function's body, parsed with these declarations, are accepted.
 pub record IsAccepted (source : ParsedModule) (function : ℕ) (b : BodyAt) (now : ParsedModule) : Type 0 where
-  pub type : ℕ
-  pub args : List ℕ
-  pub count : ℕ
-  pub body : FunctionBody
-  pub enters : Enters source function b now type args count body
+  pub entered : Entered source function b now
   pub tree : Body Occurrence
-  pub accepted : Accepted (body_setting now.module now.spaces.indices 0 type body locals_below count None) (body_operators body) tree
+  pub accepted : Accepted (setting_in now entered.type entered.count entered.body) (body_operators entered.body) tree
 
 -- The operators are accepted, as above, and the function has their normal form, and these arguments.
 pub record IsParsedAs (now : ParsedModule) (type : ℕ) (args : List ℕ) (count : ℕ) (source : FunctionBody) (made : FunctionParts) : Type 0 where
   pub body : Body Occurrence
-  pub accepted : Accepted (body_setting now.module now.spaces.indices 0 type source locals_below count None) (body_operators source) body
+  pub accepted : Accepted (setting_in now type count source) (body_operators source) body
   pub is_function : IsFunction made.builder (body_tree (environment_of now.module now.spaces.indices 0 type) body)
   pub args_are : made.args ≡ args
 
 -- The function is the parsed body of this function of the source.
 pub record IsParsed (source : ParsedModule) (function : ℕ) (b : BodyAt) (now : ParsedModule) (made : FunctionParts) : Type 0 where
-  pub type : ℕ
-  pub args : List ℕ
-  pub count : ℕ
-  pub body : FunctionBody
-  pub enters : Enters source function b now type args count body
-  pub is_parsed : IsParsedAs now type args count body made
+  pub entered : Entered source function b now
+  pub is_parsed : IsParsedAs now entered.type entered.args entered.count entered.body made
 
 -- A change: the function with this index and its locals' types, as they were parsed; and as they are written.
 abbrev pub OneChange : Type 1

@@ -2,7 +2,7 @@ use Rattle.std.proofs.Common.{[], refl}
 use Rattle.wasm_sections.specs.CodeSections.{body_at}
 use Rattle.wasm_module.proofs.ModuleLemmas.{extends_kept}
 use Rattle.wasm_module.proofs.RefusalLemmas.{not_rewritten_flat}
-use Rattle.wasm_module.proofs.RewritingLemmas.{rewritten_flat}
+use Rattle.wasm_module.proofs.RewritingLemmas.{enters_kept, rewritten_flat}
 use Rattle.wasm_module.proofs.parsed.ParsedModule.rewrite_flat_to.Goals as goal
 
 pub returns-in-Ok-clause-extends : goal.returns-in-Ok-clause-extends
@@ -26,17 +26,7 @@ returns-in-Ok-clause-rewritten g c =
 pub returns-clause-refused : goal.returns-clause-refused
 returns-clause-refused g c =
     let made = c.in_ok-ty.field-0 in
-    let enters = c.in_ok-ty.ensures.enters in
-    let extends = extends_kept c.args.self.now c.enter.new.self _ c.enter.ensures.extends (record { bytes = refl; tags = refl; func_types = refl; imported = refl }) refl refl refl in
     not_rewritten_flat _ _ c.args.self.now _ c.args.body.func (body_at c.args.body) made.ty c.local_lists-lists.result c.as_slice.result.now made.args.items made.locals made.body c.start.result c.in-Err.error
     c.body_error.result
-    (record {
-      extends = extends;
-      is_type = enters.is_type;
-      bytes = enters.bytes;
-      start = enters.start;
-      locals = enters.locals;
-      args_are = enters.args_are;
-      count_is = enters.count_is;
-      local_ids = enters.local_ids;
-    }) c.local_lists-lists.ensures c.start.ensures.place c.as_slice.ensures.value c.in-Err.ensures.refused c.body_error.ensures.memory c.body_error.ensures.place
+    (enters_kept c.args.self.now c.enter.new.self _ c.args.body.func (body_at c.args.body) made.ty made.args.items made.locals made.body
+    (record { bytes = refl; tags = refl; func_types = refl; imported = refl }) refl refl refl c.in_ok-ty.ensures.enters) c.local_lists-lists.ensures c.start.ensures.place c.as_slice.ensures.value c.in-Err.ensures.refused c.body_error.ensures.memory c.body_error.ensures.place
