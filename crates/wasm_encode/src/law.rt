@@ -9,10 +9,8 @@ ghost use Rattle.wasm_operators.specs.Parts.{immediates_of};
 ghost use Rattle.wasm_operators.specs.Shortest.{short};
 ghost use Rattle.wasm_operators.specs.Spelling.{Spells};
 
-use crate::out_operator::{OutClauses, OutImmediates, OutOp, OutTable};
-use wasm_operators::{
-    BlockType, Immediates, Op, RawCast, RawCatch, RawHeapType, RawValType, index_rows, parts_of,
-};
+use crate::out_operator::{OutClauses, OutImmediates, OutOp, OutTable, parts};
+use wasm_operators::{BlockType, Immediates, RawCast, RawCatch, RawHeapType, RawValType};
 use wasm_types::{RefType, ValType};
 
 /// Labels fit their spellings.
@@ -143,34 +141,13 @@ fn law_fit(immediates: OutImmediates<'_>)
     }
 }
 
-/// The immediates that follow an opcode.
-macro_rules! following {
-    (() $opcode:expr, $immediates:expr) => {
-        $immediates
-    };
-}
-
-/// The immediates that follow the opcode of an operator.
-fn after_opcode<'a>(op: &OutOp<'a>) -> OutImmediates<'a>
-    ensures { immediates_of result ≡ (meaning op.now).immediates }
-{
-    index_rows!(
-        parts_of, following () op,
-        Op::BrTable(OutTable { targets, default }) => {
-            Immediates::Table(OutTable { targets: *targets, default: *default })
-        }
-        Op::TryTable { ty, catches: OutClauses { clauses } } => {
-            Immediates::Clauses(*ty, OutClauses { clauses: *clauses })
-        }
-    )
-}
-
 /// The numbers of an operator fit their spellings.
 fn law_numbers(op: &OutOp<'_>)
     requires { AreEncodable (meaning op.now).immediates }
     ensures { AllFit (meaning op.now).immediates }
 {
-    law_fit(after_opcode(op));
+    let (_opcode, immediates) = parts(op);
+    law_fit(immediates);
 }
 
 /// If the lists of an operator have fewer than 2^32 items and the exponent of its alignment is

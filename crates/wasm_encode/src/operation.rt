@@ -9,10 +9,10 @@ ghost use Rattle.wasm_encode.specs.Writable.{IsWritable};
 
 use crate::immediates::write_immediates;
 use crate::number::{write_byte, write_number};
-use crate::out_operator::{OutClauses, OutImmediates, OutOp, OutTable};
+use crate::out_operator::{OutImmediates, OutOp, parts};
 use std::alloc::AllocError;
+use wasm_operators::Opcode;
 use wasm_operators::Opcode::{Byte, Prefixed};
-use wasm_operators::{Immediates, Op, Opcode, index_rows, parts_of};
 
 /// Appends an opcode.
 #[inline(always)]
@@ -46,31 +46,14 @@ fn write_parts(
     write_immediates(out, immediates)
 }
 
-/// Appends an opcode, and the immediates that follow it.
-macro_rules! written {
-    (($out:ident) $opcode:expr, $immediates:expr) => {
-        write_parts($out, $opcode, &$immediates)
-    };
-}
-
 /// Appends the bytes of an operator. If memory runs out, only some of the first bytes are appended.
 #[inline(always)]
-#[tactic(auto, using(crate::proofs::Appending::appending))]
 fn write_whole(out: &mut Vec<u8>, op: &OutOp<'_>) -> Result<(), AllocError>
     ensures ok { OnOk result (out.new.items ≡ out.old.items ++ short (meaning op.now)) }
     ensures unchanged { take (length out.old.items) out.new.items ≡ out.old.items }
 {
-    index_rows!(
-        parts_of, written (out) op,
-        Op::BrTable(OutTable { targets, default }) => {
-            let table = OutTable { targets: *targets, default: *default };
-            written!((out) Byte(0x0e), Immediates::Table(table))
-        }
-        Op::TryTable { ty, catches: OutClauses { clauses } } => {
-            let clauses = OutClauses { clauses: *clauses };
-            written!((out) Byte(0x1f), Immediates::Clauses(*ty, clauses))
-        }
-    )
+    let (opcode, immediates) = parts(op);
+    write_parts(out, opcode, &immediates)
 }
 
 /// Appends the shortest spelling of an operator (WebAssembly core specification 3.0, binary format,

@@ -1,7 +1,12 @@
 //! Operators to be written.
 
+ghost use Rattle.std.specs.Prelude.{◌≡◌};
+ghost use Rattle.wasm_operators.specs.Meaning.{meaning};
+ghost use Rattle.wasm_operators.specs.Operations.{operation};
+ghost use Rattle.wasm_operators.specs.Parts.{immediates_of};
+
 use std::marker::Model;
-use wasm_operators::{Immediates, Op, RawCatch};
+use wasm_operators::{Immediates, Op, Opcode, RawCatch, index_rows, parts_of};
 
 /// The labels of a `br_table` to be written. In a contract, it is the list of labels and the
 /// default.
@@ -43,3 +48,28 @@ pub type OutOp<'a> = Op<OutTable<'a>, OutClauses<'a>>;
 
 /// The immediates that follow the opcode of an operator to be written.
 pub(crate) type OutImmediates<'a> = Immediates<OutTable<'a>, OutClauses<'a>>;
+
+/// An opcode and its immediates.
+macro_rules! pair {
+    (() $opcode:expr, $immediates:expr) => {
+        ($opcode, $immediates)
+    };
+}
+
+/// The opcode of an operator to be written, and the immediates that follow it.
+#[inline(always)]
+pub(crate) fn parts<'a>(op: &OutOp<'a>) -> (Opcode, OutImmediates<'a>)
+    ensures { operation result.0 (immediates_of result.1) ≡ meaning op.now }
+{
+    index_rows!(
+        parts_of, pair () op,
+        Op::BrTable(OutTable { targets, default }) => {
+            let table = OutTable { targets: *targets, default: *default };
+            (Opcode::Byte(0x0e), Immediates::Table(table))
+        }
+        Op::TryTable { ty, catches: OutClauses { clauses } } => {
+            let clauses = OutClauses { clauses: *clauses };
+            (Opcode::Byte(0x1f), Immediates::Clauses(*ty, clauses))
+        }
+    )
+}
