@@ -3,20 +3,21 @@ ghost use Rattle.std.specs.Prelude.{◌≡◌, ◌<◌, ◌≤◌, ◌+◌, ◌^
 ghost use Rattle.std.specs.Bool.{OnTrue, OnFalse};
 ghost use Rattle.wasm_operators.specs.AccessOperations.{access_of};
 ghost use Rattle.wasm_operators.specs.Meaning.{meaning};
-ghost use Rattle.wasm_operators.specs.Shortest.{short_number, short_integer, short_access};
+ghost use Rattle.wasm_operators.specs.Shortest.{short_number, short_integer, short_access, short_bits};
 ghost use Rattle.wasm_encode.specs.Writable.{IsWritable};
 ghost use Rattle.wasm_body.specs.Translation.{at_location};
 ghost use Rattle.wasm_body.specs.declared.error.EmitError.TheVariants.{Memory};
 ghost use Rattle.walrus_emit_state.specs.Emission.{pairs_after};
-ghost use Rattle.walrus_emit_state.specs.TreeWriting.Drafts.{with_written, with_bytes};
+ghost use Rattle.walrus_emit_state.specs.TreeWriting.Drafts.{with_written, with_bytes, with_list};
 
 use std::alloc::{AllocError, Global};
 use std::marker::Model;
+use std::mem;
 use walrus_ir::InstrLocId;
 use walrus_maps::{list_with_room, make_room};
 use wasm_body::EmitError;
 use wasm_encode::{
-    FunctionEncoder, OutOp, put_byte, put_integer, put_memarg, put_number, write_op,
+    FunctionEncoder, OutOp, put_bits, put_byte, put_integer, put_memarg, put_number, write_op,
 };
 use wasm_operators::RawMemArg;
 
@@ -58,9 +59,8 @@ fn begin(
     true
 }
 
-/// What is written after so many bytes of others, fewer than 2^63, and handed over whole: bytes, and
-/// for each operator its location and its place, where these are asked for. A contract sees both
-/// lists.
+/// What is written after so many bytes of others, fewer than 2^63: bytes, and for each operator its
+/// location and its place, where these are asked for. A contract sees both lists.
 #[derive(Drop)]
 pub struct Draft {
     base: usize,
@@ -100,6 +100,48 @@ impl Draft {
             bytes: list_with_room(alloc, operators.saturating_mul(BYTES)),
             pairs: list_with_room(alloc, if has_map { operators } else { 0 }),
         }
+    }
+
+    /// These bytes and these pairs are written, from the first byte of a body on.
+    pub fn of_lists(bytes: Vec<u8>, pairs: Vec<(InstrLocId, usize)>, has_map: bool) -> Draft
+        ensures { result ≡ record {
+          base = 0;
+          has_map = has_map;
+          output = record { bytes = bytes.items; pairs = pairs.items };
+        } }
+    {
+        Draft {
+            base: 0,
+            has_map,
+            bytes,
+            pairs,
+        }
+    }
+
+    /// Whether pairs are kept.
+    #[inline(always)]
+    pub fn has_map(&self) -> bool
+        ensures { result ≡ self.now.has_map }
+    {
+        self.has_map
+    }
+
+    /// Takes the bytes out, so that none are left.
+    #[inline(always)]
+    pub fn take_bytes(&mut self) -> Vec<u8>
+        ensures bytes { result.items ≡ self.old.output.bytes }
+        ensures left { self.new ≡ with_list self.old [] }
+    {
+        let alloc = *self.bytes.allocator();
+        mem::replace(&mut self.bytes, Vec::new(alloc))
+    }
+
+    /// Replaces the bytes.
+    #[inline(always)]
+    pub fn set_bytes(&mut self, bytes: Vec<u8>)
+        ensures { self.new ≡ with_list self.old bytes.items }
+    {
+        self.bytes = bytes;
     }
 
     /// Writes an operator that is one byte, at a location. Returns whether it did; if not, memory ran
@@ -188,6 +230,28 @@ impl Draft {
         true
     }
 
+    /// Writes an operator that is a byte and at most eight bytes of bits, as `write_byte`.
+    #[tactic(auto, using(std::proofs::Common::append_assoc))]
+    pub fn write_bits(&mut self, byte: u8, count: u32, bits: u64, location: InstrLocId) -> bool
+        requires { count ≤ 8 }
+        ensures done { OnTrue result
+            (self.new ≡ with_bytes self.old (byte ∷ short_bits count bits) location) }
+        ensures unchanged { OnFalse result (self.new ≡ self.old) }
+    {
+        if !begin(
+            &mut self.bytes,
+            &mut self.pairs,
+            self.has_map,
+            self.base,
+            location,
+        ) {
+            return false;
+        }
+        put_byte(&mut self.bytes, byte);
+        put_bits(&mut self.bytes, count, bits);
+        true
+    }
+
     /// Writes an operator of any kind, at a location. Where memory runs out all is as before.
     #[inline(never)]
     pub fn write_any(&mut self, op: &OutOp, location: InstrLocId) -> Result<(), EmitError>
@@ -238,5 +302,12 @@ impl Draft {
         ensures err { OnErr result (encoder.new ≡ encoder.old) }
     {
         encoder.raw(&self.bytes)
+    }
+    /// The bytes and the pairs.
+    pub fn into_lists(self) -> (Vec<u8>, Vec<(InstrLocId, usize)>)
+        ensures bytes { result.0.items ≡ self.output.bytes }
+        ensures pairs { result.1.items ≡ self.output.pairs }
+    {
+        (self.bytes, self.pairs)
     }
 }

@@ -117,11 +117,7 @@ impl Scopes {
         ensures ok { OnOk result (self.new ≡ with_more self.old (ending place closer end ∷ [])) }
         ensures err { OnErr result (self.new ≡ self.old) }
     {
-        self.coming.push(SequenceScope {
-            place,
-            closer: Some((closer, end)),
-        })?;
-        Ok(())
+        self.announce_closed(place, Some((closer, end)))
     }
 
     /// How many sequences are to come.

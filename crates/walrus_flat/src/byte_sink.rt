@@ -1,6 +1,9 @@
 //! Where a large body goes while it is written.
 ghost use Rattle.std.specs.Prelude.{◌≡◌, ◌++◌, List, ℕ, []};
 ghost use Rattle.std.specs.Bool.{OnTrue};
+ghost use Rattle.walrus_flat.specs.Sinks.{IsLeft};
+
+use walrus_emit_state::Draft;
 
 /// Takes the bytes of a body while it is written, so that they needn't be in memory all at once.
 pub trait ByteSink {
@@ -40,4 +43,20 @@ impl ByteSink for InMemory {
     ghost nothing = { λ s k. [] };
 
     ghost one_by_one = { λ a b c first second none no_more. ap (λ (l : List ℕ). l ++ second) none ∙ no_more };
+}
+
+/// Lets a sink take the bytes of a draft, unless it takes them after all of the source is read. It
+/// takes none where pairs are kept, since places count from the first byte. Returns whether it did
+/// what it should.
+#[inline(always)]
+pub(crate) fn pass_to<S: ByteSink>(draft: &mut Draft, sink: &mut S) -> bool
+    ensures { OnTrue result (IsLeft S.takes sink.old sink.new draft.old draft.new) }
+{
+    if S::MOST == usize::MAX || draft.has_map() {
+        return true;
+    }
+    let mut bytes = draft.take_bytes();
+    let is_taken = sink.take(&mut bytes);
+    draft.set_bytes(bytes);
+    is_taken
 }

@@ -9,7 +9,6 @@ mod checking;
 mod control;
 mod cursor;
 mod declarations;
-mod draft;
 mod flat_check;
 mod laws;
 mod local_numbers;

@@ -27,7 +27,6 @@ use crate::body_indices::BodyIndices;
 use crate::byte_sink::{ByteSink, InMemory};
 use crate::cursor::Cursor;
 use crate::declarations::write_declarations;
-use crate::draft::Draft;
 use crate::flat_check::check;
 use crate::local_numbers::{LocalNumbers, NumberedLocals, declare_locals};
 use crate::scratch::FlatScratch;
@@ -37,6 +36,7 @@ use crate::write_body::write_operators;
 use crate::writer::Writer;
 use std::alloc::Global;
 use std::mem;
+use walrus_emit_state::Draft;
 use walrus_ir::{BlockKind, FunctionId, InstrLocId, InstrSeqType, LocalId, Module, TypeId};
 use walrus_maps::{IdsToIndices, IndicesToIds, make_room};
 use walrus_parser::{FunctionBody, OpCheck, failure};
@@ -217,7 +217,7 @@ fn write_checked<F: Fn(&usize) -> InstrLocId, S: ByteSink>(
         Ok(numbers) => numbers,
         Err(fault) => return Err(fault),
     };
-    let draft = Draft::new(bytes, pairs, has_map);
+    let draft = Draft::of_lists(bytes, pairs, has_map);
     match write(
         alloc,
         module,

@@ -7,7 +7,7 @@ ghost use Rattle.walrus_flat.specs.declared.sequences.Next.TheVariants.{Live as 
 ghost use Rattle.walrus_flat.specs.Writers.{env_at, numbers_in};
 ghost use Rattle.walrus_flat.specs.WrittenBody.{again, IsAccepted, WritesOperators, WritesNextAtOnce, WritesSome};
 
-use crate::byte_sink::ByteSink;
+use crate::byte_sink::{ByteSink, pass_to};
 use crate::cursor::Cursor;
 use crate::writer::Writer;
 use walrus_ir::InstrLocId;
@@ -125,7 +125,7 @@ pub(crate) fn write_operators<F: Fn(&usize) -> InstrLocId, S: ByteSink>(
         S.takes sink.old sink.new writer.old.draft writer.new.draft result }
 {
     while !reader.eof() {
-        if !writer.draft.pass_to(sink) {
+        if !pass_to(&mut writer.draft, sink) {
             return Err(EmitError::Memory);
         }
         let others = reader.bytes_remaining().saturating_sub(1);

@@ -25,11 +25,11 @@ ghost use Rattle.walrus_flat.specs.Writers.{IsOpener, IsTypeByte, IsShortOpener}
 use crate::body_indices::BodyIndices;
 use crate::checker::{is_diverging, plain_byte};
 use crate::control::Control;
-use crate::draft::Draft;
 use crate::local_numbers::LocalNumbers;
 use crate::renumbering::Renumbering;
 use crate::sequences::{Next, OpenSequences, Written};
 use walrus_context::value_type;
+use walrus_emit_state::Draft;
 use walrus_ir::{BinaryOp, InstrLocId, InstrSeqType, Module, TypeId, UnaryOp, ValType};
 use walrus_maps::IdsToIndices;
 use walrus_numbering::is_balanced;

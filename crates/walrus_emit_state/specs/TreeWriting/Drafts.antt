@@ -19,3 +19,7 @@ abbrev pub with_bytes : Drafted → List ℕ → ℕ → Drafted
 with_bytes d bytes location = record d {
   output = record { bytes = d.output.bytes ++ bytes; pairs = pairs_after d.has_map d.base d.output location };
 }
+
+-- with these bytes in the place of its own
+abbrev pub with_list : Drafted → List ℕ → Drafted
+with_list d bytes = record d { output = record { bytes = bytes; pairs = d.output.pairs } }
