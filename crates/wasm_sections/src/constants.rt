@@ -30,17 +30,17 @@ fn type_byte(value: Value) -> u8
 fn write_value(out: &mut Vec<u8>, value: Value) -> Result<(), AllocError>
     ensures { OnOk result (out.new.items ≡ out.old.items ++ short (constant_operation value)) }
 {
-    match value {
-        Value::I32(value) => encoded::write_op(&OutOp::I32Const { value }, out),
-        Value::I64(value) => encoded::write_op(&OutOp::I64Const { value }, out),
-        Value::F32(bits) => encoded::write_op(&OutOp::F32Const { bits }, out),
-        Value::F64(bits) => encoded::write_op(&OutOp::F64Const { bits }, out),
-        Value::V128(bits) => encoded::write_op(&OutOp::V128Const { bits }, out),
-    }
+    let op = match value {
+        Value::I32(value) => OutOp::I32Const { value },
+        Value::I64(value) => OutOp::I64Const { value },
+        Value::F32(bits) => OutOp::F32Const { bits },
+        Value::F64(bits) => OutOp::F64Const { bits },
+        Value::V128(bits) => OutOp::V128Const { bits },
+    };
+    encoded::write_op(&op, out)
 }
 
 /// Appends a constant expression with this value.
-#[tactic(auto, using(wasm_encode::proofs::Appending::appending))]
 pub fn write_constant(out: &mut Vec<u8>, value: Value) -> Result<(), ModuleError>
     ensures { OnOk result (out.new.items ≡ out.old.items ++ constant_of value) }
 {
