@@ -17,7 +17,7 @@ use walrus_ir::InstrLocId;
 /// The body `00 01 41 81 00 1a 0b` at the place 100, without a location function, is written as
 /// `00 41 01 1a 0b`. With its pairs, `locate(&pairs, 1)` is the location 102, that of the constant,
 /// `locate(&pairs, 3)` is 105, `locate(&pairs, 4)` is 106, and `locate(&pairs, 2)` is `None`
-/// (`tests_run/src/locating.rt`).
+/// (`tests_body/src/locating.rt`).
 pub fn locate(map: &[(InstrLocId, usize)], place: usize) -> Option<InstrLocId>
     requires { PlacesRise map.now }
     ensures { result ≡ location_in map.now place }

@@ -198,7 +198,7 @@ fn finish_with_map(
 ///
 /// # Example
 ///
-/// The location of the operator at `place` of the new body, as in `tests_run/src/locating.rt`:
+/// The location of the operator at `place` of the new body, as in `tests_body/src/locating.rt`:
 ///
 /// ```text
 /// let mut instrs = Vec::new(alloc);

@@ -1,6 +1,6 @@
 use Rattle.walrus_maps.specs.Environments.{environment_of}
-use Rattle.tests_run.proofs.ReadBackLemmas.{none_undone}
-use Rattle.tests_run.proofs.unchanged.twice_over.Goals as goal
+use Rattle.tests_body.proofs.ReadBackLemmas.{none_undone}
+use Rattle.tests_body.proofs.unchanged.twice_over.Goals as goal
 
 pub rewritten_twice-requires-clause-undone : goal.rewritten_twice-requires-clause-undone
 rewritten_twice-requires-clause-undone c =

@@ -37,7 +37,7 @@ use Rattle.walrus_rewrite.specs.declared.error.RewriteError.TheVariants.{Parse, 
 use Rattle.walrus_rewrite.specs.Errors.{IsOutOfMemory}
 use Rattle.walrus_rewrite.proofs.OneTree.{from_slot, only_tree, begins}
 use Rattle.walrus_rewrite.proofs.SameResults.{same_result, same_refusal, not_both}
-use Rattle.tests_run.specs.ReadBack.{reading_by, IsReadAs, IsWrittenAs, HasBytes, IsFirstFault, IsRefusedAs, HasFault}
+use Rattle.tests_body.specs.ReadBack.{reading_by, IsReadAs, IsWrittenAs, HasBytes, IsFirstFault, IsRefusedAs, HasFault}
 
 -- ---- refusals
 

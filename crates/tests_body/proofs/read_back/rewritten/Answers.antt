@@ -1,8 +1,8 @@
 use Rattle.std.proofs.Common.{refl}
 use Rattle.walrus_maps.specs.Environments.{environment_of}
 use Rattle.walrus_numbering.specs.NumberMaps.{numbers_by}
-use Rattle.tests_run.proofs.ReadBackLemmas.{read_begins, is_written, is_refused, only_bytes, no_fault, fault_not_written, fault_written, fault_read}
-use Rattle.tests_run.proofs.read_back.rewritten.Goals as goal
+use Rattle.tests_body.proofs.ReadBackLemmas.{read_begins, is_written, is_refused, only_bytes, no_fault, fault_not_written, fault_written, fault_read}
+use Rattle.tests_body.proofs.read_back.rewritten.Goals as goal
 
 pub written-requires : goal.written-requires
 written-requires c =

@@ -16,7 +16,7 @@ ghost use Rattle.walrus_body.specs.EmittedInstructions.{IsNotEmitted};
 ghost use Rattle.walrus_numbering.specs.NumberMaps.{numbers_by};
 ghost use Rattle.walrus_rewrite.specs.declared.error.RewriteError.{RewriteError as Refusal};
 ghost use Rattle.walrus_rewrite.specs.Errors.{IsOutOfMemory};
-ghost use Rattle.tests_run.specs.ReadBack.{reading_by, IsReadAs, IsWrittenAs, HasBytes, HasFault, IsFirstFault, IsRefusedAs};
+ghost use Rattle.tests_body.specs.ReadBack.{reading_by, IsReadAs, IsWrittenAs, HasBytes, HasFault, IsFirstFault, IsRefusedAs};
 
 use std::alloc::{AllocError, Global};
 use walrus_body::{

@@ -1,9 +1,9 @@
 use Rattle.std.proofs.Common.{sym, subst, inl}
 use Rattle.walrus_maps.specs.Environments.{environment_of}
 use Rattle.walrus_numbering.specs.NumberMaps.{numbers_by}
-use Rattle.tests_run.specs.ReadBack.{HasBytes}
-use Rattle.tests_run.proofs.ReadBackLemmas.{has_itself}
-use Rattle.tests_run.proofs.read_back.rewritten_twice.Goals as goal
+use Rattle.tests_body.specs.ReadBack.{HasBytes}
+use Rattle.tests_body.proofs.ReadBackLemmas.{has_itself}
+use Rattle.tests_body.proofs.read_back.rewritten_twice.Goals as goal
 
 pub returns-in-Ok-rewritten-clause-unchanged : goal.returns-in-Ok-rewritten-clause-unchanged
 returns-in-Ok-rewritten-clause-unchanged c =

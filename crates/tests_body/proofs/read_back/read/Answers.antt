@@ -1,7 +1,7 @@
 use Rattle.std.proofs.Common.{Some}
 use Rattle.walrus_maps.specs.Environments.{environment_of}
-use Rattle.tests_run.proofs.ReadBackLemmas.{first_fault}
-use Rattle.tests_run.proofs.read_back.read.Goals as goal
+use Rattle.tests_body.proofs.ReadBackLemmas.{first_fault}
+use Rattle.tests_body.proofs.read_back.read.Goals as goal
 
 pub returns-clause-refused : goal.returns-clause-refused
 returns-clause-refused c =
