@@ -6,18 +6,54 @@ ghost use Rattle.module_tools.specs.Words.{ChecksAlone, IsTaskOf, IsRequestOf, I
 use crate::ending::Failure;
 use crate::usage_error::UsageError;
 use std::alloc::Global;
+use std::io;
 
 /// A program: how it is called, and what it takes.
 #[derive(Clone, Copy)]
 pub struct Program {
     /// Its name, with which its messages begin.
     pub name: &'static str,
-    /// What `--help` prints.
-    pub help: &'static str,
+    /// How it is called and what it does: what `--help` prints before the options.
+    pub about: &'static str,
+    /// What its status says, and an example: what `--help` prints after the options.
+    pub ending: &'static str,
     /// Whether it takes `--check`, with which it writes no module.
     pub takes_check: bool,
     /// Whether it takes functions, after its files.
     pub takes_functions: bool,
+}
+
+/// The option of a program that can check.
+const CHECK_OPTION: &str = "
+      --check          write nothing, and print a line for each function that is
+                       refused; types are not validated";
+
+/// The options of all programs.
+const OPTIONS: &str = "
+      --map FILE       write a line for each operator to FILE: its old and its new
+                       offset from the start of the module, in hexadecimal
+      --source-map FILE
+                       read the source map of IN.wasm (version 3)
+      --output-source-map FILE
+                       write that of OUT.wasm, whose mappings follow the operators
+      --source-map-url URL
+                       write URL in OUT.wasm, as the place of its source map
+      --strip-debug    leave out debug information and source maps
+  -v, --verbose        print how many functions and bytes were read, and the time
+  -h, --help           print this
+  -V, --version        print the version
+      --               what follows is no option";
+
+impl Program {
+    /// Prints the page of help.
+    ///
+    /// # Errors
+    ///
+    /// Where it can't be printed.
+    pub(crate) fn print_help(&self, rt: &impl Print) -> io::Result<()> {
+        let check = if self.takes_check { CHECK_OPTION } else { "" };
+        println!(rt; "{}\n{check}{OPTIONS}\n\n{}", self.about, self.ending)
+    }
 }
 
 /// The files of source maps.

@@ -637,7 +637,7 @@ fn run_arguments<R: Files + Input + Clock + Print + Eprint + AllocGlobal + Drop,
     match read_arguments(rt.alloc(), program, words) {
         Ok(Request::Task(task)) => run_timed(rt, tool, program, &task, terminals),
         Ok(Request::Help) => {
-            println!(rt; "{}", program.help)?;
+            program.print_help(rt)?;
             Ok(ExitCode::SUCCESS)
         }
         Ok(Request::Version) => {

@@ -8,27 +8,12 @@ use wasm_module::{Changes, ModuleError, ParsedModule};
 /// How it is called, and what it takes.
 pub const PROGRAM: Program = Program {
     name: "wcount",
-    help: "usage: wcount [OPTION].. IN.wasm OUT.wasm
+    about: "usage: wcount [OPTION].. IN.wasm OUT.wasm
 
 Lets each function of a WebAssembly module count its calls, all in one global of type
 i64, which is exported as `calls`; and rewrites the functions as `wrewrite` does. A
-path of `-` is standard input or output. OUT.wasm may be IN.wasm.
-
-      --map FILE       write a line for each operator to FILE: its old and its new
-                       offset from the start of the module, in hexadecimal
-      --source-map FILE
-                       read the source map of IN.wasm (version 3)
-      --output-source-map FILE
-                       write that of OUT.wasm, whose mappings follow the operators
-      --source-map-url URL
-                       write URL in OUT.wasm, as the place of its source map
-      --strip-debug    leave out debug information and source maps
-  -v, --verbose        print how many functions and bytes were read, and the time
-  -h, --help           print this
-  -V, --version        print the version
-      --               what follows is no option
-
-Status: 0 written; 1 refused, or a file can't be read or written; 2 wrong use.
+path of `-` is standard input or output. OUT.wasm may be IN.wasm.",
+    ending: "Status: 0 written; 1 refused, or a file can't be read or written; 2 wrong use.
 
 example: wcount in.wasm counted.wasm",
     takes_check: false,

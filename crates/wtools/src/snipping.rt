@@ -8,28 +8,13 @@ use wasm_module::{Changes, ModuleError, ParsedModule};
 /// How it is called, and what it takes.
 pub const PROGRAM: Program = Program {
     name: "wsnip",
-    help: "usage: wsnip [OPTION].. IN.wasm OUT.wasm FUNCTION..
+    about: "usage: wsnip [OPTION].. IN.wasm OUT.wasm FUNCTION..
 
 Leaves nothing but `unreachable` of functions of a WebAssembly module, and rewrites
 all others as `wrewrite` does. FUNCTION is an index, which counts imported functions
 too, or a name: of the `name` section, or else of an export. A path of `-` is standard
-input or output. OUT.wasm may be IN.wasm.
-
-      --map FILE       write a line for each operator to FILE: its old and its new
-                       offset from the start of the module, in hexadecimal
-      --source-map FILE
-                       read the source map of IN.wasm (version 3)
-      --output-source-map FILE
-                       write that of OUT.wasm, whose mappings follow the operators
-      --source-map-url URL
-                       write URL in OUT.wasm, as the place of its source map
-      --strip-debug    leave out debug information and source maps
-  -v, --verbose        print how many functions and bytes were read, and the time
-  -h, --help           print this
-  -V, --version        print the version
-      --               what follows is no option
-
-Status: 0 written; 1 refused, or a file can't be read or written; 2 wrong use.
+input or output. OUT.wasm may be IN.wasm.",
+    ending: "Status: 0 written; 1 refused, or a file can't be read or written; 2 wrong use.
 
 example: wsnip in.wasm out.wasm 12 unused_function",
     takes_check: false,

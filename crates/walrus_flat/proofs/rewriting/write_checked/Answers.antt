@@ -13,8 +13,8 @@ pub returns-in-Ok-write-clause-ok : goal.returns-in-Ok-write-clause-ok
 returns-in-Ok-write-clause-ok g c =
     let a = c.args in
     let declared = c.begin_body.new.bytes.items in
-    let begun : c.new-draft.result ≡ begun_draft declared a.has_map =
-    c.new-draft.ensures ∙ ap (λ (ps : List Pair). record { base = 0; has_map = a.has_map; output = record { bytes = declared; pairs = ps } }) (c.make_room_for.ensures.pairs ∙ c.requires.no_pairs) in
+    let begun : c.of_lists-draft.result ≡ begun_draft declared a.has_map =
+    c.of_lists-draft.ensures ∙ ap (λ (ps : List Pair). record { base = 0; has_map = a.has_map; output = record { bytes = declared; pairs = ps } }) (c.make_room_for.ensures.pairs ∙ c.requires.no_pairs) in
     of_whole g.S.ByteSink.takes a.sink.now c.write.new.sink c.in-Ok-write.written
     (λ d writes. record {
       entries = entries_of c.in-Ok.numbers;

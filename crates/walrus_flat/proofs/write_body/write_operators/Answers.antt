@@ -28,15 +28,15 @@ loop-writer-preserved g c =
     let from = c.loop-writer.sink in
     let sink = c.pass_to.new.sink in
     let w = c.loop-writer.writer in
-    let here = record w { draft = c.pass_to.new.self } in
-    let hand = subst (λ b. OnTrue b (IsLeft takes from sink w.draft c.pass_to.new.self)) c.if-not-pass_to.false c.pass_to.ensures in
-    let took = passed g.F.Fn i a.writer.now takes a.sink.now w from sink now.place now.rest c.pass_to.new.self g.met.S.ByteSink.one_by_one hand c.loop-writer.invariant in
+    let here = record w { draft = c.pass_to.new.draft } in
+    let hand = subst (λ b. OnTrue b (IsLeft takes from sink w.draft c.pass_to.new.draft)) c.if-not-pass_to.false c.pass_to.ensures in
+    let took = passed g.F.Fn i a.writer.now takes a.sink.now w from sink now.place now.rest c.pass_to.new.draft g.met.S.ByteSink.one_by_one hand c.loop-writer.invariant in
     let n = c.in-Ok.ensures in
     goes_over g.F.Fn i a.writer.now takes a.sink.now refl sink now here took (suc n.0) c.write_some.new.reader c.write_some.new.writer n.1
 
 pub loop-writer-smaller : goal.loop-writer-smaller
 loop-writer-smaller g c =
-    let here = record c.loop-writer.writer { draft = c.pass_to.new.self } in
+    let here = record c.loop-writer.writer { draft = c.pass_to.new.draft } in
     let n = c.in-Ok.ensures in
     some_moves g.F.Fn c.args.on_instr_pos n.0 c.loop-writer.reader c.write_some.new.reader here c.write_some.new.writer n.1
 
@@ -49,9 +49,9 @@ returns-in-Err g c =
     let from = c.loop-writer.sink in
     let sink = c.pass_to.new.sink in
     let w = c.loop-writer.writer in
-    let here = record w { draft = c.pass_to.new.self } in
-    let hand = subst (λ b. OnTrue b (IsLeft takes from sink w.draft c.pass_to.new.self)) c.if-not-pass_to.false c.pass_to.ensures in
-    let took = passed g.F.Fn i a.writer.now takes a.sink.now w from sink now.place now.rest c.pass_to.new.self g.met.S.ByteSink.one_by_one hand c.loop-writer.invariant in
+    let here = record w { draft = c.pass_to.new.draft } in
+    let hand = subst (λ b. OnTrue b (IsLeft takes from sink w.draft c.pass_to.new.draft)) c.if-not-pass_to.false c.pass_to.ensures in
+    let took = passed g.F.Fn i a.writer.now takes a.sink.now w from sink now.place now.rest c.pass_to.new.draft g.met.S.ByteSink.one_by_one hand c.loop-writer.invariant in
     let n = c.in-Err.ensures in
     stops g.F.Fn i a.writer.now takes a.sink.now refl sink now here took n.0 n.1 n.2 c.in-Err.fault n.3 n.4
 
