@@ -2,11 +2,12 @@
 ghost use Rattle.std.specs.Prelude.{◌≡◌, [], ◌∷◌, None, IfOk, IfErr, OnOk};
 ghost use Rattle.std.specs.FinMap as map;
 ghost use Rattle.wasm_body.specs.declared.error.IndexError.TheVariants.{Memory};
+ghost use Rattle.wasm_operators.specs.declared.types.Space.{Space};
 ghost use Rattle.wasm_operators.specs.declared.types.Space.TheVariants.{Tables, Types, Funcs, Globals, Memories, Elements, Data, Tags};
-ghost use Rattle.walrus_maps.specs.IndexMaps.{ids_in, with_ids_in, with_locals, numbers_in, with_numbers};
+ghost use Rattle.walrus_maps.specs.IndexMaps.{no_ids, ids_in, with_ids_in, with_locals, numbers_in, with_numbers};
 ghost use Rattle.walrus_maps.specs.Numbering.{pushed};
 ghost use Rattle.walrus_numbering.specs.NumberMaps.{numbers_by};
-ghost use Rattle.walrus_run.specs.Demo.{demo_module, demo_types, demo_items, demo_indices, demo_numbers};
+ghost use Rattle.walrus_run.specs.Demo.{demo_module, demo_types, demo_tags, demo_locals, demo_items, demo_indices, demo_numbers};
 
 use std::alloc::{AllocError, Global};
 use walrus_body::{IdsToIndices, IndexError, IndicesToIds};
@@ -14,6 +15,54 @@ use walrus_ir::{
     DataId, ElementId, FunctionId, GlobalId, LocalId, MemoryId, Module, ModuleLocals, ModuleTags,
     ModuleTypes, TableId, TagId, TypeId, ValType,
 };
+
+/// Adds the types of the demo module to none: four function types and an entry type.
+fn add_types(types: &mut ModuleTypes) -> Result<(), AllocError>
+    requires { types.old ≡ [] }
+    ensures { OnOk result (types.new ≡ demo_types) }
+{
+    types.add_func(&[], &[])?;
+    types.add_func(&[ValType::I32], &[])?;
+    types.add_func(&[ValType::I32, ValType::I32], &[ValType::I32])?;
+    types.add_func(&[ValType::I32], &[])?;
+    types.add_entry(&[])?;
+    Ok(())
+}
+
+/// Adds its two tags to none.
+fn add_tags(tags: &mut ModuleTags) -> Result<(), AllocError>
+    requires { tags.old ≡ [] }
+    ensures { OnOk result (tags.new ≡ demo_tags) }
+{
+    tags.add(TypeId::new(0))?;
+    tags.add(TypeId::new(1))?;
+    Ok(())
+}
+
+/// Adds the four locals of its function 0 to none.
+fn add_locals(locals: &mut ModuleLocals) -> Result<(), AllocError>
+    requires { locals.old ≡ [] }
+    ensures { OnOk result (locals.new ≡ demo_locals) }
+{
+    locals.add(ValType::I32)?;
+    locals.add(ValType::I64)?;
+    locals.add(ValType::I64)?;
+    locals.add(ValType::I64)?;
+    Ok(())
+}
+
+/// Adds these to a module that has none of them.
+fn add_items(demo: &mut Module) -> Result<(), AllocError>
+    requires types { demo.old.types ≡ [] }
+    requires tags { demo.old.tags ≡ [] }
+    requires locals { demo.old.locals ≡ [] }
+    requires place { demo.old.code_section_offset ≡ 0 }
+    ensures { OnOk result (demo.new ≡ demo_module) }
+{
+    add_types(&mut demo.types)?;
+    add_tags(&mut demo.tags)?;
+    add_locals(&mut demo.locals)
+}
 
 /// The demo module: four function types and an entry type, two tags, and the four locals of its
 /// function 0. Its code begins at place 0.
@@ -24,26 +73,16 @@ use walrus_ir::{
 pub fn module(alloc: Global) -> Result<Module, AllocError>
     ensures { IfOk result (λ m. m ≡ demo_module) }
 {
-    let mut types = ModuleTypes::new(alloc);
-    types.add_func(&[], &[])?;
-    types.add_func(&[ValType::I32], &[])?;
-    types.add_func(&[ValType::I32, ValType::I32], &[ValType::I32])?;
-    types.add_func(&[ValType::I32], &[])?;
-    types.add_entry(&[])?;
-    let mut tags = ModuleTags::new(alloc);
-    tags.add(TypeId::new(0))?;
-    tags.add(TypeId::new(1))?;
-    let mut locals = ModuleLocals::new(alloc);
-    locals.add(ValType::I32)?;
-    locals.add(ValType::I64)?;
-    locals.add(ValType::I64)?;
-    locals.add(ValType::I64)?;
-    Ok(Module {
-        types,
-        tags,
-        locals,
+    let mut demo = Module {
+        types: ModuleTypes::new(alloc),
+        tags: ModuleTags::new(alloc),
+        locals: ModuleLocals::new(alloc),
         code_section_offset: 0,
-    })
+    };
+    match add_items(&mut demo) {
+        Ok(()) => Ok(demo),
+        Err(error) => Err(error),
+    }
 }
 
 /// Gives old indices to the types of an index map without any.
@@ -109,6 +148,17 @@ fn push_locals(indices: &mut IndicesToIds) -> Result<(), IndexError>
     Ok(())
 }
 
+/// Gives old indices to the module's items in an index map without any.
+fn push_items(indices: &mut IndicesToIds) -> Result<(), IndexError>
+    requires { indices.old ≡ no_ids }
+    ensures ok { OnOk result (indices.new ≡ demo_items) }
+    ensures err { IfErr result (λ e. e ≡ Memory) }
+{
+    push_types(indices)?;
+    push_funcs_and_tags(indices)?;
+    push_storage(indices)
+}
+
 /// The ids of the old indices of the module's items: each id is its own old index. Locals have
 /// none.
 ///
@@ -120,10 +170,10 @@ pub fn indices_of_items(alloc: Global) -> Result<IndicesToIds, IndexError>
     ensures err { IfErr result (λ e. e ≡ Memory) }
 {
     let mut indices = IndicesToIds::new(alloc);
-    push_types(&mut indices)?;
-    push_funcs_and_tags(&mut indices)?;
-    push_storage(&mut indices)?;
-    Ok(indices)
+    match push_items(&mut indices) {
+        Ok(()) => Ok(indices),
+        Err(error) => Err(error),
+    }
 }
 
 /// The same, and the old indices of the module's locals, which are those of its function 0.
@@ -192,6 +242,18 @@ fn number_storage(numbers: &mut IdsToIndices) -> Result<(), IndexError>
     Ok(())
 }
 
+/// Gives new indices to the module's items in a map without any.
+fn number_items(numbers: &mut IdsToIndices) -> Result<(), IndexError>
+    requires { (space : Space) → numbers_in numbers.old space ≡ map.empty }
+    ensures ok { OnOk result (numbers_by demo_types numbers.new [] ≡ demo_numbers) }
+    ensures err { IfErr result (λ e. e ≡ Memory) }
+{
+    number_types(numbers)?;
+    number_funcs_and_tags(numbers)?;
+    number_storage(numbers)?;
+    Ok(())
+}
+
 /// The new indices of the module's items, which are the old ones.
 ///
 /// # Errors
@@ -202,8 +264,8 @@ pub fn numbers(alloc: Global) -> Result<IdsToIndices, IndexError>
     ensures err { IfErr result (λ e. e ≡ Memory) }
 {
     let mut numbers = IdsToIndices::new(alloc);
-    number_types(&mut numbers)?;
-    number_funcs_and_tags(&mut numbers)?;
-    number_storage(&mut numbers)?;
-    Ok(numbers)
+    match number_items(&mut numbers) {
+        Ok(()) => Ok(numbers),
+        Err(error) => Err(error),
+    }
 }
