@@ -20,7 +20,6 @@ use wasm_sections::{Body, LocalsBelow, ModuleError, ModuleFault};
 /// Memory that is lent to one body after the other, and the result of the last.
 #[derive(Drop)]
 pub struct Scratch {
-    instrs: Vec<(Instr, InstrLocId)>,
     pub(crate) flat: FlatScratch,
     /// The raw body that was written last.
     pub raw: Vec<u8>,
@@ -34,7 +33,6 @@ impl Scratch {
     /// An empty one. It allocates nothing.
     pub fn new(alloc: Global) -> Scratch {
         Scratch {
-            instrs: Vec::new(alloc),
             flat: FlatScratch::new(alloc),
             raw: Vec::new(alloc),
             pairs: Vec::new(alloc),
@@ -266,6 +264,7 @@ impl<'a> ParsedModule<'a> {
         &mut self,
         body: Body<'a>,
         needs_pairs: bool,
+        instrs: &mut Vec<(Instr, InstrLocId)>,
         scratch: &mut Scratch,
     ) -> Result<LocalFunction, ModuleError>
         ensures extends { Extends self.old self.new }
@@ -274,12 +273,7 @@ impl<'a> ParsedModule<'a> {
         ensures refused { IfErr result
             (IsNotRewritten self.old body.entry.func (body_at body.entry) self.new) }
     {
-        let Scratch {
-            instrs,
-            raw,
-            pairs,
-            ..
-        } = scratch;
+        let Scratch { raw, pairs, .. } = scratch;
         raw.clear();
         pairs.clear();
         let BodyContext {
@@ -315,6 +309,7 @@ impl<'a> ParsedModule<'a> {
         &mut self,
         body: Body<'a>,
         needs_pairs: bool,
+        instrs: &mut Vec<(Instr, InstrLocId)>,
         scratch: &mut Scratch,
     ) -> Result<LocalFunction, ModuleError>
         ensures extends { Extends self.old self.new }
@@ -323,21 +318,22 @@ impl<'a> ParsedModule<'a> {
         ensures refused { IfErr result
             (IsNotRewritten self.old body.entry.func (body_at body.entry) self.new) }
     {
-        match self.rewrite_once(body, needs_pairs, scratch) {
+        match self.rewrite_once(body, needs_pairs, instrs, scratch) {
             Ok(function) => Ok(function),
             Err(error) => {
                 if !needs_type(&error) {
                     return Err(error);
                 }
                 self.add_missing_types(body)?;
-                self.rewrite_once(body, needs_pairs, scratch)
+                self.rewrite_once(body, needs_pairs, instrs, scratch)
             }
         }
     }
 
     /// Rewrites a body: its declarations of locals and its operators, as
     /// `walrus_rewrite::rewrite_body` does. Types that only one of its handlers needs, and that the
-    /// module lacks, are added after the others; they are not written.
+    /// module lacks, are added after the others; they are not written. The list of instructions is
+    /// memory that is lent: it is empty before and after.
     ///
     /// # Errors
     ///
@@ -347,6 +343,7 @@ impl<'a> ParsedModule<'a> {
     pub fn rewrite(
         &mut self,
         body: Body<'a>,
+        instrs: &mut Vec<(Instr, InstrLocId)>,
         scratch: &mut Scratch,
     ) -> Result<LocalFunction, ModuleError>
         ensures extends { Extends self.old self.new }
@@ -355,7 +352,7 @@ impl<'a> ParsedModule<'a> {
         ensures refused { IfErr result
             (IsNotRewritten self.old body.entry.func (body_at body.entry) self.new) }
     {
-        self.rewrite_with_types(body, false, scratch)
+        self.rewrite_with_types(body, false, instrs, scratch)
     }
 
     /// The same as `rewrite`, with its location pairs.
@@ -366,6 +363,7 @@ impl<'a> ParsedModule<'a> {
     pub fn rewrite_with_pairs(
         &mut self,
         body: Body<'a>,
+        instrs: &mut Vec<(Instr, InstrLocId)>,
         scratch: &mut Scratch,
     ) -> Result<LocalFunction, ModuleError>
         ensures extends { Extends self.old self.new }
@@ -374,13 +372,13 @@ impl<'a> ParsedModule<'a> {
         ensures refused { IfErr result
             (IsNotRewritten self.old body.entry.func (body_at body.entry) self.new) }
     {
-        self.rewrite_with_types(body, true, scratch)
+        self.rewrite_with_types(body, true, instrs, scratch)
     }
 
     fn parse_once(
         &mut self,
         body: Body<'a>,
-        scratch: &mut Scratch,
+        instrs: &mut Vec<(Instr, InstrLocId)>,
     ) -> Result<LocalFunction, ModuleError>
         ensures extends { Extends self.old self.new }
         ensures parsed { IfOk result
@@ -405,7 +403,7 @@ impl<'a> ParsedModule<'a> {
             // A location is the operator's place in the file.
             None::<&fn(&usize) -> InstrLocId>,
             LocalsBelow(locals),
-            &mut scratch.instrs,
+            instrs,
         );
         match parsed {
             Ok(function) => Ok(function),
@@ -423,7 +421,7 @@ impl<'a> ParsedModule<'a> {
     pub fn parse(
         &mut self,
         body: Body<'a>,
-        scratch: &mut Scratch,
+        instrs: &mut Vec<(Instr, InstrLocId)>,
     ) -> Result<LocalFunction, ModuleError>
         ensures extends { Extends self.old self.new }
         ensures parsed { IfOk result
@@ -431,14 +429,14 @@ impl<'a> ParsedModule<'a> {
         ensures refused { IfErr result
             (IsRefused self.old body.entry.func (body_at body.entry) self.new) }
     {
-        match self.parse_once(body, scratch) {
+        match self.parse_once(body, instrs) {
             Ok(function) => Ok(function),
             Err(error) => {
                 if !needs_type(&error) {
                     return Err(error);
                 }
                 self.add_missing_types(body)?;
-                self.parse_once(body, scratch)
+                self.parse_once(body, instrs)
             }
         }
     }

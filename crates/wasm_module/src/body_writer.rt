@@ -128,10 +128,13 @@ impl BodyWriter for Rewriting {
                 Ok(()) => Ok(None),
                 Err(error) => Err(error),
             },
-            Needed::Function => match parsed.rewrite_with_pairs(body, scratch) {
-                Ok(function) => Ok(Some(function)),
-                Err(error) => Err(error),
-            },
+            Needed::Function => {
+                let mut instrs = Vec::new(parsed.alloc);
+                match parsed.rewrite_with_pairs(body, &mut instrs, scratch) {
+                    Ok(function) => Ok(Some(function)),
+                    Err(error) => Err(error),
+                }
+            }
         }
     }
 

@@ -18,6 +18,7 @@ use crate::custom::Followers;
 use crate::parsed::ParsedModule;
 use crate::rewriting::RewrittenModule;
 use walrus_body::LocalFunction;
+use walrus_ir::{Instr, InstrLocId};
 use wasm_sections::{Body, Changes, ModuleError, ModuleFault, number_len};
 
 impl<'a> ParsedModule<'a> {
@@ -27,6 +28,7 @@ impl<'a> ParsedModule<'a> {
         &mut self,
         change: &mut C,
         body: Body<'a>,
+        instrs: &mut Vec<(Instr, InstrLocId)>,
         scratch: &mut Scratch,
     ) -> Result<LocalFunction, ModuleError>
         ensures extends { OnOk result (Extends self.old self.new) }
@@ -34,7 +36,7 @@ impl<'a> ParsedModule<'a> {
             (IsChanged (C.changes (C.state change.old) (C.state change.new))
             source body.entry.func (body_at body.entry) scratch.new.raw.items) }
     {
-        let mut function = self.parse(body, scratch)?;
+        let mut function = self.parse(body, instrs)?;
         change.change(body.func, &mut function, &mut self.module.locals)?;
         self.write(&function, body.start(), scratch)?;
         Ok(function)
@@ -47,6 +49,7 @@ impl<'a> ParsedModule<'a> {
         change: &mut C,
         body: Body<'a>,
         followers: &mut Followers<'a>,
+        instrs: &mut Vec<(Instr, InstrLocId)>,
         scratch: &mut Scratch,
         kept: &mut KeptBodies<'a>,
     ) -> Result<usize, ModuleError>
@@ -56,7 +59,7 @@ impl<'a> ParsedModule<'a> {
             source body.entry kept.old kept.new) }
     {
         let _needed = followers.reach(body.func)?;
-        let function = self.change_function(change, body, scratch)?;
+        let function = self.change_function(change, body, instrs, scratch)?;
         followers.pass(self, body, &function, scratch)?;
         kept.keep(self.alloc, body, scratch)?;
         let len = scratch.raw.len();
@@ -76,10 +79,12 @@ impl<'a> ParsedModule<'a> {
     {
         let count = self.body_count();
         let mut kept = KeptBodies::new(self.alloc, self.imported(), count)?;
+        let mut instrs = Vec::new(self.alloc);
         let mut scratch = Scratch::new(self.alloc);
         let mut len = number_len(count);
         'bodies: for body in self.bodies() {
-            let more = self.change_body(change, body, followers, &mut scratch, &mut kept)?;
+            let (instrs, scratch) = (&mut instrs, &mut scratch);
+            let more = self.change_body(change, body, followers, instrs, scratch, &mut kept)?;
             len = len.saturating_add(more);
         }
         if kept.len() != count {

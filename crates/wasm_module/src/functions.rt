@@ -2,9 +2,9 @@
 
 ghost use Rattle.wasm_module.specs.RewrittenCode.{Extends};
 
-use crate::bodies::Scratch;
 use crate::parsed::ParsedModule;
 use walrus_body::LocalFunction;
+use walrus_ir::{Instr, InstrLocId};
 use wasm_sections::{Body, ModuleError};
 
 impl<'a> ParsedModule<'a> {
@@ -13,13 +13,13 @@ impl<'a> ParsedModule<'a> {
         &mut self,
         body: Body<'a>,
         visit: &mut F,
-        scratch: &mut Scratch,
+        instrs: &mut Vec<(Instr, InstrLocId)>,
     ) -> Result<(), ModuleError>
         requires { F.IsAlwaysCallable visit.old }
         ensures extends { Extends self.old self.new }
         ensures callable { F.IsAlwaysCallable visit.new }
     {
-        match self.parse(body, scratch) {
+        match self.parse(body, instrs) {
             Ok(function) => visit(body.func, &function),
             Err(error) => Err(error),
         }
@@ -50,9 +50,9 @@ impl<'a> ParsedModule<'a> {
         requires { F.IsAlwaysCallable visit }
         ensures { Extends self.old self.new }
     {
-        let mut scratch = Scratch::new(self.alloc);
+        let mut instrs = Vec::new(self.alloc);
         'bodies: for body in self.bodies() {
-            self.visit_function(body, &mut visit, &mut scratch)?;
+            self.visit_function(body, &mut visit, &mut instrs)?;
         }
         Ok(())
     }

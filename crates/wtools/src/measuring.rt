@@ -8,6 +8,7 @@ use std::alloc::{AllocError, Global};
 use std::io;
 use std::process::ExitCode;
 use std::rt::{Env, Files};
+use walrus_ir::{Instr, InstrLocId};
 use wasm_module::{Body, ModuleError, ParsedModule, Scratch};
 
 /// Its name, with which its messages begin.
@@ -55,6 +56,7 @@ impl Pass {
         self,
         parsed: &mut ParsedModule<'a>,
         body: Body<'a>,
+        instrs: &mut Vec<(Instr, InstrLocId)>,
         scratch: &mut Scratch,
     ) -> Result<usize, ModuleError> {
         match self {
@@ -62,13 +64,13 @@ impl Pass {
                 parsed.check(body, scratch)?;
                 Ok(1)
             }
-            Pass::Parse => count_operators(parsed, body, scratch),
+            Pass::Parse => count_operators(parsed, body, instrs),
             Pass::Rewrite => {
-                done(parsed.rewrite(body, scratch))?;
+                done(parsed.rewrite(body, instrs, scratch))?;
                 Ok(scratch.raw.len())
             }
             Pass::Map => {
-                done(parsed.rewrite_with_pairs(body, scratch))?;
+                done(parsed.rewrite_with_pairs(body, instrs, scratch))?;
                 Ok(scratch.raw.len().saturating_add(scratch.pairs.len()))
             }
             Pass::Flat => {
@@ -80,7 +82,7 @@ impl Pass {
                 Ok(scratch.raw.len().saturating_add(scratch.pairs.len()))
             }
             Pass::Compare => {
-                done(parsed.rewrite_with_pairs(body, scratch))?;
+                done(parsed.rewrite_with_pairs(body, instrs, scratch))?;
                 compare_flat(parsed, body, scratch)
             }
         }
@@ -99,9 +101,9 @@ fn done<T: Drop>(made: Result<T, ModuleError>) -> Result<(), ModuleError> {
 fn count_operators<'a>(
     parsed: &mut ParsedModule<'a>,
     body: Body<'a>,
-    scratch: &mut Scratch,
+    instrs: &mut Vec<(Instr, InstrLocId)>,
 ) -> Result<usize, ModuleError> {
-    match parsed.parse(body, scratch) {
+    match parsed.parse(body, instrs) {
         Ok(function) => Ok(function.instruction_mapping.len()),
         Err(error) => Err(error),
     }
@@ -148,11 +150,12 @@ impl<'w> Task<'w> {
 fn pass_once<'a>(
     pass: Pass,
     parsed: &mut ParsedModule<'a>,
+    instrs: &mut Vec<(Instr, InstrLocId)>,
     scratch: &mut Scratch,
 ) -> Result<usize, ModuleError> {
     let mut sum = 0usize;
     for body in parsed.bodies() {
-        match pass.run(parsed, body, scratch) {
+        match pass.run(parsed, body, instrs, scratch) {
             Ok(number) => sum = sum.wrapping_add(number),
             Err(error) => return Err(error),
         }
@@ -164,11 +167,12 @@ fn pass_once<'a>(
 fn pass_all(
     task: Task<'_>,
     parsed: &mut ParsedModule<'_>,
+    instrs: &mut Vec<(Instr, InstrLocId)>,
     scratch: &mut Scratch,
 ) -> Result<usize, ModuleError> {
     let mut sum = 0usize;
     for _ in 0..task.passes {
-        match pass_once(task.pass, parsed, scratch) {
+        match pass_once(task.pass, parsed, instrs, scratch) {
             Ok(number) => sum = sum.wrapping_add(number),
             Err(error) => return Err(error),
         }
@@ -200,8 +204,9 @@ fn sum_passes(
     task: Task<'_>,
     parsed: &mut ParsedModule<'_>,
 ) -> Result<usize, ModuleError> {
+    let mut instrs = Vec::new(alloc);
     let mut scratch = Scratch::new(alloc);
-    pass_all(task, parsed, &mut scratch)
+    pass_all(task, parsed, &mut instrs, &mut scratch)
 }
 
 /// Measures a module that was read.
