@@ -261,5 +261,6 @@ fn run_with_locals(selection: Selection<'_>, module: &mut Module) -> io::Result<
 
 /// Runs the scenarios over the demo module that are selected.
 pub(crate) fn run(selection: Selection<'_>) -> io::Result<()> {
-    run_with_locals(selection, &mut demo::module(selection.alloc())?)
+    let mut module = demo::module(selection.alloc())?;
+    run_with_locals(selection, &mut module)
 }

@@ -83,7 +83,7 @@ fn located_with(
     requires { «module».now.code_section_offset ≡ 90 }
 {
     let args = vec![in alloc; LocalId::new(0)]?;
-    let out = Box::new(alloc, demo::numbers(alloc)?)?;
+    let out = demo::numbers(alloc)?;
     located_by(module, indices, &out, args, bytes, place)
 }
 
@@ -96,7 +96,7 @@ fn located_in(
 ) -> Result<Option<u32>, Fail>
     requires { «module».now.code_section_offset ≡ 90 }
 {
-    let indices = Box::new(alloc, demo::indices(alloc)?)?;
+    let indices = demo::indices(alloc)?;
     located_with(alloc, module, &indices, bytes, place)
 }
 

@@ -65,24 +65,26 @@ fn add_items(demo: &mut Module) -> Result<(), AllocError>
 }
 
 /// The demo module: four function types and an entry type, two tags, and the four locals of its
-/// function 0. Its code begins at place 0.
+/// function 0. Its code begins at place 0. (The module and its maps are in boxes, each of which is
+/// dropped in one step: a function that owns one of them itself takes long to prove.)
 ///
 /// # Errors
 ///
 /// `AllocError` if memory runs out.
-pub fn module(alloc: Global) -> Result<Module, AllocError>
-    ensures { IfOk result (λ m. m ≡ demo_module) }
+pub fn module(alloc: Global) -> Result<Box<Module>, AllocError>
+    ensures { IfOk result (λ m. m.value ≡ demo_module) }
 {
-    let mut demo = Module {
-        types: ModuleTypes::new(alloc),
-        tags: ModuleTags::new(alloc),
-        locals: ModuleLocals::new(alloc),
-        code_section_offset: 0,
-    };
-    match add_items(&mut demo) {
-        Ok(()) => Ok(demo),
-        Err(error) => Err(error),
-    }
+    let mut demo = Box::new(
+        alloc,
+        Module {
+            types: ModuleTypes::new(alloc),
+            tags: ModuleTags::new(alloc),
+            locals: ModuleLocals::new(alloc),
+            code_section_offset: 0,
+        },
+    )?;
+    add_items(&mut demo)?;
+    Ok(demo)
 }
 
 /// Gives old indices to the types of an index map without any.
@@ -165,15 +167,13 @@ fn push_items(indices: &mut IndicesToIds) -> Result<(), IndexError>
 /// # Errors
 ///
 /// `Memory` if memory runs out.
-pub fn indices_of_items(alloc: Global) -> Result<IndicesToIds, IndexError>
-    ensures ok { IfOk result (λ m. m ≡ demo_items) }
+pub fn indices_of_items(alloc: Global) -> Result<Box<IndicesToIds>, IndexError>
+    ensures ok { IfOk result (λ m. m.value ≡ demo_items) }
     ensures err { IfErr result (λ e. e ≡ Memory) }
 {
-    let mut indices = IndicesToIds::new(alloc);
-    match push_items(&mut indices) {
-        Ok(()) => Ok(indices),
-        Err(error) => Err(error),
-    }
+    let mut indices = Box::new(alloc, IndicesToIds::new(alloc))?;
+    push_items(&mut indices)?;
+    Ok(indices)
 }
 
 /// The same, and the old indices of the module's locals, which are those of its function 0.
@@ -182,8 +182,8 @@ pub fn indices_of_items(alloc: Global) -> Result<IndicesToIds, IndexError>
 ///
 /// `Memory` if memory runs out.
 #[tactic(auto, using(crate::proofs::DemoMaps::local_maps))]
-pub fn indices(alloc: Global) -> Result<IndicesToIds, IndexError>
-    ensures ok { IfOk result (λ m. m ≡ demo_indices) }
+pub fn indices(alloc: Global) -> Result<Box<IndicesToIds>, IndexError>
+    ensures ok { IfOk result (λ m. m.value ≡ demo_indices) }
     ensures err { IfErr result (λ e. e ≡ Memory) }
 {
     let mut indices = indices_of_items(alloc)?;
@@ -259,13 +259,11 @@ fn number_items(numbers: &mut IdsToIndices) -> Result<(), IndexError>
 /// # Errors
 ///
 /// `Memory` if memory runs out.
-pub fn numbers(alloc: Global) -> Result<IdsToIndices, IndexError>
-    ensures ok { IfOk result (λ m. numbers_by demo_types m [] ≡ demo_numbers) }
+pub fn numbers(alloc: Global) -> Result<Box<IdsToIndices>, IndexError>
+    ensures ok { IfOk result (λ m. numbers_by demo_types m.value [] ≡ demo_numbers) }
     ensures err { IfErr result (λ e. e ≡ Memory) }
 {
-    let mut numbers = IdsToIndices::new(alloc);
-    match number_items(&mut numbers) {
-        Ok(()) => Ok(numbers),
-        Err(error) => Err(error),
-    }
+    let mut numbers = Box::new(alloc, IdsToIndices::new(alloc))?;
+    number_items(&mut numbers)?;
+    Ok(numbers)
 }

@@ -1,5 +1,5 @@
 //! The demo module: the index maps that `wbody` uses with it, and the bodies that are read in it.
-ghost use Rattle.std.specs.Prelude.{◌≡◌, ◌≤◌, ◌<◌, ◌+◌, ◌^◌, length, IfOk};
+ghost use Rattle.std.specs.Prelude.{◌≡◌, ◌≤◌, ◌<◌, ◌+◌, ◌^◌, length};
 
 use crate::fault::Fault;
 use std::alloc::{AllocError, Global};
@@ -39,16 +39,9 @@ pub(crate) struct Demo {
     ghost begins_at_zero: { «module».value.code_section_offset ≡ 0 },
 }
 
-/// Puts a value in a box.
-fn in_box<T: Drop>(alloc: Global, value: T) -> Result<Box<T>, AllocError>
-    ensures { IfOk result (λ boxed. boxed.value ≡ value) }
-{
-    Ok(Box::new(alloc, value)?)
-}
-
 /// The ids of the old indices, with these as function 0's locals, in order.
 pub(crate) fn indices(alloc: Global, locals: &[LocalId]) -> Result<Box<IndicesToIds>, Fault> {
-    let mut indices = in_box(alloc, demo::indices_of_items(alloc)?)?;
+    let mut indices = demo::indices_of_items(alloc)?;
     for local in locals {
         indices.push_local(function(), *local)?;
     }
@@ -83,14 +76,12 @@ impl<'a> Body<'a> {
 
 /// The ids of the module's old indices, and its new indices.
 fn maps(alloc: Global) -> Result<(Box<IndicesToIds>, Box<IdsToIndices>), Fault> {
-    let indices = in_box(alloc, demo::indices(alloc)?)?;
-    let numbers = in_box(alloc, demo::numbers(alloc)?)?;
-    Ok((indices, numbers))
+    Ok((demo::indices(alloc)?, demo::numbers(alloc)?))
 }
 
 impl Demo {
     pub(crate) fn new(alloc: Global) -> Result<Demo, AllocError> {
-        let module = Box::new(alloc, demo::module(alloc)?)?;
+        let module = demo::module(alloc)?;
         match maps(alloc) {
             Ok((indices, numbers)) => Ok(Demo {
                 module,
