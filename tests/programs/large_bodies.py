@@ -1,5 +1,5 @@
 """Bodies of more than 64 KB, which are written in pieces: the bytes are the same, and a file stays as it was if a write fails."""
-from modules import BAD_LABEL, NOP, TRAP, module
+from modules import BAD_LABEL, NOP, TRAP, module, number
 from runs import case, few_bytes, holds, same
 
 # i32.const 1 in one byte more than it needs, and drop; and as they are written
@@ -12,6 +12,17 @@ def large_body(size):
     return LONG * count + NOP * rest, SHORT * count
 
 
+def map_lines(given, expected, body, written):
+    """The lines of the location map: each constant and each `drop` of both large bodies, and the `end` of each function."""
+    for old, new in ((given.index(body), expected.index(written)), (given.rindex(body), expected.rindex(written))):
+        # the end of the function before it comes before its size and its declarations
+        yield "%x %x" % (old - 2 - len(number(len(body) + 2)), new - 2 - len(number(len(written) + 2)))
+        for i in range(len(written) // len(SHORT)):
+            yield "%x %x" % (old + i * len(LONG), new + i * len(SHORT))
+            yield "%x %x" % (old + i * len(LONG) + 3, new + i * len(SHORT) + 2)
+        yield "%x %x" % (old + len(body), new + len(written))
+
+
 @case("bodies of 64 KB, a byte more, and a megabyte: the same bytes with a map and without, in a file and on standard output")
 def _(room):
     for size in (0x10000, 0x10001, 1_000_000):
@@ -22,6 +33,8 @@ def _(room):
         same(True, expected == room.get("out"), size)
         room.works("wrewrite", "--map", "map", "in", "mapped")
         same(True, expected == room.get("mapped"), size)
+        lines = room.get("map").decode().splitlines()
+        same(True, list(map_lines(room.get("in"), expected, body, written)) == lines, size)
         same(True, expected == room.works("wrewrite", "in", "-"), size)
         room.works("wsnip", "in", "snipped", "0")
         same(True, module([TRAP, written, b"", written]) == room.get("snipped"), size)

@@ -149,10 +149,12 @@ impl<R: Eprint + Clock, B: BodyWriter> BodyWriter for Watched<'_, R, B> {
         &self,
         parsed: &mut ParsedModule<'a>,
         body: Body<'a>,
+        needs_pairs: bool,
         scratch: &mut Scratch,
         sink: &mut S,
     ) -> Result<(), ModuleError> {
-        self.bodies.write_large_body(parsed, body, scratch, sink)
+        self.bodies
+            .write_large_body(parsed, body, needs_pairs, scratch, sink)
     }
 }
 

@@ -1,5 +1,5 @@
 //! Bytes and location pairs that are written aside.
-ghost use Rattle.std.specs.Prelude.{◌≡◌, ◌<◌, ◌≤◌, ◌+◌, ◌^◌, ◌++◌, ◌∷◌, [], vec_len, vec_capacity, OnOk, OnErr, IfErr};
+ghost use Rattle.std.specs.Prelude.{◌≡◌, ◌<◌, ◌≤◌, ◌+◌, ◌^◌, ◌++◌, ◌∷◌, [], vec_len, vec_capacity, OnOk, OnErr, IfErr, IfSome, IfNone, length};
 ghost use Rattle.std.specs.Bool.{OnTrue, OnFalse};
 ghost use Rattle.wasm_operators.specs.AccessOperations.{access_of};
 ghost use Rattle.wasm_operators.specs.Meaning.{meaning};
@@ -8,7 +8,7 @@ ghost use Rattle.wasm_encode.specs.Writable.{IsWritable};
 ghost use Rattle.wasm_body.specs.Translation.{at_location};
 ghost use Rattle.wasm_body.specs.declared.error.EmitError.TheVariants.{Memory};
 ghost use Rattle.walrus_emit_state.specs.Emission.{pairs_after};
-ghost use Rattle.walrus_emit_state.specs.TreeWriting.Drafts.{with_written, with_bytes, with_list};
+ghost use Rattle.walrus_emit_state.specs.TreeWriting.Drafts.{with_written, with_bytes, with_output, moved_on};
 
 use std::alloc::{AllocError, Global};
 use std::marker::Model;
@@ -118,30 +118,34 @@ impl Draft {
         }
     }
 
-    /// Whether pairs are kept.
-    #[inline(always)]
-    pub fn has_map(&self) -> bool
-        ensures { result ≡ self.now.has_map }
+    /// Takes out what is written, so that nothing is left, and what is written next comes after it. If
+    /// places could then be 2^63 and more, it does nothing.
+    pub fn take_lists(&mut self) -> Option<(Vec<u8>, Vec<(InstrLocId, usize)>)>
+        ensures some { IfSome result (λ lists. (record { bytes = lists.0.items; pairs = lists.1.items }
+            ≡ self.old.output) × (self.new ≡ moved_on self.old)) }
+        ensures none { IfNone result ((self.new ≡ self.old)
+            × (2 ^ 63 ≤ self.old.base + length self.old.output.bytes)) }
     {
-        self.has_map
-    }
-
-    /// Takes the bytes out, so that none are left.
-    #[inline(always)]
-    pub fn take_bytes(&mut self) -> Vec<u8>
-        ensures bytes { result.items ≡ self.old.output.bytes }
-        ensures left { self.new ≡ with_list self.old [] }
-    {
+        let Some(base) = self.base.checked_add(self.bytes.len()) else {
+            return None;
+        };
+        if base >= 1 << 63 {
+            return None;
+        }
+        self.base = base;
         let alloc = *self.bytes.allocator();
-        mem::replace(&mut self.bytes, Vec::new(alloc))
+        let bytes = mem::replace(&mut self.bytes, Vec::new(alloc));
+        let pairs = mem::replace(&mut self.pairs, Vec::new(alloc));
+        Some((bytes, pairs))
     }
 
-    /// Replaces the bytes.
-    #[inline(always)]
-    pub fn set_bytes(&mut self, bytes: Vec<u8>)
-        ensures { self.new ≡ with_list self.old bytes.items }
+    /// Replaces the bytes and the pairs.
+    pub fn set_lists(&mut self, bytes: Vec<u8>, pairs: Vec<(InstrLocId, usize)>)
+        ensures { self.new ≡ with_output self.old
+            (record { bytes = bytes.items; pairs = pairs.items }) }
     {
         self.bytes = bytes;
+        self.pairs = pairs;
     }
 
     /// Writes an operator that is one byte, at a location. Returns whether it did; if not, memory ran
@@ -303,6 +307,7 @@ impl Draft {
     {
         encoder.raw(&self.bytes)
     }
+
     /// The bytes and the pairs.
     pub fn into_lists(self) -> (Vec<u8>, Vec<(InstrLocId, usize)>)
         ensures bytes { result.0.items ≡ self.output.bytes }

@@ -1,5 +1,5 @@
 -- What is written aside, operator by operator.
-use Rattle.std.proofs.Common.{◌≡◌, ℕ, ◌+◌, List, [], ◌∷◌, ◌++◌, length, Bool, true, Some, None, Result, Ok, Err, OnOk, IfErr, inl, refl, sym, ap, subst, ◌∙◌, append-nil, append_assoc, length-append, arith}
+use Rattle.std.proofs.Common.{◌≡◌, ℕ, ◌+◌, List, [], ◌∷◌, ◌++◌, length, Bool, true, false, Some, None, Result, Ok, Err, OnOk, IfErr, inl, refl, sym, ap, subst, ◌∙◌, append-nil, append_assoc, length-append, arith}
 use Rattle.walrus_ir.specs.declared.val_type.InstrSeqType.{InstrSeqType}
 use Rattle.wasm_operators.specs.Operations.{RawOperation}
 use Rattle.wasm_operators.specs.Shortest.{short}
@@ -40,6 +40,10 @@ drafted_pairs (z ∷ zs) d e =
     ∙ (ap (λ ps. ps ++ pairs_from (d.base + length (d.output.bytes ++ short z.op)) zs) (one_pair d.has_map d.base d.output z.location e)
     ∙ (ap (λ n. (d.output.pairs ++ (z.location, d.base + length d.output.bytes) ∷ []) ++ pairs_from n zs) (place_more d.base d.output.bytes (short z.op))
     ∙ append_assoc d.output.pairs ((z.location, d.base + length d.output.bytes) ∷ []) (pairs_from (d.base + length d.output.bytes + length (short z.op)) zs)))
+
+pub drafted_no_pairs : (zs : List (Located RawOperation)) (d : Drafted) → d.has_map ≡ false → (drafted d zs).output.pairs ≡ d.output.pairs
+drafted_no_pairs [] d e = refl
+drafted_no_pairs (z ∷ zs) d e = drafted_no_pairs zs (with_written d z) e ∙ ap (λ (b : Bool). pairs_after b d.base d.output z.location) e
 
 -- an operator that was written after the `else` that waited
 pub written_as_is : (old w new : Writer) (o p : RawOperation) (ty : InstrSeqType) (location : ℕ) → w ≡ record old { draft = drafted old.draft (waiting_else old.«open».next); «open» = awake old.«open» } →

@@ -45,7 +45,7 @@ use Rattle.walrus_flat.specs.WrittenBody.{some_locations, IsAccepted, WritesBody
 use Rattle.walrus_flat.specs.RewrittenFlat.{read_again, begun_draft, emit_input, is_none, Composes, WritesAll, IsNotAllWritten, out_of_memory, not_begun as all_not_begun, not_written as all_not_written}
 use Rattle.walrus_flat.proofs.Accepting.{accepted_of}
 use Rattle.walrus_flat.proofs.CheckedWhole.{read_operators}
-use Rattle.walrus_flat.proofs.Drafts.{drafted_bytes, drafted_pairs}
+use Rattle.walrus_flat.proofs.Drafts.{drafted_bytes, drafted_pairs, drafted_no_pairs}
 use Rattle.walrus_flat.proofs.RawBodies.{used_are, has_raw_body, has_no_body}
 
 -- operators that bytes list have encodings
@@ -178,6 +178,7 @@ module _ {S F : Type 0} (asks : Shared F (Bor ℕ × Unit {0}) ℕ) (i : ParseIn
               kept_pairs = λ has.
                   ap (λ (q : Drafted). q.output.pairs) w.draft
                   ∙ (drafted_pairs w.operators (begun_draft encoder has_map) has ∙ ap (λ n. pairs_from n w.operators) (from_no_place (length encoder) ∙ ap length begins.encoder_is));
+              no_pairs = λ none. ap (λ (q : Drafted). q.output.pairs) w.draft ∙ drafted_no_pairs w.operators (begun_draft encoder has_map) none;
             }
 
 -- ---- with the new indices of a module

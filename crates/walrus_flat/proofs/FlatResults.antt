@@ -18,15 +18,16 @@ use Rattle.walrus_parser.specs.Bodies.{ParseInput, setting_with, mapped_by}
 use Rattle.walrus_parser.specs.Settings.{BothOrNone, locations_in}
 use Rattle.walrus_parser.proofs.AnyLocations.{any_locations}
 use Rattle.walrus_body.specs.EmittedInstructions.{LentPairs}
+use Rattle.walrus_emit_state.specs.Emission.{Output}
 use Rattle.walrus_emit_state.specs.TreeWriting.Drafts.{Drafted}
 use Rattle.walrus_rewrite.specs.declared.error.RewriteError.{RewriteError}
 use Rattle.walrus_rewrite.specs.declared.error.RewriteError.TheVariants.{Parse, Walk, Emit}
 use Rattle.walrus_rewrite.specs.Errors.{IsOutOfMemory}
 use Rattle.walrus_rewrite.specs.RawBodies.{EmitInput}
 use Rattle.walrus_rewrite.specs.RewrittenBodies.{RefusesRewriting, IsOfWriting}
-use Rattle.walrus_flat.specs.Sinks.{OfWhole}
+use Rattle.walrus_flat.specs.Sinks.{joined, OfWhole}
 use Rattle.walrus_flat.proofs.SinkLemmas.{all_taken}
-use Rattle.walrus_flat.specs.RewrittenFlat.{FinishesTo, IsUntouched, Finishes, FinishesBoth, Composes, RewritesFlat}
+use Rattle.walrus_flat.specs.RewrittenFlat.{FinishesTo, IsUntouched, Finishes, FinishesBoth, Composes, RewritesFlat, RewritesTo}
 
 -- the operators end where the body ends
 pub ends_there : (start ops : ℕ) (bytes rest : List ℕ) → ops ≤ length bytes → rest ≡ drop ops bytes → start + length bytes ≡ start + ops + length rest
@@ -60,7 +61,7 @@ untouched_twice a b c (Walk w) p q = tt
 untouched_twice a b c (Emit e) p q = tt
 
 pub untouched_to :
-    {Sink : Type 0} (goes : List ℕ → Type 0) (a b c : Sink) (m : Result Drafted RewriteError) → IfErr m (IsUntouched a b) → (r : Result (Unit {0}) RewriteError) → FinishesTo goes m r →
+    {Sink : Type 0} (goes : Output → Type 0) (a b c : Sink) (m : Result Drafted RewriteError) → IfErr m (IsUntouched a b) → (r : Result (Unit {0}) RewriteError) → FinishesTo goes m r →
     IfErr r (IsUntouched b c) → IfErr r (IsUntouched a c)
 untouched_to goes a b c m h (Ok u) end k = tt
 untouched_to goes a b c (Ok made) h (Err e) end k = subst (IsUntouched a c) (sym end) tt
@@ -151,31 +152,35 @@ module _ {S F : Type 0} (asks : Shared F (Bor ℕ × Unit {0}) ℕ) (i : ParseIn
 
   -- ---- to a sink
 
-  module _ {T : Type 0} (takes : T → T → List ℕ → Type 0) (a b c : T) (both : (first second : List ℕ) → takes a b first → takes b c second → takes a c (first ++ second)) where
-    pub flat_to : (m : Result Drafted RewriteError) → IfOk m (OfWhole takes a b (Composes asks i by false)) → (r : Result (Unit {0}) RewriteError) → FinishesTo (takes b c) m r →
-        OnOk r ((raw : List ℕ) × takes a c raw × RewritesFlat asks i by {Z = Unit {0}} [] raw None (inl tt))
+  module _ {T : Type 0} (takes : T → T → Output → Type 0) (a b c : T) (both : (first second : Output) → takes a b first → takes b c second → takes a c (joined first second)) (has_map : Bool) where
+    pub flat_to : (m : Result Drafted RewriteError) → IfOk m (OfWhole takes a b (Composes asks i by has_map)) → (r : Result (Unit {0}) RewriteError) → FinishesTo (takes b c) m r →
+        OnOk r ((took : Output) × takes a c took × RewritesTo asks i by has_map took)
     flat_to (Ok made) h (Ok u) end =
         let k = h.holds_of_it in (
-          h.whole.output.bytes,
+          h.whole.output,
           all_taken takes a b c h.whole made both h.is_left end,
           record {
-            mapping = k.mapping;
-            body = k.body;
-            accepted = k.accepted;
-            is_mapping = k.is_mapping;
-            raw = h.whole.output.bytes;
-            pairs = k.pairs;
-            is_raw_body = k.is_raw_body;
-            keeps = k.keeps;
-            bytes = refl;
-            appends_pairs = tt;
+            rewrites = record {
+              mapping = k.mapping;
+              body = k.body;
+              accepted = k.accepted;
+              is_mapping = k.is_mapping;
+              raw = h.whole.output.bytes;
+              pairs = k.pairs;
+              is_raw_body = k.is_raw_body;
+              keeps = k.keeps;
+              bytes = refl;
+              appends_pairs = tt;
+            };
+            wanted_pairs = k.kept_pairs;
+            no_pairs = k.no_pairs;
           },
         )
     flat_to (Ok made) h (Err e) end = tt
     flat_to (Err f) h (Ok u) end = absurd end
     flat_to (Err f) h (Err e) end = tt
 
-  pub refused_to : (goes : List ℕ → Type 0) (m : Result Drafted RewriteError) → IfErr m (RefusesRewriting asks i by) → (r : Result (Unit {0}) RewriteError) → FinishesTo goes m r → IfErr r (RefusesRewriting asks i by)
+  pub refused_to : (goes : Output → Type 0) (m : Result Drafted RewriteError) → IfErr m (RefusesRewriting asks i by) → (r : Result (Unit {0}) RewriteError) → FinishesTo goes m r → IfErr r (RefusesRewriting asks i by)
   refused_to goes m err (Ok u) h = tt
   refused_to goes (Ok made) err (Err e) h = subst (RefusesRewriting asks i by) (sym h) (inl refl)
   refused_to goes (Err f) err (Err e) h = subst (RefusesRewriting asks i by) (sym h) err

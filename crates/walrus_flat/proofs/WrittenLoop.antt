@@ -40,6 +40,7 @@ use Rattle.wasm_flat.specs.Flat.{Named, first_state, written_at, after, flat, nu
 use Rattle.wasm_flat.specs.FlatLaws.{bare}
 use Rattle.wasm_flat.proofs.Fronts as fronts
 use Rattle.wasm_flat.proofs.OtherLocations.{faults_anywhere}
+use Rattle.walrus_emit_state.specs.Emission.{Output}
 use Rattle.walrus_emit_state.specs.TreeWriting.Drafts.{Drafted}
 use Rattle.walrus_flat.specs.declared.writer.Writer.{Writer}
 use Rattle.walrus_flat.specs.Checked.{marks}
@@ -47,7 +48,7 @@ use Rattle.walrus_flat.specs.Laws.{written_of}
 use Rattle.walrus_flat.specs.Written.{drafted, state_of}
 use Rattle.walrus_flat.specs.Writers.{numbers_in, env_at, IsSameWriter, Takes, IsTaken, StepsWriter}
 use Rattle.walrus_flat.specs.WrittenBody.{some_locations, IsAccepted, WritesBody, RefusesWriting, WritesNumber, StopsWriting}
-use Rattle.walrus_flat.specs.Sinks.{IsLeft, OfWhole}
+use Rattle.walrus_flat.specs.Sinks.{no_output, joined, IsLeft, OfWhole}
 use Rattle.walrus_flat.proofs.Drafts.{drafted-append}
 use Rattle.walrus_flat.proofs.SinkLemmas.{left_as_is, left_then, left_more}
 use Rattle.walrus_flat.proofs.CheckedWhole.{read_operators}
@@ -134,7 +135,7 @@ may_call_within : {F : Type 0} (pre : F → Bor ℕ → Type 0) (o : Option (Bor
 may_call_within pre None from to first last low high may = tt
 may_call_within pre (Some f) from to first last low high may = λ p least most. may p (omega arith) (omega arith)
 
-module _ {F S : Type 0} (g : Shared F (Bor ℕ × Unit {0}) ℕ) (i : ParseInput (Unit {0}) F) (first : Writer) (takes : S → S → List ℕ → Type 0) (start : S) where
+module _ {F S : Type 0} (g : Shared F (Bor ℕ × Unit {0}) ℕ) (i : ParseInput (Unit {0}) F) (first : Writer) (takes : S → S → Output → Type 0) (start : S) where
   abbrev to : Numbers
   to = numbers_in first
 
@@ -147,7 +148,7 @@ module _ {F S : Type 0} (g : Shared F (Bor ℕ × Unit {0}) ℕ) (i : ParseInput
   abbrev locations : Option (ℕ → ℕ)
   locations = some_locations i.on_instr_pos
 
-  -- The operators that were read, and what was written of them, of which the sink took the first bytes.
+  -- The operators that were read, and what was written of them, of which the sink took the front.
   pub record WritesSoFar (w : Writer) (sink : S) (place : ℕ) (rest : List ℕ) : Type 0 where
     pub same : IsSameWriter first w
     pub accepted : IsAccepted i
@@ -164,8 +165,8 @@ module _ {F S : Type 0} (g : Shared F (Bor ℕ × Unit {0}) ℕ) (i : ParseInput
   pub still : (w new : Writer) (sink : S) (place : ℕ) (rest : List ℕ) → new ≡ w → WritesSoFar w sink place rest → WritesSoFar new sink place rest
   still w new sink place rest same = subst (λ k. WritesSoFar k sink place rest) (sym same)
 
-  -- the sink took bytes
-  pub passed : (w : Writer) (sink next : S) (place : ℕ) (rest : List ℕ) (left : Drafted) → ((a b c : S) (first second : List ℕ) → takes a b first → takes b c second → takes a c (first ++ second)) → IsLeft takes sink next w.draft left →
+  -- the sink took what was there
+  pub passed : (w : Writer) (sink next : S) (place : ℕ) (rest : List ℕ) (left : Drafted) → ((a b c : S) (first second : Output) → takes a b first → takes b c second → takes a c (joined first second)) → IsLeft takes sink next w.draft left →
       WritesSoFar w sink place rest → WritesSoFar (record w { draft = left }) next place rest
   passed w sink next place rest left both h so = record {
     same = record { «module» = so.same.«module»; indices = so.same.indices; function = so.same.function; ty = so.same.ty; out = so.same.out; locals = so.same.locals };
@@ -182,7 +183,7 @@ module _ {F S : Type 0} (g : Shared F (Bor ℕ × Unit {0}) ℕ) (i : ParseInput
 
   -- ---- before the first operator
 
-  pub begins_writing : i.check ≡ (λ v x. Ok tt) → i.first ≡ tt → IsAccepted i → state_of first.«open» ≡ first_state → takes start start [] → WritesSoFar first start i.start i.bytes
+  pub begins_writing : i.check ≡ (λ v x. Ok tt) → i.first ≡ tt → IsAccepted i → state_of first.«open» ≡ first_state → takes start start no_output → WritesSoFar first start i.start i.bytes
   begins_writing accepts starts a none nothing =
       let given = setting_with i locations in
       let ok = is_ok (validated given.check given.first (map placed a.accepted.operators)) a.accepted.all.passes in

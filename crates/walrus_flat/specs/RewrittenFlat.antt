@@ -1,5 +1,6 @@
 -- Rewriting a body without its tree: what is written of an accepted one. Why there is none is said as for `rewrite_body`.
 use Rattle.std.specs.Prelude.{◌≡◌, ℕ, ◌+◌, List, [], ◌++◌, length, Bool, true, false, Option, Some, None, Result, Ok, Err}
+use Rattle.std.proofs.Common.{inl}
 use Rattle.std.specs.Fn.{Shared}
 use Rattle.std.specs.Borrow.{Bor}
 use Rattle.wasm_body.specs.declared.error.EmitError.{EmitError}
@@ -21,6 +22,7 @@ use Rattle.walrus_rewrite.specs.RewrittenBodies.{KeepsSource, Rewrites}
 use Rattle.walrus_ir.specs.declared.module.Module.{Module}
 use Rattle.walrus_maps.specs.declared.ids_to_indices.IdsToIndices.{IdsToIndices}
 use Rattle.walrus_numbering.specs.NumberMaps.{numbers_by}
+use Rattle.walrus_emit_state.specs.Emission.{Output}
 use Rattle.walrus_emit_state.specs.TreeWriting.Drafts.{Drafted}
 use Rattle.walrus_flat.specs.WrittenBody.{WritesBody, RefusesWriting}
 
@@ -48,9 +50,9 @@ abbrev pub is_none : {A : Type 0} → Option A → Bool
 is_none None = true
 is_none (Some x) = false
 
--- The bytes go where they should if the body was written; else its fault is returned.
-abbrev pub FinishesTo : (goes : List ℕ → Type 0) → Result Drafted RewriteError → Result (Unit {0}) RewriteError → Type 0
-FinishesTo goes (Ok made) (Ok u) = goes made.output.bytes
+-- What is written goes where it should if the body was written; else its fault is returned.
+abbrev pub FinishesTo : (goes : Output → Type 0) → Result Drafted RewriteError → Result (Unit {0}) RewriteError → Type 0
+FinishesTo goes (Ok made) (Ok u) = goes made.output
 FinishesTo goes (Ok made) (Err e) = e ≡ Emit Memory
 FinishesTo goes (Err f) (Ok u) = ⊥
 FinishesTo goes (Err f) (Err e) = e ≡ f
@@ -63,14 +65,11 @@ IsUntouched old new (Emit e) = Unit {0}
 
 -- They are appended.
 abbrev pub Finishes : Result Drafted RewriteError → (old new : List ℕ) → Result (Unit {0}) RewriteError → Type 0
-Finishes made old new r = FinishesTo (λ bytes. new ≡ old ++ bytes) made r
+Finishes made old new r = FinishesTo (λ o. new ≡ old ++ o.bytes) made r
 
 -- And the pairs are appended to their list.
 abbrev pub FinishesBoth : Result Drafted RewriteError → (old new : List ℕ) → (old_pairs new_pairs : List Pair) → Result (Unit {0}) RewriteError → Type 0
-FinishesBoth (Ok made) old new old_pairs new_pairs (Ok u) = (new ≡ old ++ made.output.bytes) × (new_pairs ≡ old_pairs ++ made.output.pairs)
-FinishesBoth (Ok made) old new old_pairs new_pairs (Err e) = e ≡ Emit Memory
-FinishesBoth (Err f) old new old_pairs new_pairs (Ok u) = ⊥
-FinishesBoth (Err f) old new old_pairs new_pairs (Err e) = e ≡ f
+FinishesBoth made old new old_pairs new_pairs r = FinishesTo (λ o. (new ≡ old ++ o.bytes) × (new_pairs ≡ old_pairs ++ o.pairs)) made r
 
 module _ {S F : Type 0} (asks : Shared F (Bor ℕ × Unit {0}) ℕ) (i : ParseInput S F) (by : EmitInput) where
   -- The bytes are accepted as a body, with the locations that the caller's function returned, and the raw body of its normal form
@@ -97,6 +96,13 @@ module _ {S F : Type 0} (asks : Shared F (Bor ℕ × Unit {0}) ℕ) (i : ParseIn
     pub is_raw_body : IsRawBody by (body_tree i.environment body) written.output.bytes pairs
     pub keeps : KeepsSource i.environment accepted.operators body pairs
     pub kept_pairs : has_map ≡ true → written.output.pairs ≡ pairs
+    pub no_pairs : has_map ≡ false → written.output.pairs ≡ []
+
+  -- A sink took the bytes that `rewrite_flat` appends to none, and its pairs, if they are wanted.
+  pub record RewritesTo (has_map : Bool) (took : Output) : Type 0 where
+    pub rewrites : RewritesFlat {Z = Unit {0}} [] took.bytes None (inl tt)
+    pub wanted_pairs : has_map ≡ true → took.pairs ≡ rewrites.pairs
+    pub no_pairs : has_map ≡ false → took.pairs ≡ []
 
   -- ---- after the first pass, which found that live operators name these locals
 

@@ -17,6 +17,7 @@ use Rattle.wasm_body.specs.Translation.{Located}
 use Rattle.walrus_parser.specs.Bodies.{ParseInput, setting_with, operators_input, mapped_by, operators_parsed}
 use Rattle.walrus_parser.specs.Settings.{operators_of, IsMapping}
 use Rattle.walrus_validators.specs.Locating.{Locates, HasNoLocation}
+use Rattle.walrus_emit_state.specs.Emission.{Output}
 use Rattle.walrus_emit_state.specs.TreeWriting.Drafts.{Drafted}
 use Rattle.walrus_flat.specs.declared.writer.Writer.{Writer}
 use Rattle.walrus_flat.specs.Writers.{StepsWriter}
@@ -91,7 +92,7 @@ module _ {F : Type 0} (g : Shared F (Bor ℕ × Unit {0}) ℕ) (i : ParseInput (
     pub accepted : IsAccepted i
     pub fault : written_of i.environment to (operators_of accepted.body) ≡ Err e
 
-  -- A sink took the first bytes, from one state to the other.
-  abbrev pub WritesOperators : {S : Type 0} → (takes : S → S → List ℕ → Type 0) → (before after : S) → Drafted → Drafted → Result (Unit {0}) EmitError → Type 0
+  -- A sink took the front of it, from one state to the other.
+  abbrev pub WritesOperators : {S : Type 0} → (takes : S → S → Output → Type 0) → (before after : S) → Drafted → Drafted → Result (Unit {0}) EmitError → Type 0
   WritesOperators takes before after old new (Ok u) = OfWhole takes before after (WritesBody old) new
   WritesOperators takes before after old new (Err e) = (e ≡ Memory) ⊎ RefusesWriting e

@@ -1,28 +1,35 @@
 //! Where a large body goes while it is written.
-ghost use Rattle.std.specs.Prelude.{◌≡◌, ◌++◌, List, ℕ, []};
+ghost use Rattle.std.specs.Prelude.{◌≡◌, []};
 ghost use Rattle.std.specs.Bool.{OnTrue};
-ghost use Rattle.walrus_flat.specs.Sinks.{IsLeft};
+ghost use Rattle.walrus_emit_state.specs.Emission.{Output};
+ghost use Rattle.walrus_flat.specs.Sinks.{IsLeft, no_output, joined};
 
 use walrus_emit_state::Draft;
+use walrus_ir::InstrLocId;
 
-/// Takes the bytes of a body while it is written, so that they needn't be in memory all at once.
+/// Takes the bytes of a body, and its location pairs if they are wanted, while it is written, so that
+/// they needn't be in memory all at once.
 pub trait ByteSink {
-    // From this state it took these bytes, one piece after the other, and is in that one.
-    ghost takes: { Self → Self → List ℕ → Type 0 };
+    // From this state it took these bytes and these pairs, one piece after the other, and is in that
+    // one.
+    ghost takes: { Self → Self → Output → Type 0 };
 
     /// How many bytes of a source are read before what is written of them is taken, or all.
     const MOST: usize;
 
-    /// Takes the bytes out of a list, which keeps its memory. Returns whether it did; if not, the
-    /// sink knows why.
-    fn take(&mut self, bytes: &mut Vec<u8>) -> bool
-        ensures taken { OnTrue result (takes self.old self.new bytes.old.items) }
-        ensures emptied { OnTrue result (bytes.new.items ≡ []) };
+    /// Takes the bytes and the pairs of their operators out of two lists, which keep their memory. The
+    /// places in the pairs are counted from the first byte of the body. Returns whether it did; if
+    /// not, the sink knows why.
+    fn take(&mut self, bytes: &mut Vec<u8>, pairs: &mut Vec<(InstrLocId, usize)>) -> bool
+        ensures taken { OnTrue result (takes self.old self.new
+            (record { bytes = bytes.old.items; pairs = pairs.old.items })) }
+        ensures no_bytes { OnTrue result (bytes.new.items ≡ []) }
+        ensures no_pairs { OnTrue result (pairs.new.items ≡ []) };
 
-    ghost nothing: { (s : Self) → takes s s [] };
+    ghost nothing: { (s : Self) → takes s s no_output };
 
-    ghost one_by_one: { (a b c : Self) (first second : List ℕ) → takes a b first → takes b c second
-        → takes a c (first ++ second) };
+    ghost one_by_one: { (a b c : Self) (first second : Output) → takes a b first → takes b c second
+        → takes a c (joined first second) };
 }
 
 /// The sink that takes nothing: the body stays in its list.
@@ -30,33 +37,34 @@ pub trait ByteSink {
 pub(crate) struct InMemory;
 
 impl ByteSink for InMemory {
-    ghost use Rattle.std.proofs.Common.{subst, sym, ap, ◌∙◌};
+    ghost use Rattle.std.proofs.Common.{ap, ◌∙◌};
 
-    ghost takes = { λ a b bytes. bytes ≡ [] };
+    ghost takes = { λ a b o. o ≡ no_output };
 
     const MOST: usize = usize::MAX;
 
-    fn take(&mut self, _bytes: &mut Vec<u8>) -> bool {
+    fn take(&mut self, _bytes: &mut Vec<u8>, _pairs: &mut Vec<(InstrLocId, usize)>) -> bool {
         false
     }
 
-    ghost nothing = { λ s k. [] };
+    ghost nothing = { λ s k. no_output };
 
-    ghost one_by_one = { λ a b c first second none no_more. ap (λ (l : List ℕ). l ++ second) none ∙ no_more };
+    ghost one_by_one = { λ a b c first second none no_more. ap (λ (o : Output). joined o second) none ∙ no_more };
 }
 
-/// Lets a sink take the bytes of a draft, unless it takes them after all of the source is read. It
-/// takes none where pairs are kept, since places count from the first byte. Returns whether it did
-/// what it should.
+/// Lets a sink take what is written of a body, unless it takes it after all of the source is read.
+/// Returns whether it did what it should.
 #[inline(always)]
 pub(crate) fn pass_to<S: ByteSink>(draft: &mut Draft, sink: &mut S) -> bool
     ensures { OnTrue result (IsLeft S.takes sink.old sink.new draft.old draft.new) }
 {
-    if S::MOST == usize::MAX || draft.has_map() {
+    if S::MOST == usize::MAX {
         return true;
     }
-    let mut bytes = draft.take_bytes();
-    let is_taken = sink.take(&mut bytes);
-    draft.set_bytes(bytes);
+    let Some((mut bytes, mut pairs)) = draft.take_lists() else {
+        return false;
+    };
+    let is_taken = sink.take(&mut bytes, &mut pairs);
+    draft.set_lists(bytes, pairs);
     is_taken
 }

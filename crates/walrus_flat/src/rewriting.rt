@@ -1,5 +1,4 @@
 //! Rewriting a body without its tree.
-ghost use Rattle.std.proofs.Common.{inl};
 ghost use Rattle.std.specs.Prelude.{◌≡◌, ◌⊎◌, ◌++◌, ◌≤◌, ◌<◌, ◌+◌, ◌^◌, ℕ, List, [], length, Option, Some, OnOk, OnErr, IfOk, IfErr, IsErr, false};
 ghost use Rattle.wasm_body.specs.declared.error.EmitError.TheVariants.{Memory};
 ghost use Rattle.wasm_flat.specs.Flat.{first_state};
@@ -14,6 +13,7 @@ ghost use Rattle.walrus_validators.specs.Locating.{MayCall};
 ghost use Rattle.walrus_parser.specs.Settings.{BothOrNone};
 ghost use Rattle.walrus_body.specs.EmittedInstructions.{KeepsPairs};
 ghost use Rattle.walrus_numbering.specs.NumberMaps.{numbers_by};
+ghost use Rattle.walrus_emit_state.specs.Emission.{Output};
 ghost use Rattle.walrus_rewrite.specs.declared.error.RewriteError.TheVariants.{Parse, Emit as EmitFault};
 ghost use Rattle.walrus_rewrite.specs.Errors.{IsOutOfMemory};
 ghost use Rattle.walrus_rewrite.specs.RewrittenBodies.{RefusesRewriting, IsOfWriting};
@@ -21,7 +21,7 @@ ghost use Rattle.walrus_flat.specs.UsedLocals.{is_used, entries_of};
 ghost use Rattle.walrus_flat.specs.Written.{state_of};
 ghost use Rattle.walrus_flat.specs.WrittenBody.{again, IsAccepted, WritesBody, RefusesWriting};
 ghost use Rattle.walrus_flat.specs.Sinks.{OfWhole};
-ghost use Rattle.walrus_flat.specs.RewrittenFlat.{emit_input, is_none, Composes, WritesAll, IsNotAllWritten, FinishesTo, IsUntouched, Finishes, FinishesBoth, RewritesFlat};
+ghost use Rattle.walrus_flat.specs.RewrittenFlat.{emit_input, is_none, Composes, WritesAll, IsNotAllWritten, FinishesTo, IsUntouched, Finishes, FinishesBoth, RewritesFlat, RewritesTo};
 
 use crate::body_indices::BodyIndices;
 use crate::byte_sink::{ByteSink, InMemory};
@@ -153,8 +153,9 @@ fn begin_body(
 /// declarations, and the room that is made before each operator is written.
 const SPARE: usize = 64;
 
-/// Makes room for a body that is read from so many bytes, if there is memory for it, or for as many
-/// bytes as a sink leaves in a list. Eight bytes of code contain at most five operators as a rule.
+/// Makes room for a body that is read from so many bytes, if there is memory for it, or for what is
+/// written of as many as are read before a sink takes it. Eight bytes of code contain at most five
+/// operators as a rule.
 fn make_room_for(
     bytes: &mut Vec<u8>,
     pairs: &mut Vec<(InstrLocId, usize)>,
@@ -169,7 +170,7 @@ fn make_room_for(
     if bytes.capacity() < room {
         let _ = make_room(bytes, room);
     }
-    let operators = len / 8 * 5;
+    let operators = len.min(most) / 8 * 5;
     if has_map && pairs.capacity() < operators {
         let _ = make_room(pairs, operators);
     }
@@ -492,7 +493,8 @@ pub fn rewrite_flat<V: OpCheck, F: Fn(&usize) -> InstrLocId>(
     }
 }
 
-/// Lets a sink take the last bytes of a body, if it was written. The buffer gets their list, empty.
+/// Lets a sink take the last bytes and pairs of a body, if it was written. The buffer gets the list of
+/// the bytes, empty.
 fn finish_to<S: ByteSink>(
     made: Result<Draft, RewriteError>,
     buffer: &mut Vec<u8>,
@@ -503,8 +505,8 @@ fn finish_to<S: ByteSink>(
 {
     match made {
         Ok(draft) => {
-            let (mut bytes, _pairs) = draft.into_lists();
-            if !sink.take(&mut bytes) {
+            let (mut bytes, mut pairs) = draft.into_lists();
+            if !sink.take(&mut bytes, &mut pairs) {
                 return Err(RewriteError::Emit(EmitError::Memory));
             }
             *buffer = bytes;
@@ -514,8 +516,8 @@ fn finish_to<S: ByteSink>(
     }
 }
 
-/// Rewrites a function's body as `rewrite_flat` does without pairs, to a sink, which takes the bytes
-/// while they are written. The buffer is a list for them, whose contents don't matter.
+/// Rewrites a function's body as `rewrite_flat` does, to a sink, which takes the bytes, and the pairs if
+/// they are wanted, while they are written. The buffer is a list for bytes, whose contents don't matter.
 ///
 /// # Errors
 ///
@@ -533,6 +535,7 @@ pub fn rewrite_flat_to<V: OpCheck, F: Fn(&usize) -> InstrLocId, S: ByteSink>(
     out: &IdsToIndices,
     scratch: &mut FlatScratch,
     buffer: &mut Vec<u8>,
+    needs_pairs: bool,
     sink: &mut S,
 ) -> Result<(), RewriteError>
     requires offset { «module».now.code_section_offset ≤ body.start }
@@ -540,14 +543,14 @@ pub fn rewrite_flat_to<V: OpCheck, F: Fn(&usize) -> InstrLocId, S: ByteSink>(
     requires fits { body.start + length body.bytes.now < 2 ^ 64 }
     requires may_call { MayCall F.pre on_instr_pos (body.start + body.ops)
         (body.start + length body.bytes.now) }
-    // The sink took what `rewrite_flat` appends to an empty list.
-    ensures rewritten { OnOk result ((raw : List ℕ) × S.takes sink.old sink.new raw
-        × RewritesFlat F.Fn (body_input «module».now indices.now id ty body.entry
+    // The sink took what `rewrite_flat` appends to empty lists.
+    ensures rewritten { OnOk result ((took : Output) × S.takes sink.old sink.new took
+        × RewritesTo F.Fn (body_input «module».now indices.now id ty body.entry
         on_instr_pos.entry V.check (V.state validator)) (record {
           to = numbers_by «module».now.types out.now [];
           types = «module».now.locals;
           args = args.now;
-        }) {Z = Unit {0}} [] raw None (inl tt)) }
+        }) needs_pairs took) }
     ensures refused { IfErr result (RefusesRewriting F.Fn (body_input «module».now indices.now
         id ty body.entry on_instr_pos.entry V.check (V.state validator)) (record {
           to = numbers_by «module».now.types out.now [];
@@ -576,7 +579,7 @@ pub fn rewrite_flat_to<V: OpCheck, F: Fn(&usize) -> InstrLocId, S: ByteSink>(
         out,
         bytes,
         none,
-        false,
+        needs_pairs,
         scratch,
         sink,
     );

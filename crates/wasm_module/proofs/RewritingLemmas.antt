@@ -16,6 +16,7 @@ use Rattle.walrus_body.specs.FunctionParts.{FunctionParts}
 use Rattle.walrus_parser.specs.Bodies.{AcceptsBody, body_input, body_setting, body_operators}
 use Rattle.walrus_body.specs.EmittedInstructions.{LentPairs, Left}
 use Rattle.walrus_numbering.specs.NumberMaps.{numbers_by}
+use Rattle.walrus_emit_state.specs.Emission.{Output}
 use Rattle.walrus_rewrite.specs.RawBodies.{EmitInput, emit_input, IsRawBodyOf, AppendsRawBody}
 use Rattle.walrus_rewrite.specs.RewrittenBodies.{Rewrites}
 use Rattle.walrus_flat.specs.RewrittenFlat.{RewritesFlat}
@@ -165,9 +166,9 @@ rewritten_ok source a function b raw (Err x) e p = tt
 
 -- of bytes of which something else is known
 pub rewritten_to :
-    {E R : Type 0} (source a : ParsedModule) (function : ℕ) (b : BodyAt) (goes : List ℕ → Type 0) (r : Result R E) → Extends source a →
-    OnOk r ((raw : List ℕ) × IsRewritten a function b raw × goes raw) → OnOk r ((raw : List ℕ) × IsRewritten source function b raw × goes raw)
-rewritten_to source a function b goes (Ok x) e p = (p.0, rewritten_then source a function b p.0 e p.1, p.2)
+    {E R : Type 0} (source a : ParsedModule) (function : ℕ) (b : BodyAt) (goes : Output → Type 0) (r : Result R E) → Extends source a →
+    OnOk r ((took : Output) × IsRewritten a function b took.bytes × goes took) → OnOk r ((took : Output) × IsRewritten source function b took.bytes × goes took)
+rewritten_to source a function b goes (Ok x) e p = (p.0, rewritten_then source a function b p.0.bytes e p.1, p.2)
 rewritten_to source a function b goes (Err x) e p = tt
 
 -- of a number of bytes

@@ -1,6 +1,7 @@
 //! Bodies of a module: how they are parsed, rewritten and written.
 
-ghost use Rattle.std.specs.Prelude.{◌≡◌, ℕ, List, length, OnOk, IfOk, IfErr};
+ghost use Rattle.std.specs.Prelude.{◌≡◌, ℕ, List, [], length, OnOk, IfOk, IfErr};
+ghost use Rattle.walrus_emit_state.specs.Emission.{Output};
 ghost use Rattle.walrus_rewrite.specs.RawBodies.{emit_input, IsRawBodyOf};
 ghost use Rattle.wasm_sections.specs.CodeSections.{body_at};
 ghost use Rattle.wasm_module.specs.RewrittenCode.{Extends, IsRewritten, IsParsed};
@@ -162,8 +163,9 @@ impl<'a> ParsedModule<'a> {
         self.rewrite_flat_with_types(body, true, scratch)
     }
 
-    /// Rewrites a body without its tree, as `rewrite_flat`, to a sink. Types that only one of its handlers
-    /// needs aren't added: `measure_flat` adds them.
+    /// Rewrites a body without its tree, as `rewrite_flat`, to a sink, which takes its bytes, and its
+    /// pairs if they are wanted. Types that only one of its handlers needs aren't added: `measure_flat`
+    /// adds them.
     ///
     /// # Errors
     ///
@@ -172,13 +174,14 @@ impl<'a> ParsedModule<'a> {
     pub(crate) fn rewrite_flat_to<S: ByteSink>(
         &mut self,
         body: Body<'a>,
+        needs_pairs: bool,
         scratch: &mut Scratch,
         sink: &mut S,
     ) -> Result<(), ModuleError>
         ensures extends { Extends self.old self.new }
-        ensures rewritten { OnOk result ((raw : List ℕ)
-            × IsRewritten self.old body.entry.func (body_at body.entry) raw
-            × S.takes sink.old sink.new raw) }
+        ensures rewritten { OnOk result ((took : Output)
+            × IsRewritten self.old body.entry.func (body_at body.entry) took.bytes
+            × S.takes sink.old sink.new took) }
         ensures refused { IfErr result
             (IsNotRewritten self.old body.entry.func (body_at body.entry) self.new) }
     {
@@ -203,6 +206,7 @@ impl<'a> ParsedModule<'a> {
             &self.spaces.numbers,
             flat,
             raw,
+            needs_pairs,
             sink,
         );
         match rewritten {
@@ -224,7 +228,7 @@ impl<'a> ParsedModule<'a> {
             (IsNotRewritten self.old body.entry.func (body_at body.entry) self.new) }
     {
         let mut counter = Counter { len: 0 };
-        match self.rewrite_flat_to(body, scratch, &mut counter) {
+        match self.rewrite_flat_to(body, false, scratch, &mut counter) {
             Ok(()) => Ok(counter.len),
             Err(error) => Err(error),
         }
@@ -272,10 +276,12 @@ impl<'a> ParsedModule<'a> {
             (IsRewritten self.old body.entry.func (body_at body.entry) scratch.new.raw.items) }
         ensures refused { IfErr result
             (IsNotRewritten self.old body.entry.func (body_at body.entry) self.new) }
+        ensures instrs { instrs.new.items ≡ [] }
     {
         let Scratch { raw, pairs, .. } = scratch;
         raw.clear();
         pairs.clear();
+        instrs.clear();
         let BodyContext {
             ty,
             args,
@@ -317,6 +323,7 @@ impl<'a> ParsedModule<'a> {
             (IsRewritten self.old body.entry.func (body_at body.entry) scratch.new.raw.items) }
         ensures refused { IfErr result
             (IsNotRewritten self.old body.entry.func (body_at body.entry) self.new) }
+        ensures instrs { instrs.new.items ≡ [] }
     {
         match self.rewrite_once(body, needs_pairs, instrs, scratch) {
             Ok(function) => Ok(function),
@@ -333,7 +340,7 @@ impl<'a> ParsedModule<'a> {
     /// Rewrites a body: its declarations of locals and its operators, as
     /// `walrus_rewrite::rewrite_body` does. Types that only one of its handlers needs, and that the
     /// module lacks, are added after the others; they are not written. The list of instructions is
-    /// memory that is lent: it is empty before and after.
+    /// memory that is lent: it is empty afterwards.
     ///
     /// # Errors
     ///
@@ -351,6 +358,7 @@ impl<'a> ParsedModule<'a> {
             (IsRewritten self.old body.entry.func (body_at body.entry) scratch.new.raw.items) }
         ensures refused { IfErr result
             (IsNotRewritten self.old body.entry.func (body_at body.entry) self.new) }
+        ensures instrs { instrs.new.items ≡ [] }
     {
         self.rewrite_with_types(body, false, instrs, scratch)
     }
@@ -371,6 +379,7 @@ impl<'a> ParsedModule<'a> {
             (IsRewritten self.old body.entry.func (body_at body.entry) scratch.new.raw.items) }
         ensures refused { IfErr result
             (IsNotRewritten self.old body.entry.func (body_at body.entry) self.new) }
+        ensures instrs { instrs.new.items ≡ [] }
     {
         self.rewrite_with_types(body, true, instrs, scratch)
     }
@@ -385,7 +394,9 @@ impl<'a> ParsedModule<'a> {
             (IsParsed self.old body.entry.func (body_at body.entry) self.new) }
         ensures refused { IfErr result
             (IsRefused self.old body.entry.func (body_at body.entry) self.new) }
+        ensures instrs { instrs.new.items ≡ [] }
     {
+        instrs.clear();
         let BodyContext {
             ty,
             args,
@@ -428,6 +439,7 @@ impl<'a> ParsedModule<'a> {
             (IsParsed self.old body.entry.func (body_at body.entry) self.new) }
         ensures refused { IfErr result
             (IsRefused self.old body.entry.func (body_at body.entry) self.new) }
+        ensures instrs { instrs.new.items ≡ [] }
     {
         match self.parse_once(body, instrs) {
             Ok(function) => Ok(function),

@@ -2,6 +2,7 @@
 
 ghost use Rattle.std.specs.Prelude.{◌≡◌, ℕ, List, length, OnOk, IfOk};
 ghost use Rattle.wasm_types.specs.declared.val_type.ValType.{ValType as ValueType};
+ghost use Rattle.walrus_emit_state.specs.Emission.{Output};
 ghost use Rattle.walrus_body.specs.FunctionParts.{FunctionParts};
 ghost use Rattle.wasm_module.specs.declared.parsed.ParsedModule.{ParsedModule as Parsed};
 ghost use Rattle.wasm_sections.specs.CodeSections.{BodyAt, body_at};
@@ -25,9 +26,19 @@ pub enum Needed {
     Function,
 }
 
+impl Needed {
+    /// Its location pairs, if they are needed, and nothing else.
+    pub(crate) fn pairs_if(needs_pairs: bool) -> Needed {
+        match needs_pairs {
+            true => Needed::Pairs,
+            false => Needed::Nothing,
+        }
+    }
+}
+
 /// How each body of a module is written. It is called twice for a body: in the first pass, to find
 /// its faults, its size and the new contents of custom sections, and in the second, to write it. A
-/// large one of which nothing else is needed is counted in both, and then written in pieces.
+/// large one of whose function nothing else is needed is counted in both, and then written in pieces.
 pub trait BodyWriter {
     // For this body, of the function of the source with this index, these bytes are written.
     ghost writes: { Self → Parsed → ℕ → BodyAt → List ℕ → Type 0 };
@@ -73,7 +84,8 @@ pub trait BodyWriter {
         Ok(scratch.raw.len())
     }
 
-    /// Writes the raw body to a sink: at once, unless the implementation writes it in pieces.
+    /// Writes the raw body to a sink, and its location pairs if they are needed: at once, unless the
+    /// implementation writes it in pieces.
     ///
     /// # Errors
     ///
@@ -83,17 +95,18 @@ pub trait BodyWriter {
         &self,
         parsed: &mut ParsedModule<'a>,
         body: Body<'a>,
+        needs_pairs: bool,
         scratch: &mut Scratch,
         sink: &mut S,
     ) -> Result<(), ModuleError>
         ensures extends { OnOk result (Extends parsed.old parsed.new) }
         ensures written { (source : Parsed) → Extends source parsed.old
-            → OnOk result ((raw : List ℕ)
-            × writes self.now source body.entry.func (body_at body.entry) raw
-            × S.takes sink.old sink.new raw) }
+            → OnOk result ((took : Output)
+            × writes self.now source body.entry.func (body_at body.entry) took.bytes
+            × S.takes sink.old sink.new took) }
     {
-        self.write_body(parsed, body, Needed::Nothing, scratch)?;
-        if sink.take(&mut scratch.raw) {
+        self.write_body(parsed, body, Needed::pairs_if(needs_pairs), scratch)?;
+        if sink.take(&mut scratch.raw, &mut scratch.pairs) {
             Ok(())
         } else {
             Err(ModuleError {
@@ -151,10 +164,11 @@ impl BodyWriter for Rewriting {
         &self,
         parsed: &mut ParsedModule<'a>,
         body: Body<'a>,
+        needs_pairs: bool,
         scratch: &mut Scratch,
         sink: &mut S,
     ) -> Result<(), ModuleError> {
-        parsed.rewrite_flat_to(body, scratch, sink)
+        parsed.rewrite_flat_to(body, needs_pairs, scratch, sink)
     }
 }
 

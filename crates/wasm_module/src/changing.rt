@@ -80,7 +80,7 @@ impl<'a> ParsedModule<'a> {
         let count = self.body_count();
         let mut kept = KeptBodies::new(self.alloc, self.imported(), count)?;
         let mut instrs = Vec::new(self.alloc);
-        let mut scratch = Scratch::new(self.alloc);
+        let mut scratch = Box::new(self.alloc, Scratch::new(self.alloc))?;
         let mut len = number_len(count);
         'bodies: for body in self.bodies() {
             let (instrs, scratch) = (&mut instrs, &mut scratch);

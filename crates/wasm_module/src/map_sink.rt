@@ -15,7 +15,7 @@ pub struct WrittenBody<'b> {
     /// The location pairs of its operators, in the order in which they are written: the place in
     /// the source of the operator that each comes from, or the default location if it comes from
     /// none; and its place in the written body, counted from `start`. Empty if `needs_pairs` is
-    /// false.
+    /// false. Of a large body these are some of them.
     pub pairs: &'b [(InstrLocId, usize)],
 }
 
@@ -24,7 +24,8 @@ pub trait MapSink {
     /// Whether the location pairs of bodies are wanted.
     fn needs_pairs(&self) -> bool;
 
-    /// Tells of a body, before it is written.
+    /// Tells of a body, before it is written. Of a large body it first tells with no pairs, and then,
+    /// before each piece of its bytes, with those of that piece.
     ///
     /// # Errors
     ///

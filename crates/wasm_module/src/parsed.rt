@@ -1,5 +1,5 @@
 //! A module that was read.
-ghost use Rattle.std.specs.Prelude.{◌≡◌, ◌<◌, ◌≤◌, ◌↔◌, List, length, nat_lt, IsTrue, IfOk};
+ghost use Rattle.std.specs.Prelude.{◌≡◌, ◌<◌, ◌≤◌, ◌↔◌, List, length, nat_lt, Ok, IsTrue, IfOk};
 ghost use Rattle.wasm_sections.specs.Sections.{SectionAt, IsModule, next_rank};
 ghost use Rattle.wasm_module.specs.WrittenModules.{count_bodies};
 
@@ -49,36 +49,52 @@ fn added_at(returned: Result<(), IndexError>, place: usize) -> Result<(), Module
     }
 }
 
+/// Success, if something was read.
+fn passed<T: Drop>(read: Result<T, ModuleError>) -> Result<(), ModuleError> {
+    match read {
+        Ok(_read) => Ok(()),
+        Err(error) => Err(error),
+    }
+}
+
 /// Reads past an item of a section of this kind, which isn't an import, export, function or tag.
 fn pass_item(kind: SectionKind, input: &mut Input<'_>) -> Result<(), ModuleError> {
     match kind {
-        SectionKind::Table => match input.table() {
-            Ok(_) => Ok(()),
-            Err(error) => Err(error),
-        },
-        SectionKind::Memory => match input.memory() {
-            Ok(_) => Ok(()),
-            Err(error) => Err(error),
-        },
-        SectionKind::Global => match input.global() {
-            Ok(_) => Ok(()),
-            Err(error) => Err(error),
-        },
+        SectionKind::Table => passed(input.table()),
+        SectionKind::Memory => passed(input.memory()),
+        SectionKind::Global => passed(input.global()),
         SectionKind::Element => input.element_segment(),
         _ => input.data_segment(),
     }
 }
 
+/// The value, unless there is an error. A function that drops a large value itself takes long to
+/// prove; here it has no parts.
+pub(crate) fn value_if<T: Drop>(done: Result<(), ModuleError>, value: T) -> Result<T, ModuleError>
+    ensures { IfOk result (λ made. made ≡ value) }
+{
+    match done {
+        Ok(()) => Ok(value),
+        Err(error) => Err(error),
+    }
+}
+
+/// The value in a box, unless there is an error.
+fn in_box<T: Drop>(alloc: Global, made: Result<T, ModuleError>) -> Result<Box<T>, ModuleError>
+    ensures { IfOk result (λ boxed. made ≡ Ok boxed.value) }
+{
+    match made {
+        Ok(value) => Ok(Box::new(alloc, value)?),
+        Err(error) => Err(error),
+    }
+}
+
 impl<'a> ParsedModule<'a> {
-    /// Reads a module, but not yet the bodies of its functions.
-    ///
-    /// # Errors
-    ///
-    /// The first fault of its sections, with its place, or `Memory`.
-    pub fn read(alloc: Global, bytes: &'a [u8]) -> Result<ParsedModule<'a>, ModuleError>
-        ensures { IfOk result (λ parsed. parsed.bytes.now ≡ bytes.now) }
+    /// A module with these bytes, of which nothing is read.
+    fn unread(alloc: Global, bytes: &'a [u8]) -> ParsedModule<'a>
+        ensures { result.bytes.now ≡ bytes.now }
     {
-        let mut parsed = ParsedModule {
+        ParsedModule {
             alloc,
             bytes,
             module: Module {
@@ -92,16 +108,35 @@ impl<'a> ParsedModule<'a> {
             imported: 0,
             code: None,
             data_count: None,
-        };
-        match parsed.read_sections() {
-            Ok(()) => {
-                // It has these bytes already. They are set here, so no contract of a function that
-                // reads sections has to say so.
-                parsed.bytes = bytes;
-                Ok(parsed)
-            }
-            Err(error) => Err(error),
         }
+    }
+
+    /// Reads a module, but not yet the bodies of its functions.
+    ///
+    /// # Errors
+    ///
+    /// The first fault of its sections, with its place, or `Memory`.
+    pub fn read(alloc: Global, bytes: &'a [u8]) -> Result<ParsedModule<'a>, ModuleError>
+        ensures { IfOk result (λ parsed. parsed.bytes.now ≡ bytes.now) }
+    {
+        let mut parsed = ParsedModule::unread(alloc, bytes);
+        let read = parsed.read_sections();
+        // It has these bytes already. They are set here, so no contract of a function that reads
+        // sections has to say so.
+        parsed.bytes = bytes;
+        value_if(read, parsed)
+    }
+
+    /// The same, in a box: a function of a proved program that owns a module itself takes long to
+    /// prove.
+    ///
+    /// # Errors
+    ///
+    /// Those of `read`.
+    pub fn read_in_box(alloc: Global, bytes: &'a [u8]) -> Result<Box<ParsedModule<'a>>, ModuleError>
+        ensures { IfOk result (λ parsed. parsed.value.bytes.now ≡ bytes.now) }
+    {
+        in_box(alloc, ParsedModule::read(alloc, bytes))
     }
 
     /// The bytes that it was read from.

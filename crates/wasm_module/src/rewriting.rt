@@ -160,7 +160,7 @@ impl<'a> ParsedModule<'a> {
     ) -> Result<usize, ModuleError>
         ensures { OnOk result (Extends self.old self.new) }
     {
-        let mut scratch = Scratch::new(self.alloc);
+        let mut scratch = Box::new(self.alloc, Scratch::new(self.alloc))?;
         let mut len = number_len(self.body_count());
         'bodies: for body in self.bodies() {
             len = len.saturating_add(self.measure_body(bodies, body, followers, &mut scratch)?);

@@ -13,11 +13,11 @@ ghost use Rattle.wasm_module.specs.WrittenModules.{Puts, new_contents_in, betwee
 
 use crate::bodies::Scratch;
 use crate::body_writer::{BodyWriter, Needed};
-use crate::large_bodies::Output;
+use crate::large_bodies::BodyOutput;
 use crate::map_sink::{MapLines, MapSink, NoMap, WrittenBody};
 use crate::parsed::ParsedModule;
 use crate::rewriting::RewrittenModule;
-use std::alloc::Global;
+use std::alloc::{AllocError, AllocFailed, Global};
 use std::io;
 use std::io::Write;
 use wasm_sections::{
@@ -37,6 +37,12 @@ pub enum WriteError {
 impl From<ModuleError> for WriteError {
     fn from(error: ModuleError) -> WriteError {
         WriteError::Module(error)
+    }
+}
+
+impl<T: Drop> From<AllocFailed<T>> for WriteError {
+    fn from(_failed: AllocFailed<T>) -> WriteError {
+        WriteError::Module(ModuleError::from(AllocError))
     }
 }
 
@@ -135,12 +141,14 @@ fn put_between<W: Write>(
 }
 
 impl<'a> ParsedModule<'a> {
-    /// Writes a large body of so many bytes in pieces.
-    fn put_in_pieces<B: BodyWriter, W: Write>(
+    /// Writes a large body of so many bytes in pieces, from this place on.
+    fn put_in_pieces<B: BodyWriter, T: MapSink, W: Write>(
         &mut self,
         bodies: &B,
         body: Body<'a>,
         scratch: &mut Scratch,
+        sink: &mut T,
+        start: usize,
         len: usize,
         out: &mut W,
     ) -> Result<(), WriteError>
@@ -151,13 +159,16 @@ impl<'a> ParsedModule<'a> {
             × (len ≡ length raw)
             × Appends (W.contents out.old) (W.contents out.new) raw) }
     {
-        let mut output = Output {
+        let needs_pairs = sink.needs_pairs();
+        let mut output = BodyOutput {
+            listener: sink,
             out,
+            places: (body.start(), start),
             len: 0,
             error: None,
         };
-        let written = bodies.write_large_body(self, body, scratch, &mut output);
-        let Output {
+        let written = bodies.write_large_body(self, body, needs_pairs, scratch, &mut output);
+        let BodyOutput {
             len: count,
             error,
             ..
@@ -199,7 +210,7 @@ impl<'a> ParsedModule<'a> {
             start,
             pairs: &[],
         })?;
-        self.put_in_pieces(bodies, body, scratch, len, out)?;
+        self.put_in_pieces(bodies, body, scratch, sink, start, len, out)?;
         place_after(start, len)
     }
 
@@ -219,13 +230,10 @@ impl<'a> ParsedModule<'a> {
             × B.writes bodies.now source body.entry.func (body_at body.entry) raw
             × Puts (W.contents out.old) (W.contents out.new) at end (entry raw)) }
     {
-        if body.is_large() && !sink.needs_pairs() {
+        if body.is_large() {
             return self.put_large_body(bodies, body, scratch, sink, at, out);
         }
-        let needed = match sink.needs_pairs() {
-            true => Needed::Pairs,
-            false => Needed::Nothing,
-        };
+        let needed = Needed::pairs_if(sink.needs_pairs());
         bodies.write_body(self, body, needed, scratch)?;
         let raw = scratch.raw.as_slice();
         let start = put_number(self.alloc, raw.len(), at, out)?;
@@ -256,7 +264,7 @@ impl<'a> ParsedModule<'a> {
             × (contents : List ℕ) × HasItemsOf code (added_bodies rewritten.now.changes) contents
             × Puts (W.contents out.old) (W.contents out.new) at end contents) }
     {
-        let mut scratch = Scratch::new(self.alloc);
+        let mut scratch = Box::new(self.alloc, Scratch::new(self.alloc))?;
         let (count, mut source) = Bodies::of_section(section.contents, self.imported())?;
         if count as usize != self.body_count() {
             return Err(WriteError::from(section.contents.fault(ModuleFault::BodyCount)));

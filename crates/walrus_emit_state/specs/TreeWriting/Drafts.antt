@@ -1,5 +1,5 @@
 -- Bytes and location pairs that are written aside, as contracts see them.
-use Rattle.std.specs.Prelude.{ℕ, Bool, List, ◌++◌}
+use Rattle.std.specs.Prelude.{ℕ, ◌+◌, Bool, List, [], ◌++◌, length}
 use Rattle.wasm_operators.specs.Operations.{RawOperation}
 use Rattle.wasm_body.specs.Translation.{Located}
 use Rattle.walrus_emit_state.specs.Emission.{Output, output_after, pairs_after}
@@ -20,6 +20,10 @@ with_bytes d bytes location = record d {
   output = record { bytes = d.output.bytes ++ bytes; pairs = pairs_after d.has_map d.base d.output location };
 }
 
--- with these bytes in the place of its own
-abbrev pub with_list : Drafted → List ℕ → Drafted
-with_list d bytes = record d { output = record { bytes = bytes; pairs = d.output.pairs } }
+-- with this output in the place of its own
+abbrev pub with_output : Drafted → Output → Drafted
+with_output d output = record d { output = output }
+
+-- nothing after what this one contains
+abbrev pub moved_on : Drafted → Drafted
+moved_on d = record { base = d.base + length d.output.bytes; has_map = d.has_map; output = record { bytes = []; pairs = [] } }

@@ -190,7 +190,7 @@ impl<'a> ParsedModule<'a> {
         self.check_functions(changes)?;
         let ty = self.type_to_add(function)?;
         let locals = self.locals_to_add(locals)?;
-        let mut scratch = Scratch::new(self.alloc);
+        let mut scratch = Box::new(self.alloc, Scratch::new(self.alloc))?;
         self.write_with(function, locals, &mut scratch)?;
         let id = self.number_function()?;
         match self.add_raw_function(changes, ty, &scratch.raw) {

@@ -27,8 +27,8 @@ returns-clause-rewritten g c =
     let made = c.write_body-made.result in
     let middle = c.write_body-made.new.sink in
     let takes = g.S.ByteSink.takes in
-    let ok = subst (λ (xs : List ℕ). IfOk made (OfWhole takes a.sink.now middle (Composes g.F.Fn (input_of a.module.now a.indices.now a.id a.ty (a.body.start + a.body.ops) xs a.on_instr_pos g.V.OpCheck.check (g.V.OpCheck.state a.validator)) (emit_input a.module.now a.out.now a.args.now) false))) c.operators-ops.ensures c.write_body-made.ensures.ok in
-    flat_to g.F.Fn (body_input a.module.now a.indices.now a.id a.ty a.body a.on_instr_pos g.V.OpCheck.check (g.V.OpCheck.state a.validator)) (emit_input a.module.now a.out.now a.args.now) takes a.sink.now middle c.finish_to.new.sink (g.met.S.ByteSink.one_by_one a.sink.now middle c.finish_to.new.sink) made ok c.finish_to.result c.finish_to.ensures.finishes
+    let ok = subst (λ (xs : List ℕ). IfOk made (OfWhole takes a.sink.now middle (Composes g.F.Fn (input_of a.module.now a.indices.now a.id a.ty (a.body.start + a.body.ops) xs a.on_instr_pos g.V.OpCheck.check (g.V.OpCheck.state a.validator)) (emit_input a.module.now a.out.now a.args.now) a.needs_pairs))) c.operators-ops.ensures c.write_body-made.ensures.ok in
+    flat_to g.F.Fn (body_input a.module.now a.indices.now a.id a.ty a.body a.on_instr_pos g.V.OpCheck.check (g.V.OpCheck.state a.validator)) (emit_input a.module.now a.out.now a.args.now) takes a.sink.now middle c.finish_to.new.sink (g.met.S.ByteSink.one_by_one a.sink.now middle c.finish_to.new.sink) a.needs_pairs made ok c.finish_to.result c.finish_to.ensures.finishes
 
 pub returns-clause-refused : goal.returns-clause-refused
 returns-clause-refused g c =

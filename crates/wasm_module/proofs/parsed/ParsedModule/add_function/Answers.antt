@@ -22,5 +22,5 @@ returns-in-Ok-clause-added c = λ all m.
           subst (λ (ls : List (ValType ℕ)). IsRawBodyOf (input_with c.args.self.now ls f) f.builder scratch.raw.items scratch.pairs.items) c.in_ok-locals.ensures
           c.in_ok-write_with.ensures.written;
       adds =
-          subst (λ (l : List ℕ). AddsRawFunction all c.args.changes.now c.add_raw_function.new.changes c.in_ok-ty.ty l) c.deref.ensures.value (c.in-Ok.ensures all here);
+          subst (λ (l : List ℕ). AddsRawFunction all c.args.changes.now c.add_raw_function.new.changes c.in_ok-ty.ty l) c.deref-2.ensures.value (c.in-Ok.ensures all here);
     }
