@@ -78,7 +78,7 @@ fn filter_bytes<'w, R: Print + AllocGlobal, T: Tool>(
     path: &'w str,
     bytes: &[u8],
 ) -> Result<(), Failure<'w>> {
-    match ParsedModule::read(rt.alloc(), bytes) {
+    match ParsedModule::read_in_box(rt.alloc(), bytes) {
         Ok(mut parsed) => print_changed(rt, tool, path, &mut parsed),
         Err(error) => Err(Failure::refused(rt.alloc(), path, None, &error)),
     }

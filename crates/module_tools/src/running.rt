@@ -509,7 +509,7 @@ fn run_over<'w, 'a, R: Files + Input + Clock + Print + Eprint + AllocGlobal + Dr
     bytes: &'a [u8],
     progress: &'a Progress<'a, R>,
 ) -> Result<Done, Failure<'w>> {
-    let mut parsed = match ParsedModule::read(rt.alloc(), bytes) {
+    let mut parsed = match ParsedModule::read_in_box(rt.alloc(), bytes) {
         Ok(parsed) => parsed,
         Err(error) => return Err(Failure::refused(rt.alloc(), task.input, None, &error)),
     };

@@ -1,6 +1,5 @@
 //! Tables of modules, with what is checked about each and the expected result, as text. A module is
 //! given as its preamble and its sections in hexadecimal, with spaces between them.
-ghost use Rattle.std.specs.Prelude.{◌≡◌, IfOk};
 
 use crate::additions::push_has_globals;
 use crate::making::Step;
@@ -9,7 +8,7 @@ use crate::views::{
     push_bodies, push_has_bodies, push_references, push_storage, push_viewed, push_visited,
 };
 use crate::whole_modules::{Change, Output, push_changed};
-use std::alloc::{AllocError, Global};
+use std::alloc::Global;
 use std::process::Abort;
 use std::test::Fail;
 use wasm_module::{ModuleError, ParsedModule};
@@ -55,28 +54,13 @@ fn push_result(
     }
 }
 
-// Puts a value in a box.
-fn in_box<T: Drop>(alloc: Global, value: T) -> Result<Box<T>, AllocError>
-    ensures { IfOk result (λ boxed. boxed.value ≡ value) }
-{
-    Ok(Box::new(alloc, value)?)
-}
-
-/// Reads a module, into a box: a function that owns a module itself takes long to prove.
-pub(crate) fn read(alloc: Global, bytes: &[u8]) -> Result<Box<ParsedModule<'_>>, ModuleError> {
-    match ParsedModule::read(alloc, bytes) {
-        Ok(parsed) => Ok(in_box(alloc, parsed)?),
-        Err(error) => Err(error),
-    }
-}
-
 /// Appends the result for the module with these bytes.
 pub(crate) fn push_found(
     text: &mut String,
     query: Query<'_>,
     bytes: &[u8],
 ) -> Result<(), ModuleError> {
-    let mut parsed = read(*text.allocator(), bytes)?;
+    let mut parsed = ParsedModule::read_in_box(*text.allocator(), bytes)?;
     push_result(text, query, &mut parsed)
 }
 

@@ -1,5 +1,4 @@
 //! How a module is written, and what is told of the module that is written.
-use crate::cases::read;
 use crate::importing::CallFirst;
 use crate::making::{Step, make_all};
 use crate::new_locals::NewLocals;
@@ -59,7 +58,7 @@ fn push_other_bytes<B: BodyWriter>(
     bytes: &[u8],
     rewritten: &RewrittenModule<'_, B>,
 ) -> Result<(), ModuleError> {
-    let mut parsed = read(*text.allocator(), bytes)?;
+    let mut parsed = ParsedModule::read_in_box(*text.allocator(), bytes)?;
     push_written(text, &mut parsed, rewritten)
 }
 

@@ -1,10 +1,10 @@
 //! `wbench`: passes over the bodies of a module, to measure what a pass costs.
 
-ghost use Rattle.std.specs.Prelude.{◌≡◌, ◌≤◌, IfOk};
+ghost use Rattle.std.specs.Prelude.{◌≤◌, IfOk};
 ghost use Rattle.std.specs.Process.{exit_status};
 
 use module_tools::{exit_code, read_file, words};
-use std::alloc::{AllocError, Global};
+use std::alloc::Global;
 use std::io;
 use std::process::ExitCode;
 use std::rt::{Env, Files};
@@ -225,24 +225,9 @@ fn measure_parsed(
     }
 }
 
-/// Puts a value in a box.
-fn in_box<T: Drop>(alloc: Global, value: T) -> Result<Box<T>, AllocError>
-    ensures { IfOk result (λ boxed. boxed.value ≡ value) }
-{
-    Ok(Box::new(alloc, value)?)
-}
-
-/// Reads a module, into a box, which is dropped in one step.
-fn read(alloc: Global, bytes: &[u8]) -> Result<Box<ParsedModule<'_>>, ModuleError> {
-    match ParsedModule::read(alloc, bytes) {
-        Ok(parsed) => Ok(in_box(alloc, parsed)?),
-        Err(error) => Err(error),
-    }
-}
-
 /// Reads a module and measures it.
 fn measure(alloc: Global, task: Task<'_>, bytes: &[u8]) -> Result<Measured, ModuleError> {
-    let mut parsed = read(alloc, bytes)?;
+    let mut parsed = ParsedModule::read_in_box(alloc, bytes)?;
     measure_parsed(alloc, task, &mut parsed)
 }
 
