@@ -74,7 +74,7 @@ module _ {S F : Type 0} (asks : Shared F (Bor ℕ × Unit {0}) ℕ) (i : ParseIn
 
   -- ---- what is appended
 
-  module _ (has_map : Bool) (m : Result Drafted RewriteError) (ok : IfOk m (Composes asks i by has_map)) (err : IfErr m (RefusesRewriting asks i by)) (old new : List ℕ) where
+  module _ (has_map : Bool) (m : Result Drafted RewriteError) (ok : IfOk m (Composes asks i by has_map)) (old new : List ℕ) where
     pub flat_with_map : {Z : Type 0} → has_map ≡ true → (list left : LentPairs Z) → (r : Result (Unit {0}) RewriteError) → FinishesBoth m old new list.now.items left.now.items r →
         OnOk r (RewritesFlat asks i by old new (Some list) (inr (inl (left, tt))))
     flat_with_map has list left (Err e) h = tt
@@ -114,41 +114,17 @@ module _ {S F : Type 0} (asks : Shared F (Bor ℕ × Unit {0}) ℕ) (i : ParseIn
           appends_pairs = tt;
         }
 
-    -- ---- what was accepted
+  -- ---- what was accepted, and what is refused, wherever it goes
 
-    pub accepts_with_map : (ps qs : List Pair) (r : Result (Unit {0}) RewriteError) → FinishesBoth m old new ps qs r → OnOk r IsAcceptedSomehow
-    accepts_with_map ps qs (Err e) h = tt
-    accepts_with_map ps qs (Ok u) h = by_made m ok h
-      where
-        by_made : (n : Result Drafted RewriteError) → IfOk n (Composes asks i by has_map) → FinishesBoth n old new ps qs (Ok u) → IsAcceptedSomehow
-        by_made (Err f) k h = absurd h
-        by_made (Ok made) k h = (k.mapping, k.body, k.accepted)
+  pub accepts_to : (has_map : Bool) (goes : Output → Type 0) (m : Result Drafted RewriteError) → IfOk m (Composes asks i by has_map) → (r : Result (Unit {0}) RewriteError) → FinishesTo goes m r → OnOk r IsAcceptedSomehow
+  accepts_to has_map goes m ok (Err e) h = tt
+  accepts_to has_map goes (Ok made) ok (Ok u) h = (ok.mapping, ok.body, ok.accepted)
+  accepts_to has_map goes (Err f) ok (Ok u) h = absurd h
 
-    pub accepts_without_map : (r : Result (Unit {0}) RewriteError) → Finishes m old new r → OnOk r IsAcceptedSomehow
-    accepts_without_map (Err e) h = tt
-    accepts_without_map (Ok u) h = by_made m ok h
-      where
-        by_made : (n : Result Drafted RewriteError) → IfOk n (Composes asks i by has_map) → Finishes n old new (Ok u) → IsAcceptedSomehow
-        by_made (Err f) k h = absurd h
-        by_made (Ok made) k h = (k.mapping, k.body, k.accepted)
-
-    -- ---- what is refused
-
-    pub refused_with_map : (ps qs : List Pair) (r : Result (Unit {0}) RewriteError) → FinishesBoth m old new ps qs r → IfErr r (RefusesRewriting asks i by)
-    refused_with_map ps qs (Ok u) h = tt
-    refused_with_map ps qs (Err e) h = by_made m err h
-      where
-        by_made : (n : Result Drafted RewriteError) → IfErr n (RefusesRewriting asks i by) → FinishesBoth n old new ps qs (Err e) → RefusesRewriting asks i by e
-        by_made (Err f) k h = subst (RefusesRewriting asks i by) (sym h) k
-        by_made (Ok made) k h = subst (RefusesRewriting asks i by) (sym h) (inl refl)
-
-    pub refused_without_map : (r : Result (Unit {0}) RewriteError) → Finishes m old new r → IfErr r (RefusesRewriting asks i by)
-    refused_without_map (Ok u) h = tt
-    refused_without_map (Err e) h = by_made m err h
-      where
-        by_made : (n : Result Drafted RewriteError) → IfErr n (RefusesRewriting asks i by) → Finishes n old new (Err e) → RefusesRewriting asks i by e
-        by_made (Err f) k h = subst (RefusesRewriting asks i by) (sym h) k
-        by_made (Ok made) k h = subst (RefusesRewriting asks i by) (sym h) (inl refl)
+  pub refused_to : (goes : Output → Type 0) (m : Result Drafted RewriteError) → IfErr m (RefusesRewriting asks i by) → (r : Result (Unit {0}) RewriteError) → FinishesTo goes m r → IfErr r (RefusesRewriting asks i by)
+  refused_to goes m err (Ok u) h = tt
+  refused_to goes (Ok made) err (Err e) h = subst (RefusesRewriting asks i by) (sym h) (inl refl)
+  refused_to goes (Err f) err (Err e) h = subst (RefusesRewriting asks i by) (sym h) err
 
   -- ---- to a sink
 
@@ -180,10 +156,9 @@ module _ {S F : Type 0} (asks : Shared F (Bor ℕ × Unit {0}) ℕ) (i : ParseIn
     flat_to (Err f) h (Ok u) end = absurd end
     flat_to (Err f) h (Err e) end = tt
 
-  pub refused_to : (goes : Output → Type 0) (m : Result Drafted RewriteError) → IfErr m (RefusesRewriting asks i by) → (r : Result (Unit {0}) RewriteError) → FinishesTo goes m r → IfErr r (RefusesRewriting asks i by)
-  refused_to goes m err (Ok u) h = tt
-  refused_to goes (Ok made) err (Err e) h = subst (RefusesRewriting asks i by) (sym h) (inl refl)
-  refused_to goes (Err f) err (Err e) h = subst (RefusesRewriting asks i by) (sym h) err
+  pub accepts_of_sink : (has_map : Bool) (taken : Output → Type 0) (r : Result (Unit {0}) RewriteError) → OnOk r ((took : Output) × taken took × RewritesTo asks i by has_map took) → OnOk r IsAcceptedSomehow
+  accepts_of_sink has_map taken (Ok u) h = (h.2.rewrites.mapping, h.2.rewrites.body, h.2.rewrites.accepted)
+  accepts_of_sink has_map taken (Err e) h = tt
 
   -- a body that is accepted with one location function has no first fault with another
   no_fault : (l m : Option (ℕ → ℕ)) (b : Body Occurrence) (f : ParseFailure) → BothOrNone l m → Accepted (setting_with i m) i.bytes b → FirstFault (setting_with i l) i.bytes f → ⊥

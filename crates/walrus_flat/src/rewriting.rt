@@ -557,6 +557,16 @@ pub fn rewrite_flat_to<V: OpCheck, F: Fn(&usize) -> InstrLocId, S: ByteSink>(
           types = «module».now.locals;
           args = args.now;
         })) }
+    ensures each_body { (locations : Option (ℕ → ℕ)) (b : Body Occurrence)
+        → BothOrNone on_instr_pos.entry locations
+        → Accepted (body_setting «module».now indices.now id ty body.entry V.check
+        (V.state validator) locations) (body_operators body.entry) b
+        → IfErr result IsOfWriting }
+    ensures each_fault { (locations : Option (ℕ → ℕ)) (f : Failure)
+        → BothOrNone on_instr_pos.entry locations
+        → FirstFault (body_setting «module».now indices.now id ty body.entry V.check
+        (V.state validator) locations) (body_operators body.entry) f
+        → IsErr result × IfErr result (λ e. IsOutOfMemory e ⊎ (e ≡ Parse f)) }
     ensures untouched { IfErr result (IsUntouched sink.old sink.new) }
 {
     let alloc = *buffer.allocator();
