@@ -1,6 +1,7 @@
 use Rattle.std.proofs.Common.{ℕ, List, sym, ap, subst, ◌∙◌}
 use Rattle.wasm_types.specs.declared.val_type.ValType.{ValType}
 use Rattle.walrus_rewrite.specs.RawBodies.{IsRawBodyOf}
+use Rattle.wasm_module.specs.declared.bodies.Scratch.{Scratch}
 use Rattle.wasm_module.specs.declared.parsed.ParsedModule.{ParsedModule}
 use Rattle.wasm_module.specs.AddedFunctions.{input_with, AddsRawFunction}
 use Rattle.wasm_sections.specs.Sections.{IsModule}
@@ -22,5 +23,5 @@ returns-in-Ok-clause-added c = λ all m.
           subst (λ (ls : List (ValType ℕ)). IsRawBodyOf (input_with c.args.self.now ls f) f.builder scratch.raw.items scratch.pairs.items) c.in_ok-locals.ensures
           c.in_ok-write_with.ensures.written;
       adds =
-          subst (λ (l : List ℕ). AddsRawFunction all c.args.changes.now c.add_raw_function.new.changes c.in_ok-ty.ty l) c.deref-2.ensures.value (c.in-Ok.ensures all here);
+          subst (λ (l : List ℕ). AddsRawFunction all c.args.changes.now c.add_raw_function.new.changes c.in_ok-ty.ty l) (c.deref-2.ensures.value ∙ ap (λ (s : Scratch). s.raw.items) c.deref.ensures) (c.in-Ok.ensures all here);
     }
