@@ -4,13 +4,8 @@ ghost use Rattle.wasm_body.specs.declared.error.EmitError.TheVariants.{Memory};
 ghost use Rattle.wasm_flat.specs.Flat.{first_state};
 ghost use Rattle.walrus_rewrite.specs.RawBodies.{Begins, IsNotBegun};
 ghost use Rattle.walrus_maps.specs.Environments.{environment_of};
-ghost use Rattle.wasm_body.specs.declared.error.ParseFailure.{ParseFailure as Failure};
-ghost use Rattle.wasm_body.specs.SourceTree.{Body};
-ghost use Rattle.wasm_body.specs.Naming.{Occurrence};
-ghost use Rattle.wasm_body.specs.Parsing.Accepted.{Accepted, FirstFault};
-ghost use Rattle.walrus_parser.specs.Bodies.{input_of, body_input, body_setting, body_operators};
+ghost use Rattle.walrus_parser.specs.Bodies.{input_of, body_input, IfAccepted, IfFirstFault};
 ghost use Rattle.walrus_validators.specs.Locating.{MayCall};
-ghost use Rattle.walrus_parser.specs.Settings.{BothOrNone};
 ghost use Rattle.walrus_body.specs.EmittedInstructions.{KeepsPairs};
 ghost use Rattle.walrus_numbering.specs.NumberMaps.{numbers_by};
 ghost use Rattle.walrus_emit_state.specs.Emission.{Output};
@@ -427,16 +422,11 @@ pub fn rewrite_flat<V: OpCheck, F: Fn(&usize) -> InstrLocId>(
         })) }
     // No accepted body is refused by the parse unless memory runs out, and each first fault is
     // returned.
-    ensures each_body { (locations : Option (ℕ → ℕ)) (b : Body Occurrence)
-        → BothOrNone on_instr_pos.entry locations
-        → Accepted (body_setting «module».now indices.now id ty body.entry V.check
-        (V.state validator) locations) (body_operators body.entry) b
-        → IfErr result IsOfWriting }
-    ensures each_fault { (locations : Option (ℕ → ℕ)) (f : Failure)
-        → BothOrNone on_instr_pos.entry locations
-        → FirstFault (body_setting «module».now indices.now id ty body.entry V.check
-        (V.state validator) locations) (body_operators body.entry) f
-        → IsErr result × IfErr result (λ e. IsOutOfMemory e ⊎ (e ≡ Parse f)) }
+    ensures each_body { IfAccepted (body_input «module».now indices.now id ty body.entry
+        on_instr_pos.entry V.check (V.state validator)) (IfErr result IsOfWriting) }
+    ensures each_fault { IfFirstFault (body_input «module».now indices.now id ty body.entry
+        on_instr_pos.entry V.check (V.state validator))
+        (λ f. IsErr result × IfErr result (λ e. IsOutOfMemory e ⊎ (e ≡ Parse f))) }
     ensures same_bytes { OnErr result (dst.new.items ≡ dst.old.items) }
     ensures same_pairs { OnErr result (KeepsPairs map.entry map.exit) }
 {
@@ -557,16 +547,11 @@ pub fn rewrite_flat_to<V: OpCheck, F: Fn(&usize) -> InstrLocId, S: ByteSink>(
           types = «module».now.locals;
           args = args.now;
         })) }
-    ensures each_body { (locations : Option (ℕ → ℕ)) (b : Body Occurrence)
-        → BothOrNone on_instr_pos.entry locations
-        → Accepted (body_setting «module».now indices.now id ty body.entry V.check
-        (V.state validator) locations) (body_operators body.entry) b
-        → IfErr result IsOfWriting }
-    ensures each_fault { (locations : Option (ℕ → ℕ)) (f : Failure)
-        → BothOrNone on_instr_pos.entry locations
-        → FirstFault (body_setting «module».now indices.now id ty body.entry V.check
-        (V.state validator) locations) (body_operators body.entry) f
-        → IsErr result × IfErr result (λ e. IsOutOfMemory e ⊎ (e ≡ Parse f)) }
+    ensures each_body { IfAccepted (body_input «module».now indices.now id ty body.entry
+        on_instr_pos.entry V.check (V.state validator)) (IfErr result IsOfWriting) }
+    ensures each_fault { IfFirstFault (body_input «module».now indices.now id ty body.entry
+        on_instr_pos.entry V.check (V.state validator))
+        (λ f. IsErr result × IfErr result (λ e. IsOutOfMemory e ⊎ (e ≡ Parse f))) }
     ensures untouched { IfErr result (IsUntouched sink.old sink.new) }
 {
     let alloc = *buffer.allocator();

@@ -58,6 +58,18 @@ pub fn append_lists(
     append_both(dst, map, &bytes, &pairs)
 }
 
+/// Gives the memory of two empty lists back, so that it isn't held while those are made that take their
+/// place.
+fn free_if_empty(dst: &mut Vec<u8>, map: &mut Vec<(InstrLocId, usize)>)
+    ensures bytes { dst.new.items ≡ dst.old.items }
+    ensures pairs { map.new.items ≡ map.old.items }
+{
+    if dst.is_empty() && map.is_empty() {
+        *dst = Vec::new(*dst.allocator());
+        *map = Vec::new(*map.allocator());
+    }
+}
+
 /// Appends the raw body of a function.
 ///
 /// # Errors
@@ -119,6 +131,7 @@ pub fn append_raw_body_with_map(
         Ok(facts) => facts,
         Err(fault) => return Err(RewriteError::Walk(fault)),
     };
+    free_if_empty(dst, map);
     let alloc = *dst.allocator();
     let mut pairs = Vec::new(alloc);
     let used = &facts.used_locals;

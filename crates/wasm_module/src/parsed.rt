@@ -70,7 +70,7 @@ fn pass_item(kind: SectionKind, input: &mut Input<'_>) -> Result<(), ModuleError
 
 /// The value, unless there is an error. A function that drops a large value itself takes long to
 /// prove; here it has no parts.
-pub(crate) fn value_if<T: Drop>(done: Result<(), ModuleError>, value: T) -> Result<T, ModuleError>
+fn value_if<T: Drop>(done: Result<(), ModuleError>, value: T) -> Result<T, ModuleError>
     ensures { IfOk result (λ made. made ≡ value) }
 {
     match done {
