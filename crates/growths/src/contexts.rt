@@ -180,7 +180,7 @@ fn fill(alloc: Global, of: &mut OfContext<'_>, count: usize) -> bool {
 /// Closes all frames.
 fn close_all(context: &mut ValidationContext<'_>) -> Result<(), AllocError> {
     for _ in 0..14 {
-        if close(context) == Err(ParseError::Memory) {
+        if let Err(ParseError::Memory) = close(context) {
             return Err(AllocError);
         }
     }

@@ -114,19 +114,37 @@ fn lengths(context: ValidationContext<'_>) -> [usize; 3] {
     [builder.count(), controls.len(), instrs.len()]
 }
 
+// What empty collections are like: each is owned by a function of its own, which drops it.
+
+/// Appends what calls would be made on. The value has no parts here, so dropping it is one step.
+fn show_of<S: Scenario + Drop>(scenario: S, text: &mut Text) {
+    scenario.show(text);
+}
+
+/// The size with which facts begin.
+fn first_size(alloc: Global) -> u64 {
+    FactsVisitor::new(alloc).facts.size
+}
+
+/// The number of segments with which they begin.
+fn first_segments(alloc: Global) -> usize {
+    DataSegmentsVisitor::new(alloc).segments.len()
+}
+
+/// Whether a function without sequences has an entry.
+fn has_entry(alloc: Global, ty: TypeId) -> bool {
+    let builder = FunctionBuilder::without_entry(alloc, ty);
+    LocalFunction::new(Vec::new(alloc), builder).has_entry()
+}
+
 /// Makes empty collections: appends the sizes and the number of segments with which visitors begin,
 /// and whether a function without sequences has an entry.
 fn make_collections(text: &mut Text, alloc: Global, demo: &Demo<'_>) {
-    Items::new(alloc, Item::Tag).show(text);
-    Maps::new(alloc, Kind::OldLocal, 0).show(text);
-    let size = FactsVisitor::new(alloc).facts.size;
-    write!(text, " {:?}", [size, SizeVisitor::new().size]);
-    push_numbers(text, &[DataSegmentsVisitor::new(alloc).segments.len()]);
-    let builder = FunctionBuilder::without_entry(alloc, demo.ty);
-    push_flags(
-        text,
-        &[LocalFunction::new(Vec::new(alloc), builder).has_entry()],
-    );
+    show_of(Items::new(alloc, Item::Tag), text);
+    show_of(Maps::new(alloc, Kind::OldLocal, 0), text);
+    write!(text, " {:?}", [first_size(alloc), SizeVisitor::new().size]);
+    push_numbers(text, &[first_segments(alloc)]);
+    push_flags(text, &[has_entry(alloc, demo.ty)]);
     push_numbers(text, &lengths(without_frame(alloc, demo)));
 }
 
