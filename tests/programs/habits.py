@@ -28,7 +28,8 @@ def _(room):
         out = room.works(program, "--version")
         same(out, room.works(program, "-V"))
         same(out, room.works(program, "a", "--version"))
-        assert re.fullmatch(rf"{program} \d+\.\d+\.\d+\n", out.decode()), out
+        # the programs that are tried here were proved
+        same(out, f"{program} 0.2.0 (proved)\n".encode())
 
 
 @case("no words")

@@ -17,6 +17,7 @@ mod snipping;
 mod source_map_places;
 mod source_maps;
 mod usage_error;
+mod version;
 mod warnings;
 mod writing;
 
@@ -28,6 +29,7 @@ pub use filtering::filter;
 pub use names::{Found, FunctionNames, function_at};
 pub use program::{MapPaths, Program, Request, Task, read_arguments};
 pub use progress::{Progress, Watched, WatchedChange};
-pub use running::{NoChange, Terminals, Tool, VERSION, run};
+pub use running::{NoChange, Terminals, Tool, run};
 pub use snipping::{Snipping, snip};
 pub use usage_error::UsageError;
+pub use version::{BUILD, VERSION};

@@ -12,6 +12,7 @@ use crate::progress::{Progress, Watched, WatchedChange};
 use crate::source_map_places::check_source_maps;
 use crate::source_maps::read_source_map;
 use crate::usage_error::UsageError;
+use crate::version::{BUILD, VERSION};
 use crate::warnings::warn;
 use crate::writing::write_module;
 use source_map_json::SourceMap;
@@ -26,9 +27,6 @@ use wasm_module::{
     Body, BodyWriter, ChangeFunction, Changes, KeptBodies, ModuleError, ModuleFault, ParsedModule,
     Rewriting, RewrittenModule, Scratch,
 };
-
-/// The version of the programs.
-pub const VERSION: &str = "0.1.0";
 
 /// Which of the standard streams are terminals.
 #[derive(Clone, Copy)]
@@ -641,7 +639,7 @@ fn run_arguments<R: Files + Input + Clock + Print + Eprint + AllocGlobal + Drop,
             Ok(ExitCode::SUCCESS)
         }
         Ok(Request::Version) => {
-            println!(rt; "{} {VERSION}", program.name)?;
+            println!(rt; "{} {VERSION} ({BUILD})", program.name)?;
             Ok(ExitCode::SUCCESS)
         }
         Err(failure) => Ok(exit_code(rt, program.name, failure)),

@@ -14,7 +14,7 @@ mod snipping;
 
 use counting::Count;
 use measuring::run_passes;
-use module_tools::{Failure, Terminals, UsageError, VERSION, exit_code, run, words};
+use module_tools::{BUILD, Failure, Terminals, UsageError, VERSION, exit_code, run, words};
 use naming::{Chosen, asked};
 use rewriting::RewriteAll;
 use snipping::Snip;
@@ -70,7 +70,7 @@ fn print_page(rt: &(impl Print + Eprint), words: &[String]) -> io::Result<ExitCo
 {
     match requested_page(words) {
         Ok(Page::Help) => println!(rt; "{HELP}")?,
-        Ok(Page::Version) => println!(rt; "{NAME} {VERSION} (wrewrite, wsnip, wcount, wbench)")?,
+        Ok(Page::Version) => println!(rt; "{NAME} {VERSION} ({BUILD})")?,
         Err(wrong) => return Ok(exit_code(rt, NAME, Failure::UsageError(wrong))),
     }
     Ok(ExitCode::SUCCESS)
