@@ -10,7 +10,7 @@ use wasm_module::{Changes, ModuleError, ParsedModule, SectionKind};
 const EXPORTED: &str = "0061736d01000000 010401600000 03020100 07050101610000 0a040102000b";
 
 /// What is added to which module.
-const ADDED: [(&[Step<'static>], &str, &str); 14] = [
+const ADDED: [(&[Step<'static>], &str, &str); 16] = [
     // Globals of each type of numbers come after those of the module, or are the first.
     (
         &[
@@ -56,6 +56,22 @@ const ADDED: [(&[Step<'static>], &str, &str); 14] = [
         &[Step::Export(Item::Function(0), "a")],
         EXPORTED,
         "ExportTaken at 21",
+    ),
+    (
+        &[
+            Step::Export(Item::Function(0), "b"),
+            Step::Export(Item::Function(0), "b"),
+        ],
+        EXPORTED,
+        "ExportTaken at 0",
+    ),
+    (
+        &[
+            Step::Export(Item::Memory, "m"),
+            Step::Export(Item::Memory, "m"),
+        ],
+        "0061736d01000000 0503010001",
+        "ExportTaken at 0",
     ),
     // Active segments come after those of the module, and the data count, if there is one, is the new
     // number. A passive one always needs it.

@@ -3,6 +3,7 @@
 
 use crate::additions::push_has_globals;
 use crate::making::Step;
+use crate::omissions::{Omission, push_omitted};
 use crate::texts::{bytes_of, fault_text};
 use crate::views::{
     push_bodies, push_has_bodies, push_references, push_storage, push_viewed, push_visited,
@@ -28,6 +29,8 @@ pub(crate) enum Query<'i> {
     References,
     /// The functions that are visited, up to the one with this index, which is refused.
     Visited(usize),
+    /// What is written without these custom sections, and whether code has changed and moved.
+    Omitted(&'i [Omission]),
     /// Whether so many globals are added to a module without any.
     HasGlobals(i32),
     /// What is written after these steps and this change.
@@ -47,6 +50,7 @@ fn push_result(
         Query::Storage => push_storage(text, parsed),
         Query::References => push_references(text, parsed),
         Query::Visited(last) => push_visited(text, parsed, last),
+        Query::Omitted(omissions) => push_omitted(text, parsed, omissions),
         Query::HasGlobals(count) => push_has_globals(text, parsed, count),
         Query::Written(steps, change, output) => {
             push_changed(text, parsed, steps, change, output)

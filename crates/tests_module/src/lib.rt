@@ -21,6 +21,8 @@ mod new_locals;
 #[cfg(test)]
 mod numbering;
 #[cfg(test)]
+mod omissions;
+#[cfg(test)]
 mod texts;
 #[cfg(test)]
 mod views;

@@ -1,5 +1,5 @@
 -- The code section that is written, one body after the other.
-use Rattle.std.proofs.Common.{◌≡◌, ℕ, ◌+◌, ◌-◌, ◌<◌, List, [], ◌∷◌, ◌++◌, length, Option, Some, None, Ok, refl, sym, ap, subst, ◌∙◌, append_assoc, length-append, suc, arith}
+use Rattle.std.proofs.Common.{◌≡◌, ℕ, ◌+◌, ◌-◌, ◌<◌, List, [], ◌∷◌, ◌++◌, length, Option, Some, Ok, refl, sym, ap, subst, ◌∙◌, append_assoc, length-append, suc, arith}
 use Rattle.std.proofs.lemmas.List.{append-nil}
 use Rattle.std.specs.Prelude.{◌^◌}
 use Rattle.wasm_numbers.specs.Numbers.{u32, unsigned}
@@ -9,7 +9,7 @@ use Rattle.wasm_operators.proofs.ShortestNumbers.{unsigned_spelt}
 use Rattle.wasm_sections.specs.declared.code.Bodies.{Bodies}
 use Rattle.wasm_sections.specs.declared.code.Body.{Body}
 use Rattle.wasm_module.specs.declared.parsed.ParsedModule.{ParsedModule}
-use Rattle.wasm_sections.specs.CodeSections.{entry, entries, code_section, BodyAt, AreBodies, IsCode, body_at, bytes_of, place_of, TakesBody}
+use Rattle.wasm_sections.specs.CodeSections.{entry, entries, code_section, BodyAt, AreBodies, body_at, bytes_of, place_of, TakesBody}
 use Rattle.wasm_module.specs.RewrittenCode.{Extends}
 use Rattle.wasm_sections.specs.Sections.{SectionAt}
 use Rattle.wasm_module.specs.WrittenModules.{Puts, Writes, AreWritten, HasItemsOf, IsWrittenCode, count_bodies}

@@ -1,5 +1,5 @@
 -- Data segments that are added: their number, and the data count.
-use Rattle.std.proofs.Common.{◌≡◌, ◌≢◌, ◌+◌, ◌||◌, ℕ, Bool, true, false, is_some, List, Option, Some, None, Ok, refl, sym, ap, ◌∙◌, option_map, arith}
+use Rattle.std.proofs.Common.{◌≡◌, ◌≢◌, ◌+◌, ◌||◌, ℕ, true, false, is_some, List, Option, Some, None, Ok, refl, sym, ap, ◌∙◌, option_map, arith}
 use Rattle.wasm_numbers.specs.Numbers.{u32}
 use Rattle.wasm_numbers.proofs.Agreement.{ok_is}
 use Rattle.wasm_operators.specs.Shortest.{short_number}

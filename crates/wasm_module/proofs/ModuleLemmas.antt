@@ -1,10 +1,8 @@
 -- The parts of a module that don't change while its bodies are rewritten.
-use Rattle.std.proofs.Common.{◌≡◌, ℕ, List, [], ◌∷◌, ◌++◌, Result, Ok, Err, OnOk, refl, sym, ap, ◌∙◌, append_assoc}
+use Rattle.std.proofs.Common.{◌≡◌, List, [], ◌∷◌, ◌++◌, Result, Ok, Err, OnOk, refl, sym, ap, ◌∙◌, append_assoc}
 use Rattle.std.proofs.lemmas.List.{append-nil}
-use Rattle.wasm_types.specs.declared.val_type.ValType.{ValType}
 use Rattle.walrus_ir.specs.Types.{ModuleType}
 use Rattle.wasm_module.specs.declared.parsed.ParsedModule.{ParsedModule}
-use Rattle.wasm_sections.specs.declared.spaces.Spaces.{Spaces}
 use Rattle.wasm_sections.specs.OtherLocals.{HasOtherLocals}
 use Rattle.wasm_module.specs.RewrittenCode.{Extends}
 use Rattle.wasm_sections.proofs.SpaceLemmas.{others_same, others_then, others_kept}

@@ -1,18 +1,16 @@
 -- Sections that are given contents, and the places of new ones.
-use Rattle.std.proofs.Common.{◌≡◌, ◌≢◌, ◌≤◌, ◌<◌, ◌+◌, ℕ, zero, suc, add-one, Bool, true, false, List, [], ◌∷◌, ◌++◌, length, drop, get_or, nat_lt, ◌&&◌, if◌then◌else◌, Option, Some, None, Result, Ok, Err, refl, sym, ap, subst, ◌∙◌, append_assoc}
+use Rattle.std.proofs.Common.{◌≡◌, ◌≢◌, ◌≤◌, ◌<◌, ◌+◌, ℕ, zero, suc, add-one, Bool, true, false, List, [], ◌∷◌, ◌++◌, length, drop, get_or, nat_lt, ◌&&◌, if◌then◌else◌, Option, Some, None, Result, Ok, refl, sym, ap, subst, ◌∙◌, append_assoc}
 use Rattle.std.proofs.Math.Seq.{drop-cons, drop-append_seam}
 use Rattle.std.proofs.lemmas.Bool.{lt-ltb, le-ltb}
 use Rattle.std.proofs.lemmas.List.{append-nil, drop_all}
 use Rattle.wasm_numbers.specs.Numbers.{u32}
 use Rattle.wasm_numbers.proofs.Agreement.{ok_is}
-use Rattle.wasm_sections.specs.declared.changes.Changes.{Changes}
 use Rattle.wasm_sections.specs.declared.changes.NewContents.{NewContents}
 use Rattle.wasm_sections.specs.declared.fault.ModuleError.{ModuleError}
 use Rattle.wasm_sections.specs.declared.sections.Section.{Section}
 use Rattle.wasm_sections.specs.declared.sections.Sections.{Sections}
 use Rattle.wasm_sections.specs.Sections.{preamble, rank, next_rank, SectionAt, Begins, AreSections, IsModule, section, section_at, id_of, TakesSection}
-use Rattle.wasm_module.specs.declared.parsed.ParsedModule.{ParsedModule}
-use Rattle.wasm_module.specs.WrittenModules.{Puts, Writes, is_between, between, new_after, new_after_section}
+use Rattle.wasm_module.specs.WrittenModules.{Puts, is_between, between, new_after, new_after_section}
 use Rattle.wasm_module.proofs.WritingLemmas.{puts_then, puts_nothing, puts_same}
 
 -- ---- at the front of a module
@@ -151,7 +149,6 @@ all_new first second gs i old now at end p h =
 -- ---- after a section
 
 pub after_other :
-    (writes : Writes) (source : ParsedModule) (changes : Changes) (all : List SectionAt) (r : ℕ) → r ≢ 0 →
-    new_after changes.given.items all r ≡ new_after_section writes source changes all r
-after_other writes source changes all zero h = absurd (h refl)
-after_other writes source changes all (suc r) h = refl
+    (given : List NewContents) (all : List SectionAt) (r : ℕ) → r ≢ 0 → new_after given all r ≡ new_after_section given all r
+after_other given all zero h = absurd (h refl)
+after_other given all (suc r) h = refl

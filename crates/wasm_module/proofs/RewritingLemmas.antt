@@ -20,6 +20,7 @@ use Rattle.walrus_emit_state.specs.Emission.{Output}
 use Rattle.walrus_rewrite.specs.RawBodies.{EmitInput, emit_input, IsRawBodyOf, AppendsRawBody}
 use Rattle.walrus_rewrite.specs.RewrittenBodies.{Rewrites}
 use Rattle.walrus_flat.specs.RewrittenFlat.{RewritesFlat}
+use Rattle.wasm_module.specs.declared.body_writer.Measured.{Measured}
 use Rattle.wasm_module.specs.declared.parsed.ParsedModule.{ParsedModule}
 use Rattle.wasm_sections.specs.CodeSections.{BodyAt}
 use Rattle.wasm_sections.specs.Declarations.{parameters_of, HaveLocals, first_numbers}
@@ -173,9 +174,9 @@ rewritten_to source a function b goes (Err x) e p = tt
 
 -- of a number of bytes
 pub measured_then :
-    {E : Type 0} (source a : ParsedModule) (function : ℕ) (b : BodyAt) (r : Result ℕ E) → Extends source a →
-    IfOk r (λ len. (raw : List ℕ) × IsRewritten a function b raw × (len ≡ length raw)) → IfOk r (λ len. (raw : List ℕ) × IsRewritten source function b raw × (len ≡ length raw))
-measured_then source a function b (Ok len) e p = (p.0, rewritten_then source a function b p.0 e p.1, p.2)
+    {E : Type 0} (source a : ParsedModule) (function : ℕ) (b : BodyAt) (r : Result Measured E) → Extends source a →
+    IfOk r (λ m. (raw : List ℕ) × IsRewritten a function b raw × (m.len ≡ length raw)) → IfOk r (λ m. (raw : List ℕ) × IsRewritten source function b raw × (m.len ≡ length raw))
+measured_then source a function b (Ok m) e p = (p.0, rewritten_then source a function b p.0 e p.1, p.2)
 measured_then source a function b (Err x) e p = tt
 
 pub parsed_then :

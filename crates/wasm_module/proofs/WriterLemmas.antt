@@ -1,16 +1,17 @@
 -- A module that is written, in terms of another meaning of what is written for its bodies.
-use Rattle.std.proofs.Common.{◌≡◌, ℕ, zero, ◌+◌, ◌-◌, List, [], ◌∷◌, ◌++◌, length, slice_get, Option, Some, None, Result, Ok, Err, OnOk, IfOk, refl, sym, ap, subst, ◌∙◌, suc, arith}
+use Rattle.std.proofs.Common.{◌≡◌, ℕ, zero, ◌+◌, List, [], ◌∷◌, length, slice_get, Some, None, Result, Ok, Err, OnOk, IfOk, refl, sym, subst, ◌∙◌, suc, arith}
 use Rattle.std.proofs.lemmas.Option.{same_Some}
 use Rattle.wasm_types.specs.declared.val_type.ValType.{ValType}
 use Rattle.walrus_body.specs.FunctionParts.{FunctionParts}
 use Rattle.wasm_sections.specs.declared.changes.Changes.{Changes as NewSections}
+use Rattle.wasm_sections.specs.declared.omissions.OmittedSections.{OmittedSections}
 use Rattle.wasm_module.specs.declared.changing.kept_bodies.KeptBodies.{KeptBodies}
 use Rattle.wasm_module.specs.declared.parsed.ParsedModule.{ParsedModule}
 use Rattle.wasm_sections.specs.CodeSections.{BodyAt}
 use Rattle.wasm_module.specs.KeptCode.{bodies_in, raws_in, IsKept, AreKept, AreKeptAs, IsChangedCode}
 use Rattle.wasm_module.specs.RewrittenCode.{Extends, OneChange, FunctionChange, IsChanged, keeps_locals, alike, AreChanged}
 use Rattle.wasm_sections.specs.Sections.{SectionAt, IsModule}
-use Rattle.wasm_module.specs.WrittenModules.{Writes, AreWritten, IsWrittenCode, IsWrittenFor, IsWrittenAt, AreWrittenAt, IsWrittenModule}
+use Rattle.wasm_module.specs.WrittenModules.{Writes, AreWritten, IsWrittenCode, IsWrittenFor, AreWrittenAt, IsWrittenModule}
 use Rattle.wasm_module.specs.WrittenModules.IsWrittenFor.{code, replaced, carried_over, omitted}
 use Rattle.wasm_module.proofs.CodeLemmas.{same_bodies, same_count}
 use Rattle.wasm_module.proofs.KeptLemmas.{bodies_len, raws_len}
@@ -35,14 +36,14 @@ module _ (v w : Writes) (source now : ParsedModule) (x : Extends source now) (ea
     code_is = h.code_is;
   }
 
-  module _ (changes : NewSections) where
-    section_as : (s : SectionAt) (text : List ℕ) → IsWrittenFor v now changes s text → IsWrittenFor w source changes s text
+  module _ (changes : NewSections) (left_out : OmittedSections) where
+    section_as : (s : SectionAt) (text : List ℕ) → IsWrittenFor v now changes left_out s text → IsWrittenFor w source changes left_out s text
     section_as s text (code bodies contents i h m t) = code bodies contents i (code_as s bodies h) m t
-    section_as s text (replaced contents i h t) = replaced contents i h t
-    section_as s text (carried_over i h t) = carried_over i h t
+    section_as s text (replaced contents i n h t) = replaced contents i n h t
+    section_as s text (carried_over i n h t) = carried_over i n h t
     section_as s text (omitted h t) = omitted h t
 
-    sections_as : (all ss : List SectionAt) (text : List ℕ) → AreWrittenAt v now changes all ss text → AreWrittenAt w source changes all ss text
+    sections_as : (all ss : List SectionAt) (text : List ℕ) → AreWrittenAt v now changes left_out all ss text → AreWrittenAt w source changes left_out all ss text
     sections_as all [] text h = h
     sections_as all (s ∷ ss) text h = (
       h.0,
@@ -52,7 +53,7 @@ module _ (v w : Writes) (source now : ParsedModule) (x : Extends source now) (ea
       sections_as all ss h.1 h.4,
     )
 
-    pub module_as : (new : List ℕ) → IsWrittenModule v now changes new → IsWrittenModule w source changes new
+    pub module_as : (new : List ℕ) → IsWrittenModule v now changes left_out new → IsWrittenModule w source changes left_out new
     module_as new h = record {
       sections = h.sections;
       is_module = subst (λ (l : List ℕ). IsModule l h.sections) x.bytes h.is_module;
@@ -69,10 +70,10 @@ kept_then kept source now f b raw h = record { at = h.at; function_is = h.functi
 
 -- the module, of which each body is written as what was kept for it
 pub kept_module :
-    (w : Writes) (source now : ParsedModule) (kept : KeptBodies) (changes : NewSections) (new : List ℕ) → Extends source now → AreKeptAs w source kept →
-    IsWrittenModule (IsKept kept) now changes new → IsWrittenModule w source changes new
-kept_module w source now kept changes new x every h =
-    module_as (IsKept kept) w source now x (λ f b raw k. every f b raw (kept_then kept source now f b raw k)) changes new h
+    (w : Writes) (source now : ParsedModule) (kept : KeptBodies) (changes : NewSections) (left_out : OmittedSections) (new : List ℕ) → Extends source now → AreKeptAs w source kept →
+    IsWrittenModule (IsKept kept) now changes left_out new → IsWrittenModule w source changes left_out new
+kept_module w source now kept changes left_out new x every h =
+    module_as (IsKept kept) w source now x (λ f b raw k. every f b raw (kept_then kept source now f b raw k)) changes left_out new h
 
 -- ---- functions that are all changed alike
 

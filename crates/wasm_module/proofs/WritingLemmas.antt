@@ -1,6 +1,5 @@
 -- The bytes that are written, piece by piece.
-use Rattle.std.proofs.Common.{◌≡◌, ℕ, ◌+◌, List, [], ◌∷◌, ◌++◌, length, Option, Some, None, Result, Ok, Err, IfOk, refl, sym, ap, subst, ◌∙◌, append_assoc, length-append, arith}
-use Rattle.std.proofs.lemmas.List.{append-nil}
+use Rattle.std.proofs.Common.{◌≡◌, ℕ, ◌+◌, List, [], ◌++◌, length, Option, Result, Ok, Err, IfOk, ap, subst, ◌∙◌, length-append, arith}
 use Rattle.std.specs.Io.KnownBytes.{Appends}
 use Rattle.wasm_operators.specs.Shortest.{short_number}
 use Rattle.wasm_sections.specs.CodeSections.{entry}

@@ -1,6 +1,6 @@
 -- Items that are added to sections (WebAssembly core specification 3.0, binary format, modules): their bytes, each number in its
 -- shortest encoding.
-use Rattle.std.specs.Prelude.{◌≡◌, ◌≢◌, ◌+◌, ◌||◌, ℕ, ℤ, Bool, true, false, is_some, List, [], ◌∷◌, ◌++◌, length, Option, Some, Ok, IsOk, IsErr}
+use Rattle.std.specs.Prelude.{◌≡◌, ◌≢◌, ◌+◌, ◌||◌, ℕ, ℤ, Bool, true, false, is_some, List, ◌∷◌, ◌++◌, length, Option, Some, Ok, IsOk, IsErr}
 use Rattle.std.specs.List.{flat_map}
 use Rattle.wasm_types.specs.declared.val_type.ValType.{ValType}
 use Rattle.walrus_ir.specs.declared.value.Value.TheVariants.{I32}

@@ -1,7 +1,7 @@
 -- Modules that are written (WebAssembly core specification 3.0, binary format, modules), section by section. Each is unchanged,
 -- except the code section, sections that are given new contents, custom sections that are changed along with the code, and
--- debug information that is left out.
-use Rattle.std.specs.Prelude.{◌≡◌, ◌≢◌, ◌⊎◌, ◌+◌, ◌-◌, ℕ, zero, suc, List, [], ◌∷◌, ◌++◌, length, Bool, true, ◌&&◌, nat_lt, if◌then◌else◌, Option, Some, None, Ok, codes}
+-- custom sections that are left out.
+use Rattle.std.specs.Prelude.{◌≡◌, ◌≢◌, ◌⊎◌, ◌+◌, ◌-◌, ℕ, zero, suc, List, [], ◌∷◌, ◌++◌, length, Bool, true, false, ◌&&◌, nat_lt, if◌then◌else◌, Option, Some, None, Ok, codes}
 use Rattle.std.specs.Io.KnownBytes.{Appends}
 use Rattle.wasm_numbers.specs.Numbers.{u32}
 use Rattle.wasm_operators.specs.Shortest.{short_number}
@@ -11,7 +11,9 @@ use Rattle.wasm_module.specs.declared.parsed.ParsedModule.{ParsedModule}
 use Rattle.wasm_module.specs.declared.rewriting.RewrittenModule.{RewrittenModule}
 use Rattle.wasm_sections.specs.CodeSections.{BodyAt, IsCode, code_section, entry}
 use Rattle.wasm_sections.specs.GivenContents.{contents_in, added_bodies}
-use Rattle.wasm_sections.specs.Sections.{preamble, section, SectionAt, IsModule, rank, next_rank, id_of}
+use Rattle.wasm_sections.specs.Omissions.{omits_name, names_object}
+use Rattle.wasm_sections.specs.declared.omissions.OmittedSections.{OmittedSections}
+use Rattle.wasm_sections.specs.Sections.{preamble, section, SectionAt, IsModule, BeginsWithName, rank, next_rank, id_of}
 
 -- Bytes go to a writer, whose contents may be known, and the place moves from `at` to `end`, after them.
 pub record Puts (old new : Option (List ℕ)) (at end : ℕ) (bytes : List ℕ) : Type 0 where
@@ -39,25 +41,18 @@ between first second (g ∷ gs) =
 abbrev pub new_after : List NewContents → (all : List SectionAt) → (rank : ℕ) → List ℕ
 new_after given all r = between r (next_rank r all) given
 
+-- the same after a section; none after a custom one, whose rank is 0
+abbrev pub new_after_section : List NewContents → (all : List SectionAt) → (rank : ℕ) → List ℕ
+new_after_section given all zero = []
+new_after_section given all (suc r) = new_after given all (suc r)
+
 -- A custom section contains names, or metadata of code, by its name. Such sections are changed along with the code.
 abbrev pub HasFollowedName : (contents : List ℕ) → Type 0
 HasFollowedName contents =
     (name following : List ℕ) × (u32 contents ≡ Ok (length name, name ++ following))
     × ((name ≡ codes "name") ⊎ ((kind : List ℕ) × (name ≡ codes "metadata.code." ++ kind)))
 
--- a name of a section with debug information, or with its place (WebAssembly tool conventions, and DWARF for WebAssembly)
-abbrev pub IsDebugName : List ℕ → Type 0
-IsDebugName name = (name ≡ codes "sourceMappingURL") ⊎ ((name ≡ codes "external_debug_info") ⊎ ((kind : List ℕ) × (name ≡ codes ".debug_" ++ kind)))
-
--- A custom section contains debug information, or its place, by its name.
-abbrev pub HasDebugName : (contents : List ℕ) → Type 0
-HasDebugName contents = (name following : List ℕ) × (u32 contents ≡ Ok (length name, name ++ following)) × IsDebugName name
-
--- A custom section contains the URL of the source map, by its name.
-abbrev pub HasSourceMapName : (contents : List ℕ) → Type 0
-HasSourceMapName contents = (name following : List ℕ) × (u32 contents ≡ Ok (length name, name ++ following)) × (name ≡ codes "sourceMappingURL")
-
--- the contents of such a section, as they are written: its name, and the URL
+-- the contents of a custom section with the URL of a source map, as they are written: its name, and the URL
 abbrev pub url_contents : (url : List ℕ) → List ℕ
 url_contents url = entry (codes "sourceMappingURL") ++ entry url
 
@@ -71,11 +66,22 @@ pub data IsReplacedBy (changes : Changes) (s : SectionAt) (contents : List ℕ) 
 abbrev pub IsCarriedOver : Changes → SectionAt → Type 0
 IsCarriedOver changes s = s.id ≢ 0 → contents_in changes.given.items s.id ≡ None
 
--- Or it is left out on request: debug information, or the URL of the source map.
-pub record IsOmitted (changes : Changes) (s : SectionAt) : Type 0 where
+-- Or it is left out: a custom section, by its name.
+pub record IsOmitted (left_out : OmittedSections) (s : SectionAt) : Type 0 where
   pub is_custom : s.id ≡ 0
-  pub is_chosen :
-      ((changes.omits_debug ≡ true) × HasDebugName s.contents) ⊎ ((changes.omits_source_map ≡ true) × HasSourceMapName s.contents)
+  pub name : List ℕ
+  pub begins : BeginsWithName s.contents name
+  pub is_chosen : omits_name left_out name ≡ true
+
+-- A section that is written isn't left out: if it is a custom one, it has another name.
+abbrev pub IsNotOmitted : OmittedSections → SectionAt → Type 0
+IsNotOmitted left_out s = s.id ≡ 0 → (name : List ℕ) × BeginsWithName s.contents name × (omits_name left_out name ≡ false)
+
+-- ---- object files
+
+-- A section that a linked module may have: if it is a custom one, it contains no symbols or relocations, by its name.
+abbrev pub IsLinked : SectionAt → Type 0
+IsLinked s = s.id ≡ 0 → (name : List ℕ) × BeginsWithName s.contents name × (names_object name ≡ false)
 
 -- ---- bodies
 
@@ -116,27 +122,24 @@ module _ (writes : Writes) (source : ParsedModule) where
 
   -- ---- sections
 
-  module _ (changes : Changes) where
+  module _ (changes : Changes) (left_out : OmittedSections) where
     -- These bytes are written for a section.
     pub data IsWrittenFor (s : SectionAt) (text : List ℕ) : Type 0 where
       code :
           (bodies contents : List ℕ) → s.id ≡ 10 → IsWrittenCode s bodies → HasItemsOf bodies (added_bodies changes) contents →
           text ≡ section 10 contents → IsWrittenFor s text
-      replaced : (contents : List ℕ) → s.id ≢ 10 → IsReplacedBy changes s contents → text ≡ section s.id contents → IsWrittenFor s text
-      carried_over : s.id ≢ 10 → IsCarriedOver changes s → text ≡ s.whole → IsWrittenFor s text
-      omitted : IsOmitted changes s → text ≡ [] → IsWrittenFor s text
+      replaced :
+          (contents : List ℕ) → s.id ≢ 10 → IsNotOmitted left_out s → IsReplacedBy changes s contents → text ≡ section s.id contents →
+          IsWrittenFor s text
+      carried_over : s.id ≢ 10 → IsNotOmitted left_out s → IsCarriedOver changes s → text ≡ s.whole → IsWrittenFor s text
+      omitted : IsOmitted left_out s → text ≡ [] → IsWrittenFor s text
 
     module _ (all : List SectionAt) where
-      -- the new sections after a section; none after a custom one
-      abbrev pub new_after_section : (rank : ℕ) → List ℕ
-      new_after_section zero = []
-      new_after_section (suc r) = new_after changes.given.items all (suc r)
-
       -- These bytes are written for a section, and for the new sections after it.
       pub record IsWrittenAt (s : SectionAt) (text : List ℕ) : Type 0 where
         pub own : List ℕ
         pub is_written : IsWrittenFor s own
-        pub text_is : text ≡ own ++ new_after_section (rank s.id)
+        pub text_is : text ≡ own ++ new_after_section changes.given.items all (rank s.id)
 
       abbrev pub AreWrittenAt : List SectionAt → (text : List ℕ) → Type 0
       AreWrittenAt [] text = text ≡ []

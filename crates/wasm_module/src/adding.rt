@@ -16,9 +16,27 @@ use std::alloc::Global;
 use walrus_body::Space;
 use walrus_ir::{FunctionId, GlobalId, MemoryId, TableId, TagId, Value};
 use wasm_sections::{
-    Changes, Input, ModuleError, ModuleFault, SectionKind, export_kind, write_bytes, write_global,
-    write_number,
+    Changes, Exports, Input, Items, ModuleError, ModuleFault, SectionKind, export_kind,
+    write_bytes, write_global, write_number,
 };
+
+/// `ExportTaken`, without a place, if one of these exports, which are given, has this name.
+fn refuse_added_export(contents: &[u8], name: &str) -> Result<(), ModuleError> {
+    let items = Items::of_contents(Input::new(contents))?;
+    for export in (Exports { items }) {
+        match export {
+            Ok(export) if export.name == name => {
+                return Err(ModuleError {
+                    fault: ModuleFault::ExportTaken,
+                    at: 0,
+                });
+            }
+            Ok(_) => {}
+            Err(error) => return Err(error),
+        }
+    }
+    Ok(())
+}
 
 /// Appends an export: its name, the kind of what it names, and the index of that.
 #[tactic(auto, using(wasm_encode::proofs::Appending::appending))]
@@ -154,8 +172,8 @@ impl<'a> ParsedModule<'a> {
     ///
     /// # Errors
     ///
-    /// `BadExportKind` if nothing in this space can be exported; `ExportTaken`, with its place, if an
-    /// export of the source has this name; `TooGreat` if the index or the number of exports doesn't
+    /// `BadExportKind` if nothing in this space can be exported; `ExportTaken` if another export
+    /// has this name, with its place where it is of the source; `TooGreat` if the index or the number of exports doesn't
     /// fit 32 bits; or `Memory`.
     pub fn export(
         &self,
@@ -177,6 +195,9 @@ impl<'a> ParsedModule<'a> {
         if let Some(section) = self.section(SectionKind::Export)? {
             self.refuse_export(section.contents, name)?;
         }
+        if let Some(contents) = changes.contents_of(SectionKind::Export) {
+            refuse_added_export(contents, name)?;
+        }
         let mut item = Vec::new(self.alloc);
         write_export(&mut item, name, kind, index)?;
         match self.add_item(changes, SectionKind::Export, &item) {
@@ -190,7 +211,7 @@ impl<'a> ParsedModule<'a> {
     ///
     /// # Errors
     ///
-    /// `ExportTaken`, with its place, if an export of the source has this name; `TooGreat` if the
+    /// `ExportTaken` if another export has this name, with its place where it is of the source; `TooGreat` if the
     /// function's index or the number of exports doesn't fit 32 bits, or if functions were imported and
     /// the module has no such function; or `Memory`.
     pub fn export_function(
@@ -218,7 +239,7 @@ impl<'a> ParsedModule<'a> {
     ///
     /// # Errors
     ///
-    /// `ExportTaken`, with its place, if an export of the source has this name; `TooGreat` if the
+    /// `ExportTaken` if another export has this name, with its place where it is of the source; `TooGreat` if the
     /// table's index or the number of exports doesn't fit 32 bits; or `Memory`.
     pub fn export_table(
         &self,
@@ -237,7 +258,7 @@ impl<'a> ParsedModule<'a> {
     ///
     /// # Errors
     ///
-    /// `ExportTaken`, with its place, if an export of the source has this name; `TooGreat` if the
+    /// `ExportTaken` if another export has this name, with its place where it is of the source; `TooGreat` if the
     /// memory's index or the number of exports doesn't fit 32 bits; or `Memory`.
     pub fn export_memory(
         &self,
@@ -256,7 +277,7 @@ impl<'a> ParsedModule<'a> {
     ///
     /// # Errors
     ///
-    /// `ExportTaken`, with its place, if an export of the source has this name; `TooGreat` if the
+    /// `ExportTaken` if another export has this name, with its place where it is of the source; `TooGreat` if the
     /// global's index or the number of exports doesn't fit 32 bits; or `Memory`.
     pub fn export_global(
         &self,
@@ -275,7 +296,7 @@ impl<'a> ParsedModule<'a> {
     ///
     /// # Errors
     ///
-    /// `ExportTaken`, with its place, if an export of the source has this name; `TooGreat` if the
+    /// `ExportTaken` if another export has this name, with its place where it is of the source; `TooGreat` if the
     /// tag's index or the number of exports doesn't fit 32 bits; or `Memory`.
     pub fn export_tag(
         &self,

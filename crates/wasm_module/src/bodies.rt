@@ -1,14 +1,15 @@
 //! Bodies of a module: how they are parsed, rewritten and written.
 
-ghost use Rattle.std.specs.Prelude.{◌≡◌, ℕ, List, [], length, OnOk, IfOk, IfErr};
+ghost use Rattle.std.specs.Prelude.{◌≡◌, ℕ, List, [], length, bytes_eq, OnOk, IfOk, IfErr};
 ghost use Rattle.walrus_emit_state.specs.Emission.{Output};
 ghost use Rattle.walrus_rewrite.specs.RawBodies.{emit_input, IsRawBodyOf};
-ghost use Rattle.wasm_sections.specs.CodeSections.{body_at};
+ghost use Rattle.wasm_sections.specs.CodeSections.{body_at, bytes_of};
 ghost use Rattle.wasm_module.specs.RewrittenCode.{Extends, IsRewritten, IsParsed};
 ghost use Rattle.wasm_module.specs.Refusals.{IsRefused, IsNotRewritten};
 
 use crate::body_context::BodyContext;
 use crate::body_errors::body_error;
+use crate::body_writer::Measured;
 use crate::large_bodies::Counter;
 use crate::parsed::ParsedModule;
 use std::alloc::Global;
@@ -37,6 +38,17 @@ impl Scratch {
             flat: FlatScratch::new(alloc),
             raw: Vec::new(alloc),
             pairs: Vec::new(alloc),
+        }
+    }
+
+    /// What the raw body takes that was written last, for this body of the source.
+    pub(crate) fn measured(&self, source: Body<'_>) -> Measured
+        ensures len { result.len ≡ length self.now.raw.items }
+        ensures same { result.is_same ≡ bytes_eq self.now.raw.items (bytes_of source.entry) }
+    {
+        Measured {
+            len: self.raw.len(),
+            is_same: self.raw.as_slice() == source.bytes(),
         }
     }
 }
@@ -219,22 +231,27 @@ impl<'a> ParsedModule<'a> {
         &mut self,
         body: Body<'a>,
         scratch: &mut Scratch,
-    ) -> Result<usize, ModuleError>
+    ) -> Result<Measured, ModuleError>
         ensures extends { Extends self.old self.new }
-        ensures measured { IfOk result (λ len. (raw : List ℕ)
+        ensures measured { IfOk result (λ measured. (raw : List ℕ)
             × IsRewritten self.old body.entry.func (body_at body.entry) raw
-            × (len ≡ length raw)) }
+            × (measured.len ≡ length raw)) }
         ensures refused { IfErr result
             (IsNotRewritten self.old body.entry.func (body_at body.entry) self.new) }
     {
-        let mut counter = Counter { len: 0 };
+        let mut counter = Counter {
+            len: 0,
+            left: body.bytes(),
+            is_same: true,
+        };
         match self.rewrite_flat_to(body, false, scratch, &mut counter) {
-            Ok(()) => Ok(counter.len),
+            Ok(()) => Ok(counter.measured()),
             Err(error) => Err(error),
         }
     }
 
-    /// The number of bytes of the raw body that `rewrite_flat` makes, which isn't in memory all at once.
+    /// The number of bytes of the raw body that `rewrite_flat` makes, which isn't in memory all at once,
+    /// and whether it is the source's.
     ///
     /// # Errors
     ///
@@ -243,16 +260,16 @@ impl<'a> ParsedModule<'a> {
         &mut self,
         body: Body<'a>,
         scratch: &mut Scratch,
-    ) -> Result<usize, ModuleError>
+    ) -> Result<Measured, ModuleError>
         ensures extends { Extends self.old self.new }
-        ensures measured { IfOk result (λ len. (raw : List ℕ)
+        ensures measured { IfOk result (λ measured. (raw : List ℕ)
             × IsRewritten self.old body.entry.func (body_at body.entry) raw
-            × (len ≡ length raw)) }
+            × (measured.len ≡ length raw)) }
         ensures refused { IfErr result
             (IsNotRewritten self.old body.entry.func (body_at body.entry) self.new) }
     {
         match self.measure_flat_once(body, scratch) {
-            Ok(len) => Ok(len),
+            Ok(measured) => Ok(measured),
             Err(error) => {
                 if !needs_type(&error) {
                     return Err(error);

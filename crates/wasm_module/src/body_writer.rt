@@ -36,6 +36,15 @@ impl Needed {
     }
 }
 
+/// What a body takes when it is written.
+#[derive(Clone, Copy, Debug, PartialEq, Eq)]
+pub struct Measured {
+    /// The number of its bytes.
+    pub len: usize,
+    /// Whether these are the bytes that it has in the source.
+    pub is_same: bool,
+}
+
 /// How each body of a module is written. It is called twice for a body: in the first pass, to find
 /// its faults, its size and the new contents of custom sections, and in the second, to write it. A
 /// large one of whose function nothing else is needed is counted in both, and then written in pieces.
@@ -62,8 +71,8 @@ pub trait BodyWriter {
             → OnOk result (writes self.now source body.entry.func (body_at body.entry)
             scratch.new.raw.items) };
 
-    /// The number of bytes of the raw body that is written for one of which nothing else is needed. It
-    /// is called for a large body before `write_large_body`.
+    /// The number of bytes of the raw body that is written for one of which nothing else is needed, and
+    /// whether it is the source's. It is called for a large body before `write_large_body`.
     ///
     /// # Errors
     ///
@@ -73,15 +82,15 @@ pub trait BodyWriter {
         parsed: &mut ParsedModule<'a>,
         body: Body<'a>,
         scratch: &mut Scratch,
-    ) -> Result<usize, ModuleError>
+    ) -> Result<Measured, ModuleError>
         ensures extends { OnOk result (Extends parsed.old parsed.new) }
         ensures measured { (source : Parsed) → Extends source parsed.old
-            → IfOk result (λ len. (raw : List ℕ)
+            → IfOk result (λ measured. (raw : List ℕ)
             × writes self.now source body.entry.func (body_at body.entry) raw
-            × (len ≡ length raw)) }
+            × (measured.len ≡ length raw)) }
     {
         self.write_body(parsed, body, Needed::Nothing, scratch)?;
-        Ok(scratch.raw.len())
+        Ok(scratch.measured(body))
     }
 
     /// Writes the raw body to a sink, and its location pairs if they are needed: at once, unless the
@@ -156,7 +165,7 @@ impl BodyWriter for Rewriting {
         parsed: &mut ParsedModule<'a>,
         body: Body<'a>,
         scratch: &mut Scratch,
-    ) -> Result<usize, ModuleError> {
+    ) -> Result<Measured, ModuleError> {
         parsed.measure_flat(body, scratch)
     }
 

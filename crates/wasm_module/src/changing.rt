@@ -2,24 +2,26 @@
 //! bodies and changes, the new size and the new contents of custom sections, before anything is
 //! written; and its new body is kept.
 
-ghost use Rattle.std.specs.Prelude.{◌≡◌, [], OnOk, IfOk};
+ghost use Rattle.std.specs.Prelude.{◌≡◌, List, OnOk, IfOk};
 ghost use Rattle.wasm_module.specs.declared.parsed.ParsedModule.{ParsedModule as Parsed};
 ghost use Rattle.wasm_sections.specs.CodeSections.{body_at};
 ghost use Rattle.wasm_module.specs.KeptCode.{AreKept, KeepsChanged};
 ghost use Rattle.wasm_module.specs.RewrittenCode.{Extends, IsChanged};
-ghost use Rattle.wasm_module.specs.WrittenModules.{new_contents_in};
+ghost use Rattle.wasm_module.specs.WrittenModules.{IsLinked};
+ghost use Rattle.wasm_sections.specs.Omissions.{OmitsNothing};
+ghost use Rattle.wasm_sections.specs.Sections.{SectionAt, IsModule, Each};
 
 pub(crate) mod kept_bodies;
 
 use crate::bodies::Scratch;
-use crate::body_writer::ChangeFunction;
+use crate::body_writer::{ChangeFunction, Measured};
 use crate::changing::kept_bodies::KeptBodies;
 use crate::custom::Followers;
 use crate::parsed::ParsedModule;
-use crate::rewriting::RewrittenModule;
+use crate::rewriting::{RewrittenModule, joined, no_bodies, with_size};
 use walrus_body::LocalFunction;
 use walrus_ir::{Instr, InstrLocId};
-use wasm_sections::{Body, Changes, ModuleError, ModuleFault, number_len};
+use wasm_sections::{Body, Changes, ModuleError, ModuleFault, OmittedSections};
 
 impl<'a> ParsedModule<'a> {
     /// Parses a body, changes its function and its locals, and puts the raw body of the changed
@@ -43,7 +45,7 @@ impl<'a> ParsedModule<'a> {
     }
 
     /// Changes the function of a body, and the custom sections along with it, and keeps its new
-    /// body. Returns the number of bytes that it takes in the code section, its size included.
+    /// body. Returns what it takes in the code section, its size included.
     fn change_body<C: ChangeFunction>(
         &mut self,
         change: &mut C,
@@ -52,7 +54,7 @@ impl<'a> ParsedModule<'a> {
         instrs: &mut Vec<(Instr, InstrLocId)>,
         scratch: &mut Scratch,
         kept: &mut KeptBodies<'a>,
-    ) -> Result<usize, ModuleError>
+    ) -> Result<Measured, ModuleError>
         ensures extends { OnOk result (Extends self.old self.new) }
         ensures changed { (source : Parsed) → Extends source self.old → OnOk result
             (KeepsChanged (C.changes (C.state change.old) (C.state change.new))
@@ -62,17 +64,16 @@ impl<'a> ParsedModule<'a> {
         let function = self.change_function(change, body, instrs, scratch)?;
         followers.pass(self, body, &function, scratch)?;
         kept.keep(self.alloc, body, scratch)?;
-        let len = scratch.raw.len();
-        Ok(number_len(len).saturating_add(len))
+        Ok(with_size(scratch.measured(body)))
     }
 
-    /// Changes the functions of all bodies. Returns the new bodies, and the size of the contents of
-    /// the code section, in bytes.
+    /// Changes the functions of all bodies. Returns the new bodies, and what the contents of the code
+    /// section take.
     fn change_code<C: ChangeFunction>(
         &mut self,
         change: &mut C,
         followers: &mut Followers<'a>,
-    ) -> Result<(KeptBodies<'a>, usize), ModuleError>
+    ) -> Result<(KeptBodies<'a>, Measured), ModuleError>
         ensures extends { OnOk result (Extends self.old self.new) }
         ensures kept { IfOk result (λ x. AreKept C.changes self.old (C.state change.old) x.0
             (C.state change.new)) }
@@ -81,11 +82,11 @@ impl<'a> ParsedModule<'a> {
         let mut kept = KeptBodies::new(self.alloc, self.imported(), count)?;
         let mut instrs = Vec::new(self.alloc);
         let mut scratch = Box::new(self.alloc, Scratch::new(self.alloc))?;
-        let mut len = number_len(count);
+        let mut code = no_bodies(count);
         'bodies: for body in self.bodies() {
             let (instrs, scratch) = (&mut instrs, &mut scratch);
             let more = self.change_body(change, body, followers, instrs, scratch, &mut kept)?;
-            len = len.saturating_add(more);
+            code = joined(code, more);
         }
         if kept.len() != count {
             return Err(ModuleError {
@@ -93,7 +94,7 @@ impl<'a> ParsedModule<'a> {
                 at: self.bytes.len(),
             });
         }
-        Ok((kept, len))
+        Ok((kept, code))
     }
 
     /// Changes the functions that have a body, and these sections. Names of locals and of labels
@@ -103,8 +104,9 @@ impl<'a> ParsedModule<'a> {
     ///
     /// # Errors
     ///
-    /// The first fault of a body, with its place, or that of its change; `InconsistentChange` if
-    /// functions were imported or added with other changes; or `Memory`.
+    /// `ObjectFile` if a custom section contains relocations or symbols of an object file; the first
+    /// fault of a body, with its place, or that of its change; `InconsistentChange` if functions were
+    /// imported or added with other changes; or `Memory`.
     pub fn change_all<C: ChangeFunction>(
         &mut self,
         change: &mut C,
@@ -113,18 +115,22 @@ impl<'a> ParsedModule<'a> {
         ensures extends { OnOk result (Extends self.old self.new) }
         ensures changed { IfOk result (λ made. AreKept C.changes self.old (C.state change.old)
             made.bodies (C.state change.new)) }
-        ensures given { IfOk result (λ made. new_contents_in made ≡ changes.given.items) }
+        ensures changes { IfOk result (λ made. made.changes ≡ changes) }
+        ensures omitted { IfOk result (λ made. OmitsNothing made.omitted) }
+        ensures linked { (all : List SectionAt) → IsModule self.old.bytes.now all
+            → OnOk result (Each IsLinked all) }
     {
         self.check_functions(&changes)?;
         let mut followers = Followers::read(self)?;
-        let (bodies, source_len) = self.change_code(change, &mut followers)?;
-        let code_len = self.code_len_with(&changes, source_len)?;
+        let (bodies, measured) = self.change_code(change, &mut followers)?;
+        let code = self.measured_code(&changes, measured)?;
         let (followed, notes) = followers.finish(self.alloc)?;
         Ok(RewrittenModule {
             bodies,
             changes,
+            omitted: OmittedSections::none(self.alloc),
             followed,
-            code_len,
+            code,
             notes,
         })
     }

@@ -2,8 +2,9 @@
 //! WebAssembly core specification 3.0, name section; tool conventions). They are changed along with
 //! the code.
 
-ghost use Rattle.std.specs.Prelude.{IsTrue};
-ghost use Rattle.wasm_module.specs.WrittenModules.{HasFollowedName, HasDebugName, HasSourceMapName};
+ghost use Rattle.std.specs.Prelude.{◌≡◌, List, IsTrue, OnOk};
+ghost use Rattle.wasm_sections.specs.Sections.{SectionAt, IsModule, Each, section_at};
+ghost use Rattle.wasm_module.specs.WrittenModules.{HasFollowedName, IsLinked};
 
 pub(crate) mod labels;
 
@@ -18,7 +19,7 @@ use walrus_ir::{IdHashMap, InstrLocId, LocalId};
 use walrus_rewrite::RewriteError;
 use wasm_sections::{
     Body, FunctionItems, FunctionNumbers, Input, Item, ModuleError, ModuleFault, Section,
-    SectionKind,
+    SectionKind, Sections, names_object,
 };
 
 /// The greatest number of custom sections that are changed along with the code. Further ones are
@@ -280,9 +281,6 @@ pub enum NoteKind {
     /// It contains debug information, with addresses in the code of the source, or the place of
     /// such information.
     DebugInfo,
-    /// It contains relocations of the code of the source, or symbols of functions whose indices have
-    /// changed.
-    Relocations,
     /// It contains names or metadata of code, but it can't be read, or there are too many such
     /// sections.
     NotFollowed,
@@ -308,27 +306,20 @@ pub(crate) fn follows_code(section: &Section<'_>) -> bool
     }
 }
 
-/// Whether a custom section contains debug information, or its place, by its name.
-pub(crate) fn holds_debug(section: &Section<'_>) -> bool
-    ensures { IsTrue result → HasDebugName section.now.contents.rest.now }
+/// `ObjectFile` if a custom section contains symbols or relocations, by its name.
+fn refuse_object(section: &Section<'_>) -> Result<(), ModuleError>
+    ensures { OnOk result (IsLinked (section_at section.now)) }
 {
-    match section.named_input() {
-        Ok((name, _)) => {
-            name == "sourceMappingURL"
-                || name == "external_debug_info"
-                || name.starts_with(".debug_")
-        }
-        Err(_) => false,
+    if section.kind != SectionKind::Custom {
+        return Ok(());
     }
-}
-
-/// Whether a custom section contains the URL of the source map, by its name.
-pub(crate) fn names_source_map(section: &Section<'_>) -> bool
-    ensures { IsTrue result → HasSourceMapName section.now.contents.rest.now }
-{
-    match section.named_input() {
-        Ok((name, _)) if name == "sourceMappingURL" => true,
-        _ => false,
+    match section.name() {
+        Ok(name) if names_object(name) => Err(ModuleError {
+            fault: ModuleFault::ObjectFile,
+            at: section.at,
+        }),
+        Ok(_) => Ok(()),
+        Err(error) => Err(error),
     }
 }
 
@@ -348,18 +339,8 @@ fn note_on(name: &str) -> Option<NoteKind> {
         | ".debug_loclists"
         | ".debug_ranges"
         | ".debug_rnglists" => Some(NoteKind::DebugInfo),
-        "reloc.CODE" => Some(NoteKind::Relocations),
         _ => None,
     }
-}
-
-/// Why a custom section of an object file, which contains indices of functions, may no longer be
-/// true if they change (WebAssembly tool conventions, linking).
-fn note_on_objects(name: &str, numbers: FunctionNumbers) -> Option<NoteKind> {
-    if numbers.are_same() || (name != "linking" && !name.starts_with("reloc.")) {
-        return None;
-    }
-    Some(NoteKind::Relocations)
 }
 
 /// The custom sections that are changed along with the code, and notes on others.
@@ -375,42 +356,46 @@ impl<'a> Followers<'a> {
     ///
     /// # Errors
     ///
-    /// The first fault of its sections or of the name of a custom section; or `Memory`. Names and
-    /// metadata of code that can't be read become a note.
-    pub fn read(parsed: &ParsedModule<'a>) -> Result<Followers<'a>, ModuleError> {
+    /// The first fault of its sections or of the name of a custom section; `ObjectFile`, with its
+    /// place, at the first section that only an object file has; or `Memory`. Names and metadata of
+    /// code that can't be read become a note.
+    pub fn read(parsed: &ParsedModule<'a>) -> Result<Followers<'a>, ModuleError>
+        ensures { (all : List SectionAt) → IsModule parsed.now.bytes.now all
+            → OnOk result (Each IsLinked all) }
+    {
         let mut followers = Followers {
             sections: Vec::new(parsed.alloc),
             notes: Vec::new(parsed.alloc),
         };
         let numbers = parsed.function_numbers()?;
-        for section in parsed.sections()? {
-            match section {
-                Ok(section) if section.kind == SectionKind::Custom => {
-                    followers.add(parsed.alloc, &section, numbers)?;
-                }
-                Ok(_) => {}
-                Err(error) => return Err(error),
-            }
+        'sections: for section in Sections::new(parsed.bytes())? {
+            let section = section?;
+            refuse_object(&section)?;
+            followers.add(parsed.alloc, &section, numbers)?;
         }
         Ok(followers)
     }
 
+    /// Adds a section, if it is a custom one that is changed along with the code, or a note on it.
     fn add(
         &mut self,
         alloc: Global,
         section: &Section<'a>,
         numbers: FunctionNumbers,
     ) -> Result<(), ModuleError> {
-        let (name, _) = section.named_input()?;
+        if section.kind != SectionKind::Custom {
+            return Ok(());
+        }
+        let name = section.name()?;
         let read = if name == "name" {
             read_names(alloc, section, numbers)
         } else if name.starts_with("metadata.code.") {
             read_metadata(alloc, section, numbers)
         } else {
-            if let Some(kind) = note_on(name).or(note_on_objects(name, numbers)) {
-                self.note(name, kind)?;
-            }
-            return Ok(());
+            return match note_on(name) {
+                Some(kind) => self.note(name, kind),
+                None => Ok(()),
+            };
         };
         match read {
             Ok(followed) if self.sections.len() < MAX_FOLLOWED => {

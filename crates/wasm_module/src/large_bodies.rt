@@ -1,11 +1,12 @@
 //! Where the bytes of a large body go while it is rewritten, and its location pairs: the bytes are
-//! counted, or they are written after a listener is told of the pairs.
+//! counted and compared with the source's, or they are written after a listener is told of the pairs.
 
 ghost use Rattle.std.specs.Prelude.{◌≡◌, ◌+◌, [], length, refl, OnOk};
 ghost use Rattle.std.proofs.Common.{◌∙◌};
 ghost use Rattle.std.specs.Io.KnownBytes.{Appends};
 ghost use Rattle.wasm_module.specs.Pieces.{counts_nothing, counts_both, appends_nothing, appends_then};
 
+use crate::body_writer::Measured;
 use crate::map_sink::{MapSink, WrittenBody};
 use std::io;
 use std::io::Write;
@@ -13,13 +14,42 @@ use walrus_flat::ByteSink;
 use walrus_ir::InstrLocId;
 use wasm_sections::PIECE;
 
-/// Counts the bytes of a body.
+/// Counts the bytes of a body, and compares them with those of the source.
 #[derive(Drop)]
-pub(crate) struct Counter {
+pub(crate) struct Counter<'a> {
     pub len: usize,
+    /// The bytes of the source that are not compared yet.
+    pub left: &'a [u8],
+    /// Whether those that were compared are the same.
+    pub is_same: bool,
 }
 
-impl ByteSink for Counter {
+impl<'a> Counter<'a> {
+    /// Compares the next bytes with those of the source.
+    fn compare(&mut self, bytes: &[u8])
+        ensures { self.new.len ≡ self.old.len }
+    {
+        match self.left.split_at_checked(bytes.len()) {
+            Some((front, left)) => {
+                self.left = left;
+                self.is_same = self.is_same && front == bytes;
+            }
+            None => self.is_same = false,
+        }
+    }
+
+    /// What was counted.
+    pub fn measured(&self) -> Measured
+        ensures { result.len ≡ self.now.len }
+    {
+        Measured {
+            len: self.len,
+            is_same: self.is_same && self.left.is_empty(),
+        }
+    }
+}
+
+impl<'a> ByteSink for Counter<'a> {
     ghost takes = { λ a b o. b.len ≡ a.len + length o.bytes };
 
     const MOST: usize = PIECE;
@@ -28,6 +58,7 @@ impl ByteSink for Counter {
         let Some(len) = self.len.checked_add(bytes.len()) else {
             return false;
         };
+        self.compare(bytes);
         self.len = len;
         bytes.clear();
         pairs.clear();

@@ -24,7 +24,7 @@ mod views;
 mod writing;
 
 pub use bodies::Scratch;
-pub use body_writer::{BodyWriter, ChangeFunction, Needed, Rewriting};
+pub use body_writer::{BodyWriter, ChangeFunction, Measured, Needed, Rewriting};
 pub use changing::kept_bodies::KeptBodies;
 pub use custom::{Note, NoteKind};
 pub use laws::law_changed_code;
@@ -36,7 +36,7 @@ pub use walrus_flat::ByteSink;
 pub use wasm_sections::{
     Bodies, Body, Changes, DefinedGlobal, DefinedMemory, DefinedTable, DefinedTag, Export, Exports,
     FaultName, Function, Functions, GlobalType, Globals, Import, Imported, Imports, Limits,
-    Memories, ModuleError, ModuleFault, NamedFunction, NamedFunctions, Section, SectionKind,
-    Sections, TableType, Tables, Tags,
+    Memories, ModuleError, ModuleFault, NamedFunction, NamedFunctions, OmittedSections, Section,
+    SectionKind, Sections, TableType, Tables, Tags,
 };
 pub use writing::WriteError;

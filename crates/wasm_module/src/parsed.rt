@@ -1,6 +1,6 @@
 //! A module that was read.
-ghost use Rattle.std.specs.Prelude.{◌≡◌, ◌<◌, ◌≤◌, ◌↔◌, List, length, nat_lt, Ok, IsTrue, IfOk};
-ghost use Rattle.wasm_sections.specs.Sections.{SectionAt, IsModule, next_rank};
+ghost use Rattle.std.specs.Prelude.{◌≡◌, ◌<◌, ◌≤◌, ◌↔◌, ◌++◌, List, length, nat_lt, Ok, IsTrue, IfOk};
+ghost use Rattle.wasm_sections.specs.Sections.{preamble, SectionAt, IsModule, next_rank};
 ghost use Rattle.wasm_module.specs.WrittenModules.{count_bodies};
 
 use std::alloc::Global;
@@ -151,7 +151,10 @@ impl<'a> ParsedModule<'a> {
     /// # Errors
     ///
     /// None, since they were read before.
-    pub fn sections(&self) -> Result<Sections<'a>, ModuleError> {
+    pub fn sections(&self) -> Result<Sections<'a>, ModuleError>
+        ensures rest { IfOk result (λ s. self.now.bytes.now ≡ preamble ++ s.left.rest.now) }
+        ensures end { IfOk result (λ s. s.left.end ≡ length self.now.bytes.now) }
+    {
         Sections::new(self.bytes)
     }
 

@@ -2,27 +2,41 @@
 //! and the new contents of custom sections, before anything is written. (`changing` is that of a
 //! module whose functions are changed.)
 
-ghost use Rattle.std.specs.Prelude.{◌≡◌, [], true, IsTrue, OnOk, IfOk, IfSome, IfNone};
+ghost use Rattle.std.specs.Prelude.{◌≡◌, List, [], true, false, OnOk, OnErr, IfOk, IfSome, IfNone};
+ghost use Rattle.wasm_sections.specs.Omissions.{OmitsNothing, OmitsAlso, KeepsAlso, OmitsSame};
+ghost use Rattle.wasm_sections.specs.Sections.{SectionAt, IsModule, Each, section_at};
 ghost use Rattle.wasm_module.specs.RewrittenCode.{Extends};
-ghost use Rattle.wasm_sections.specs.Sections.{section_at};
-ghost use Rattle.wasm_module.specs.WrittenModules.{new_contents_in, IsReplacedBy, IsCarriedOver, IsOmitted};
+ghost use Rattle.wasm_module.specs.WrittenModules.{new_contents_in, IsReplacedBy, IsCarriedOver, IsOmitted, IsNotOmitted, IsLinked};
 
 use crate::bodies::Scratch;
-use crate::body_writer::{BodyWriter, Needed, Rewriting};
-use crate::custom::{
-    Followed, Followers, Note, contents_at, follows_code, holds_debug, names_source_map,
-};
+use crate::body_writer::{BodyWriter, Measured, Needed, Rewriting};
+use crate::custom::{Followed, Followers, Note, contents_at, follows_code};
 use crate::parsed::ParsedModule;
-use wasm_sections::{Body, Changes, ModuleError, Section, SectionKind, number_len};
+use wasm_sections::{
+    Body, Changes, ModuleError, OmittedSections, Section, SectionKind, number_len,
+};
 
-/// A module that can be written: how its bodies are written, new contents of sections, and the size
-/// of its code section. `ParsedModule::write_module` writes it.
+/// The code section of a module that can be written.
+#[derive(Clone, Copy)]
+pub(crate) struct MeasuredCode {
+    /// The size of its contents, in bytes.
+    pub len: usize,
+    /// Whether its contents are the source's.
+    pub is_same: bool,
+    /// Whether its size takes as many bytes as in the source.
+    pub is_in_place: bool,
+}
+
+/// A module that can be written: how its bodies are written, new contents of sections, custom
+/// sections that are left out, and the size of its code section. `ParsedModule::write_module` writes
+/// it.
 #[derive(Drop)]
 pub struct RewrittenModule<'a, B> {
     pub(crate) bodies: B,
     pub(crate) changes: Changes,
+    pub(crate) omitted: OmittedSections<'a>,
     pub(crate) followed: Vec<Followed>,
-    pub(crate) code_len: usize,
+    pub(crate) code: MeasuredCode,
     /// The custom sections that are copied unchanged and may no longer be true.
     pub notes: Vec<Note<'a>>,
 }
@@ -49,19 +63,22 @@ impl<'a, B> RewrittenModule<'a, B> {
     pub fn take_bodies(self) -> (B, RewrittenModule<'a, ()>)
         ensures bodies { result.0 ≡ self.entry.bodies }
         ensures changes { result.1.changes ≡ self.entry.changes }
+        ensures omitted { result.1.omitted ≡ self.entry.omitted }
     {
         let RewrittenModule {
             bodies,
             changes,
+            omitted,
             followed,
-            code_len,
+            code,
             notes,
         } = self;
         let rest = RewrittenModule {
             bodies: (),
             changes,
+            omitted,
             followed,
-            code_len,
+            code,
             notes,
         };
         (bodies, rest)
@@ -75,106 +92,226 @@ impl<'a> RewrittenModule<'a, ()> {
     pub fn with_bodies<B>(self, bodies: B) -> RewrittenModule<'a, B>
         ensures bodies { result.bodies ≡ bodies }
         ensures changes { result.changes ≡ self.entry.changes }
+        ensures omitted { result.omitted ≡ self.entry.omitted }
     {
         let RewrittenModule {
             bodies: (),
             changes,
+            omitted,
             followed,
-            code_len,
+            code,
             notes,
         } = self;
         RewrittenModule {
             bodies,
             changes,
+            omitted,
             followed,
-            code_len,
+            code,
             notes,
         }
     }
 }
 
-impl<B> RewrittenModule<'_, B> {
+impl<'a, B> RewrittenModule<'a, B> {
+    /// Leaves out all custom sections when the module is written, except those that are kept by
+    /// `keep_custom_section`.
+    pub fn omit_custom_sections(&mut self)
+        ensures omitted { self.new.omitted ≡ record self.old.omitted { is_all = true } }
+        ensures changes { self.new.changes ≡ self.old.changes }
+        ensures bodies { self.new.bodies ≡ self.old.bodies }
+    {
+        self.omitted.is_all = true;
+    }
+
     /// Leaves out the custom sections with debug information when the module is written:
     /// `sourceMappingURL`, `external_debug_info`, and those whose names begin with `.debug_`.
     pub fn omit_debug(&mut self)
-        ensures changes { self.new.changes
-            ≡ record self.old.changes { omits_debug = true } }
+        ensures omitted { self.new.omitted ≡ record self.old.omitted { is_debug = true } }
+        ensures changes { self.new.changes ≡ self.old.changes }
         ensures bodies { self.new.bodies ≡ self.old.bodies }
     {
-        self.changes.omits_debug = true;
+        self.omitted.is_debug = true;
     }
 
     /// Leaves out the custom section `sourceMappingURL`, which says where the source map is, when
     /// the module is written.
     pub fn omit_source_map_url(&mut self)
-        ensures changes { self.new.changes
-            ≡ record self.old.changes { omits_source_map = true } }
+        ensures omitted { self.new.omitted
+            ≡ record self.old.omitted { is_source_map_url = true } }
+        ensures changes { self.new.changes ≡ self.old.changes }
         ensures bodies { self.new.bodies ≡ self.old.bodies }
     {
-        self.changes.omits_source_map = true;
+        self.omitted.is_source_map_url = true;
+    }
+
+    /// Leaves out the custom sections with this name when the module is written.
+    ///
+    /// # Errors
+    ///
+    /// `Memory`. The same sections are left out then as before.
+    pub fn omit_custom_section(&mut self, name: &'a str) -> Result<(), ModuleError>
+        ensures ok { OnOk result (OmitsAlso self.old.omitted self.new.omitted name.entry.now) }
+        ensures err { OnErr result (OmitsSame self.old.omitted self.new.omitted) }
+        ensures changes { self.new.changes ≡ self.old.changes }
+        ensures bodies { self.new.bodies ≡ self.old.bodies }
+    {
+        match self.omitted.omit(name) {
+            Ok(()) => Ok(()),
+            Err(error) => Err(ModuleError::from(error)),
+        }
+    }
+
+    /// Keeps the custom sections with this name when the module is written, whatever else is left
+    /// out.
+    ///
+    /// # Errors
+    ///
+    /// `Memory`. The same sections are left out then as before.
+    pub fn keep_custom_section(&mut self, name: &'a str) -> Result<(), ModuleError>
+        ensures ok { OnOk result (KeepsAlso self.old.omitted self.new.omitted name.entry.now) }
+        ensures err { OnErr result (OmitsSame self.old.omitted self.new.omitted) }
+        ensures changes { self.new.changes ≡ self.old.changes }
+        ensures bodies { self.new.bodies ≡ self.old.bodies }
+    {
+        match self.omitted.keep(name) {
+            Ok(()) => Ok(()),
+            Err(error) => Err(ModuleError::from(error)),
+        }
+    }
+
+    /// Whether the contents of the code section that is written are others than the source's, so that
+    /// what says where code is among them (as debug information does) is out of date.
+    pub fn changes_code(&self) -> bool {
+        !self.code.is_same
+    }
+
+    /// Whether operators may be at other places of the file than in the source, so that what says
+    /// where they are (as a source map does) is out of date. It is true also where another section is
+    /// given new contents or is left out.
+    pub fn moves_code(&self) -> bool {
+        self.changes_code()
+            || !self.code.is_in_place
+            || !self.changes.given.is_empty()
+            || self.omitted.may_omit()
     }
 
     /// Whether a section is left out.
-    pub(crate) fn omits(&self, section: &Section<'_>) -> bool
-        ensures { IsTrue result → IsOmitted self.now.changes (section_at section.now) }
+    pub(crate) fn omits(&self, section: &Section<'_>) -> Result<bool, ModuleError>
+        ensures yes { IfOk result (λ is. is ≡ true
+            → IsOmitted self.now.omitted (section_at section.now)) }
+        ensures no { IfOk result (λ is. is ≡ false
+            → IsNotOmitted self.now.omitted (section_at section.now)) }
     {
         if section.kind != SectionKind::Custom {
-            return false;
+            return Ok(false);
         }
-        if self.changes.omits_debug && holds_debug(section) {
-            return true;
+        match section.name() {
+            Ok(name) => Ok(self.omitted.omits_name(name)),
+            Err(error) => Err(error),
         }
-        self.changes.omits_source_map && names_source_map(section)
+    }
+}
+
+/// What a body takes in the code section, its size included.
+pub(crate) fn with_size(body: Measured) -> Measured {
+    Measured {
+        len: number_len(body.len).saturating_add(body.len),
+        is_same: body.is_same,
+    }
+}
+
+/// What the number of bodies takes at the beginning of the code section's contents.
+pub(crate) fn no_bodies(count: usize) -> Measured {
+    Measured {
+        len: number_len(count),
+        is_same: true,
+    }
+}
+
+/// What two parts of the code section take, one after the other.
+pub(crate) fn joined(first: Measured, second: Measured) -> Measured {
+    Measured {
+        len: first.len.saturating_add(second.len),
+        is_same: first.is_same && second.is_same,
     }
 }
 
 impl<'a> ParsedModule<'a> {
-    /// Rewrites a body, and changes the custom sections along with it. Returns the number of bytes
-    /// that it takes in the code section, its size included.
+    /// Rewrites a body, and changes the custom sections along with it. Returns what it takes in the
+    /// code section, its size included.
     fn measure_body<B: BodyWriter>(
         &mut self,
         bodies: &B,
         body: Body<'a>,
         followers: &mut Followers<'a>,
         scratch: &mut Scratch,
-    ) -> Result<usize, ModuleError>
+    ) -> Result<Measured, ModuleError>
         ensures { OnOk result (Extends self.old self.new) }
     {
         let needed = followers.reach(body.func)?;
         if needed == Needed::Nothing && body.is_large() {
             let large = bodies.measure_large_body(self, body, scratch)?;
-            return Ok(number_len(large).saturating_add(large));
+            return Ok(with_size(large));
         }
         if let Some(function) = bodies.write_body(self, body, needed, scratch)? {
             followers.pass(self, body, &function, scratch)?;
         }
-        let len = scratch.raw.len();
-        Ok(number_len(len).saturating_add(len))
+        Ok(with_size(scratch.measured(body)))
     }
 
-    /// The size of the contents of the code section, in bytes.
+    /// What the contents of the code section take.
     fn measure_code<B: BodyWriter>(
         &mut self,
         bodies: &B,
         followers: &mut Followers<'a>,
-    ) -> Result<usize, ModuleError>
+    ) -> Result<Measured, ModuleError>
         ensures { OnOk result (Extends self.old self.new) }
     {
         let mut scratch = Box::new(self.alloc, Scratch::new(self.alloc))?;
-        let mut len = number_len(self.body_count());
+        let mut code = no_bodies(self.body_count());
         'bodies: for body in self.bodies() {
-            len = len.saturating_add(self.measure_body(bodies, body, followers, &mut scratch)?);
+            let measured = self.measure_body(bodies, body, followers, &mut scratch)?;
+            code = joined(code, measured);
         }
-        Ok(len)
+        Ok(code)
+    }
+
+    /// The code section with the bodies that these changes add, if it is so without them. Its bytes
+    /// are the source's where its bodies are, and it takes as many: each size takes at least as many
+    /// in the source.
+    pub(crate) fn measured_code(
+        &self,
+        changes: &Changes,
+        measured: Measured,
+    ) -> Result<MeasuredCode, ModuleError> {
+        let len = match self.code_len_with(changes, measured.len) {
+            Ok(len) => len,
+            Err(error) => return Err(error),
+        };
+        let (source_len, header_len) = match self.section(SectionKind::Code) {
+            Ok(Some(section)) => {
+                let source_len = section.contents().len();
+                (source_len, section.whole.len().saturating_sub(source_len))
+            }
+            Ok(None) => (len, number_len(len).saturating_add(1)),
+            Err(error) => return Err(error),
+        };
+        Ok(MeasuredCode {
+            len,
+            is_same: measured.is_same && len == source_len,
+            is_in_place: number_len(len).saturating_add(1) == header_len,
+        })
     }
 
     /// The module with these bodies and these changes of sections. Names of locals and of labels
-    /// and metadata of code are changed along with the bodies.
+    /// and metadata of code are changed along with the bodies. No section is left out.
     ///
     /// # Errors
     ///
-    /// The first fault of a body, with its place, or why it isn't written; `InconsistentChange` if
-    /// functions were imported or added with other changes; or `Memory`.
+    /// `ObjectFile` if a custom section contains relocations or symbols of an object file; the first
+    /// fault of a body, with its place, or why it isn't written; `InconsistentChange` if functions
+    /// were imported or added with other changes; or `Memory`.
     pub fn rewrite_with<B: BodyWriter + Drop>(
         &mut self,
         bodies: B,
@@ -182,32 +319,40 @@ impl<'a> ParsedModule<'a> {
     ) -> Result<RewrittenModule<'a, B>, ModuleError>
         ensures extends { OnOk result (Extends self.old self.new) }
         ensures bodies { IfOk result (λ made. made.bodies ≡ bodies) }
-        ensures given { IfOk result (λ made. new_contents_in made ≡ changes.given.items) }
+        ensures changes { IfOk result (λ made. made.changes ≡ changes) }
+        ensures omitted { IfOk result (λ made. OmitsNothing made.omitted) }
+        ensures linked { (all : List SectionAt) → IsModule self.old.bytes.now all
+            → OnOk result (Each IsLinked all) }
     {
         self.check_functions(&changes)?;
         let mut followers = Followers::read(self)?;
-        let source_len = self.measure_code(&bodies, &mut followers)?;
-        let code_len = self.code_len_with(&changes, source_len)?;
+        let measured = self.measure_code(&bodies, &mut followers)?;
+        let code = self.measured_code(&changes, measured)?;
         let (followed, notes) = followers.finish(self.alloc)?;
         Ok(RewrittenModule {
             bodies,
             changes,
+            omitted: OmittedSections::none(self.alloc),
             followed,
-            code_len,
+            code,
             notes,
         })
     }
 
     /// Rewrites the bodies of all functions. Names of locals and of labels and metadata of code are
-    /// changed along with them. At most one rewritten body is in memory at a time: `write_module`
-    /// rewrites all of them again.
+    /// changed along with them. No section is left out. At most one rewritten body is in memory at a
+    /// time: `write_module` rewrites all of them again.
     ///
     /// # Errors
     ///
-    /// The first fault of a body, with its place, or `Memory`.
+    /// `ObjectFile` if a custom section contains relocations or symbols of an object file; the first
+    /// fault of a body, with its place; or `Memory`.
     pub fn rewrite_all(&mut self) -> Result<RewrittenModule<'a, Rewriting>, ModuleError>
         ensures extends { OnOk result (Extends self.old self.new) }
         ensures none_given { IfOk result (λ made. new_contents_in made ≡ []) }
+        ensures omitted { IfOk result (λ made. OmitsNothing made.omitted) }
+        ensures linked { (all : List SectionAt) → IsModule self.old.bytes.now all
+            → OnOk result (Each IsLinked all) }
     {
         let changes = Changes::new(self.alloc);
         self.rewrite_with(Rewriting, changes)

@@ -202,16 +202,16 @@ impl<'a> ParsedModule<'a> {
             × B.writes bodies.now source body.entry.func (body_at body.entry) raw
             × Puts (W.contents out.old) (W.contents out.new) at end (entry raw)) }
     {
-        let len = bodies.measure_large_body(self, body, scratch)?;
-        let start = put_number(self.alloc, len, at, out)?;
+        let measured = bodies.measure_large_body(self, body, scratch)?;
+        let start = put_number(self.alloc, measured.len, at, out)?;
         let old_start = body.start();
         sink.record_body(WrittenBody {
             old_start,
             start,
             pairs: &[],
         })?;
-        self.put_in_pieces(bodies, body, scratch, sink, start, len, out)?;
-        place_after(start, len)
+        self.put_in_pieces(bodies, body, scratch, sink, start, measured.len, out)?;
+        place_after(start, measured.len)
     }
 
     /// Writes the size of a body, and the body.
@@ -297,9 +297,9 @@ impl<'a> ParsedModule<'a> {
             × (contents : List ℕ) × HasItemsOf code (added_bodies rewritten.now.changes) contents
             × Puts (W.contents out.old) (W.contents out.new) at end (whole_section 10 contents)) }
     {
-        let at = put_header(self.alloc, SectionKind::Code, rewritten.code_len, at, out)?;
+        let at = put_header(self.alloc, SectionKind::Code, rewritten.code.len, at, out)?;
         let end = self.put_code(rewritten, section, sink, at, out)?;
-        match end == place_after(at, rewritten.code_len)? {
+        match end == place_after(at, rewritten.code.len)? {
             true => Ok(end),
             false => Err(WriteError::from(section.contents.fault(ModuleFault::InconsistentChange))),
         }
@@ -318,13 +318,13 @@ impl<'a> ParsedModule<'a> {
         ensures written { (source : Parsed) → Extends source self.old
             → IfOk result (λ end. (text : List ℕ)
             × IsWrittenFor (B.writes rewritten.now.bodies) source rewritten.now.changes
-            (section_at section.now) text
+            rewritten.now.omitted (section_at section.now) text
             × Puts (W.contents out.old) (W.contents out.new) at end text) }
     {
         if section.kind == SectionKind::Code {
             return self.put_code_section(rewritten, section, sink, at, out);
         }
-        if rewritten.omits(section) {
+        if rewritten.omits(section)? {
             return Ok(at);
         }
         match rewritten.contents_for(section) {
@@ -362,8 +362,8 @@ impl<'a> ParsedModule<'a> {
         ensures extends { OnOk result (Extends self.old self.new) }
         ensures written { (source : Parsed) (all : List SectionAt) → Extends source self.old
             → IsModule self.old.bytes.now all → IfOk result (λ end. (text : List ℕ)
-            × IsWrittenAt (B.writes rewritten.now.bodies) source rewritten.now.changes all
-            (section_at section.now) text
+            × IsWrittenAt (B.writes rewritten.now.bodies) source rewritten.now.changes
+            rewritten.now.omitted all (section_at section.now) text
             × Puts (W.contents out.old) (W.contents out.new) at end text) }
     {
         let end = self.put_in_place(rewritten, section, sink, at, out)?;
@@ -384,7 +384,8 @@ impl<'a> ParsedModule<'a> {
     ) -> Result<(), WriteError>
         ensures extends { OnOk result (Extends self.old self.new) }
         ensures written { OnOk result ((new : List ℕ)
-            × IsWrittenModule (B.writes rewritten.now.bodies) self.old rewritten.now.changes new
+            × IsWrittenModule (B.writes rewritten.now.bodies) self.old rewritten.now.changes
+            rewritten.now.omitted new
             × Appends (W.contents out.old) (W.contents out.new) new) }
     {
         self.check_functions(&rewritten.changes)?;
@@ -399,7 +400,7 @@ impl<'a> ParsedModule<'a> {
 
     /// Writes the module: its sections in order, unchanged ones byte for byte, new ones in their
     /// places; and each body after its size, as it is rewritten, or as it is kept after a change.
-    /// Debug information is left out if `omit_debug` was called.
+    /// Custom sections are left out if `omit_debug` or another such call chose them.
     ///
     /// # Errors
     ///
@@ -414,7 +415,8 @@ impl<'a> ParsedModule<'a> {
     ) -> Result<(), WriteError>
         ensures extends { OnOk result (Extends self.old self.new) }
         ensures written { OnOk result ((new : List ℕ)
-            × IsWrittenModule (B.writes rewritten.now.bodies) self.old rewritten.now.changes new
+            × IsWrittenModule (B.writes rewritten.now.bodies) self.old rewritten.now.changes
+            rewritten.now.omitted new
             × Appends (W.contents out.old) (W.contents out.new) new) }
     {
         self.write_with_sink(rewritten, &mut NoMap, out)
@@ -435,7 +437,8 @@ impl<'a> ParsedModule<'a> {
     ) -> Result<(), WriteError>
         ensures extends { OnOk result (Extends self.old self.new) }
         ensures written { OnOk result ((new : List ℕ)
-            × IsWrittenModule (B.writes rewritten.now.bodies) self.old rewritten.now.changes new
+            × IsWrittenModule (B.writes rewritten.now.bodies) self.old rewritten.now.changes
+            rewritten.now.omitted new
             × Appends (W.contents out.old) (W.contents out.new) new) }
     {
         self.write_with_sink(rewritten, &mut MapLines(map), out)
@@ -454,7 +457,8 @@ impl<'a> ParsedModule<'a> {
     ) -> Result<(), WriteError>
         ensures extends { OnOk result (Extends self.old self.new) }
         ensures written { OnOk result ((new : List ℕ)
-            × IsWrittenModule (B.writes rewritten.now.bodies) self.old rewritten.now.changes new
+            × IsWrittenModule (B.writes rewritten.now.bodies) self.old rewritten.now.changes
+            rewritten.now.omitted new
             × Appends (W.contents out.old) (W.contents out.new) new) }
     {
         self.write_with_sink(rewritten, sink, out)

@@ -84,29 +84,25 @@ module _ (gs : List NewContents) (i : ℕ) (g : NewContents) (none : contents_in
 -- ---- what is given after one is put
 
 pub replaces :
-    (old new : Changes) (i : ℕ) (g : NewContents) → IsGivenAt old.given.items (id_of g.kind) i → i < length old.given.items → new.given.items ≡ set old.given.items i g → new.omits_debug ≡ old.omits_debug →
-    new.omits_source_map ≡ old.omits_source_map → new.imports ≡ old.imports → SetsContents old new (id_of g.kind) g.contents.items
-replaces old new i g at within e debug map imports =
+    (old new : Changes) (i : ℕ) (g : NewContents) → IsGivenAt old.given.items (id_of g.kind) i → i < length old.given.items → new.given.items ≡ set old.given.items i g →
+    new.imports ≡ old.imports → SetsContents old new (id_of g.kind) g.contents.items
+replaces old new i g at within e imports =
     let gs = old.given.items in
     record {
       given = ap (λ (l : List NewContents). contents_in l (id_of g.kind)) e ∙ set_here gs i g at.is_first within;
       others = λ id h. ap (λ (l : List NewContents). contents_in l id) e ∙ set_others gs i g at.is_first within at.one at.is_there at.has_id id h;
-      debug = debug;
-      source_map = map;
       imports = imports;
     }
 
 pub puts_between :
     (old new : Changes) (i : ℕ) (g : NewContents) → contents_in (take i old.given.items) (id_of g.kind) ≡ None →
-    new.given.items ≡ take i old.given.items ++ g ∷ drop i old.given.items → new.omits_debug ≡ old.omits_debug → new.omits_source_map ≡ old.omits_source_map →
+    new.given.items ≡ take i old.given.items ++ g ∷ drop i old.given.items →
     new.imports ≡ old.imports → SetsContents old new (id_of g.kind) g.contents.items
-puts_between old new i g none e debug map imports =
+puts_between old new i g none e imports =
     let gs = old.given.items in
     record {
       given = ap (λ (l : List NewContents). contents_in l (id_of g.kind)) e ∙ inserted_here gs i g none;
       others = λ id h. ap (λ (l : List NewContents). contents_in l id) e ∙ inserted_others gs i g none id h;
-      debug = debug;
-      source_map = map;
       imports = imports;
     }
 
@@ -163,8 +159,8 @@ one_more_in_place old new number item items count len e l n same is = record {
 pub after_given :
     (old new : Changes) (id at : ℕ) (others item : List ℕ) (found : IsGivenAt old.given.items id at) → at < length old.given.items → (f g : NewContents) →
     f ≡ get_or old.given.items at f → g.kind ≡ f.kind → HasOneMore f.contents.items item g.contents.items → new.given.items ≡ set old.given.items at g →
-    new.omits_debug ≡ old.omits_debug → new.omits_source_map ≡ old.omits_source_map → new.imports ≡ old.imports → AddsAfter old new id others item
-after_given old new id at others item found within f g f_is kind more items debug map imports =
+    new.imports ≡ old.imports → AddsAfter old new id others item
+after_given old new id at others item found within f g f_is kind more items imports =
     let gs = old.given.items in
     let same : f ≡ found.one = f_is ∙ get_or_default gs at f found.one within ∙ sym found.is_there in
     let is_id : id_of g.kind ≡ id = ap id_of kind ∙ ap (λ (x : NewContents). id_of x.kind) same ∙ found.has_id in
@@ -174,7 +170,7 @@ after_given old new id at others item found within f g f_is kind more items debu
       has_one_more =
           subst (λ (o : Option (List ℕ)). HasOneMore (given_or o others) item g.contents.items)
           (sym (found_there gs at id found within ∙ ap (λ (x : NewContents). Some x.contents.items) (sym same))) more;
-      sets = subst (λ (i : ℕ). SetsContents old new i g.contents.items) is_id (replaces old new at g there within items debug map imports);
+      sets = subst (λ (i : ℕ). SetsContents old new i g.contents.items) is_id (replaces old new at g there within items imports);
     }
 
 -- Nothing was given, and one item more is there than in these contents.
@@ -189,11 +185,11 @@ after_others old new id others item contents none more sets = record {
 -- The contents at a position of the list are as before.
 pub unchanged_at :
     (old new : Changes) (at : ℕ) (f g : NewContents) → f ≡ get_or old.given.items at f → g.kind ≡ f.kind → g.contents ≡ f.contents → new.given.items ≡ set old.given.items at g →
-    new.omits_debug ≡ old.omits_debug → new.omits_source_map ≡ old.omits_source_map → new.imports ≡ old.imports → AreUnchanged old new
-unchanged_at old new at f g f_is kind contents items debug map imports =
+    new.imports ≡ old.imports → AreUnchanged old new
+unchanged_at old new at f g f_is kind contents items imports =
     let gs = old.given.items in
     let same : g ≡ f = λ i. record { kind = kind i; contents = contents i } in
-    (items ∙ ap (λ (x : NewContents). set gs at x) (same ∙ f_is) ∙ set-get_or gs at f, debug, map, imports)
+    (items ∙ ap (λ (x : NewContents). set gs at x) (same ∙ f_is) ∙ set-get_or gs at f, imports)
 
 pub on_err : {T E : Type 0} (r : Result T E) (P Q : Type 0) → OnErr r P → (P → Q) → OnErr r Q
 on_err (Ok x) P Q h f = tt

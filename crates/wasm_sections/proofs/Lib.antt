@@ -7,6 +7,8 @@ pub mod LaneLocals
 pub mod SpaceLemmas
 -- the first section with an id
 pub mod ViewLemmas
+-- names of custom sections that are left out, and one more
+pub mod OmissionLemmas
 -- sections that are given contents, and one more
 pub mod AdditionLemmas
 -- sections in which the indices of functions are others, item by item; and the indices of functions

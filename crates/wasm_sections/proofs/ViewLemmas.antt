@@ -9,7 +9,7 @@ use Rattle.wasm_sections.specs.declared.sections.Section.{Section}
 use Rattle.wasm_sections.specs.declared.sections.Sections.{Sections}
 use Rattle.wasm_sections.specs.declared.code.Bodies.{Bodies}
 use Rattle.wasm_sections.specs.declared.items.Items.{Items}
-use Rattle.wasm_sections.specs.Sections.{preamble, SectionAt, Begins, AreSections, IsModule, first_with, section_at, id_of, TakesSection}
+use Rattle.wasm_sections.specs.Sections.{preamble, SectionAt, Begins, AreSections, IsModule, Each, first_with, section_at, id_of, TakesSection}
 use Rattle.wasm_sections.specs.Views.{HasItems, HasSomeItems, HasBodies}
 
 -- ---- at the front of a module
@@ -83,6 +83,38 @@ pub none_found : (all : List SectionAt) (id : ℕ) (s t : Sections) (o : Option 
 none_found all id s t o p i takes =
     let none : TakesSection s None t = subst (λ (o : Option (Result Section ModuleError)). TakesSection s o t) i takes in
     sym p.same ∙ ap (λ (ss : List SectionAt). first_with id ss) (nothing_left s.left.end s.left.rest.now p.left p.are_left none)
+
+-- ---- what holds of each
+
+-- What holds of each section that is left and held of each one before holds of all.
+pub record EachSoFar (P : SectionAt → Type 0) (all : List SectionAt) (s : Sections) : Type 0 where
+  pub left : List SectionAt
+  pub are_left : AreSections s.left.end s.left.rest.now left
+  pub each : Each P left → Each P all
+
+pub each_at_first :
+    (P : SectionAt → Type 0) (file : List ℕ) (all : List SectionAt) (s : Sections) → IsModule file all → file ≡ preamble ++ s.left.rest.now →
+    s.left.end ≡ length file → EachSoFar P all s
+each_at_first P file all s m e f =
+    let text : m.0 ≡ s.left.rest.now = ap (λ (l : List ℕ). drop 8 l) (sym m.1 ∙ e) in
+    let here = subst (λ (n : ℕ). AreSections n m.0 all) (sym f) m.2 in
+    record { left = all; are_left = subst (λ (l : List ℕ). AreSections s.left.end l all) text here; each = λ h. h }
+
+module _ (P : SectionAt → Type 0) (all : List SectionAt) (s t : Sections) (o : Option (Result Section ModuleError)) where
+  pub each_passed : (x : Section) → EachSoFar P all s → o ≡ Some (Ok x) → TakesSection s o t → P (section_at x) → EachSoFar P all t
+  each_passed x p i takes here =
+      let taken : TakesSection s (Some (Ok x)) t = subst (λ (o : Option (Result Section ModuleError)). TakesSection s o t) i takes in
+      let f = first_left s.left.end s.left.rest.now p.left (section_at x) t.left.rest.now p.are_left taken.0 in
+      record {
+        left = f.0;
+        are_left = subst (λ (n : ℕ). AreSections n t.left.rest.now f.0) (sym taken.1) f.2;
+        each = λ h. p.each (subst (λ (ss : List SectionAt). Each P ss) (sym f.1) (here, h));
+      }
+
+  pub each_of_all : EachSoFar P all s → o ≡ None → TakesSection s o t → Each P all
+  each_of_all p i takes =
+      let none : TakesSection s None t = subst (λ (o : Option (Result Section ModuleError)). TakesSection s o t) i takes in
+      p.each (subst (λ (ss : List SectionAt). Each P ss) (sym (nothing_left s.left.end s.left.rest.now p.left p.are_left none)) tt)
 
 -- ---- the items of a section
 

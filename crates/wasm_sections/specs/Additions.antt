@@ -20,15 +20,12 @@ pub record IsGivenAt (given : List NewContents) (id at : ℕ) : Type 0 where
 pub record SetsContents (old new : Changes) (id : ℕ) (contents : List ℕ) : Type 0 where
   pub given : contents_in new.given.items id ≡ Some contents
   pub others : (other : ℕ) → other ≢ id → contents_in new.given.items other ≡ contents_in old.given.items other
-  pub debug : new.omits_debug ≡ old.omits_debug
-  pub source_map : new.omits_source_map ≡ old.omits_source_map
   pub imports : new.imports ≡ old.imports
 
 -- The changes are as before.
 abbrev pub AreUnchanged : (old new : Changes) → Type 0
 AreUnchanged old new =
-    (new.given.items ≡ old.given.items) × (new.omits_debug ≡ old.omits_debug)
-    × (new.omits_source_map ≡ old.omits_source_map) × (new.imports ≡ old.imports)
+    (new.given.items ≡ old.given.items) × (new.imports ≡ old.imports)
 
 -- The contents of a section with one more item, after the others: their number is one more, in its shortest encoding.
 pub record HasOneMore (contents item new : List ℕ) : Type 0 where

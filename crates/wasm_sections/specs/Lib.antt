@@ -7,6 +7,8 @@ pub mod Faults
 pub mod Sections
 pub mod Views
 pub mod CodeSections
+-- custom sections that are left out, by their names
+pub mod Omissions
 -- contents that are given for sections, and items that are added after those of a section; constants that are written
 pub mod GivenContents
 pub mod Additions

@@ -53,6 +53,11 @@ abbrev pub first_with : (id : ℕ) → List SectionAt → Option SectionAt
 first_with id [] = None
 first_with id (s ∷ ss) = if s.id == id then Some s else first_with id ss
 
+-- This holds of each of these sections.
+abbrev pub Each : (SectionAt → Type 0) → List SectionAt → Type 0
+Each P [] = Unit {0}
+Each P (s ∷ ss) = P s × Each P ss
+
 -- ---- their order
 
 -- The rank of a section, by its id: one that isn't custom comes before those of a greater rank. Custom ones may be anywhere.

@@ -25,10 +25,6 @@ pub struct NewContents {
 pub struct Changes {
     /// The new contents.
     pub given: Vec<NewContents>,
-    /// Whether custom sections with debug information are left out.
-    pub omits_debug: bool,
-    /// Whether the custom section `sourceMappingURL` is left out.
-    pub omits_source_map: bool,
     /// The number of functions that they import.
     pub imports: usize,
 }
@@ -36,12 +32,11 @@ pub struct Changes {
 impl Changes {
     /// No changes. This allocates nothing.
     pub fn new(alloc: Global) -> Changes
-        ensures { result.given.items ≡ [] }
+        ensures none_given { result.given.items ≡ [] }
+        ensures no_imports { result.imports ≡ 0 }
     {
         Changes {
             given: Vec::new(alloc),
-            omits_debug: false,
-            omits_source_map: false,
             imports: 0,
         }
     }

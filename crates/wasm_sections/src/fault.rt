@@ -97,9 +97,13 @@ pub enum ModuleFault {
     /// A function can't be written.
     #[error(transparent)]
     Emit(EmitError),
-    /// An export that is to be added has the name of an existing one.
+    /// An export that is to be added has the name of another one, of the source or added before.
     #[error("an export has this name already")]
     ExportTaken,
+    /// A custom section is one of an object file (`linking`, or one whose name begins with `reloc.`),
+    /// whose relocations wouldn't be true of other code.
+    #[error("this is an object file: link it first")]
+    ObjectFile,
     /// A function that is to be added doesn't have as many arguments as its type has parameters.
     #[error("a function does not have as many arguments as parameters")]
     ArgumentCount,

@@ -1,5 +1,5 @@
 use Rattle.std.proofs.Common.{ℕ, List, subst}
-use Rattle.wasm_sections.specs.Additions.{AddsAfter, AddsItem}
+use Rattle.wasm_sections.specs.Additions.{AddsAfter}
 use Rattle.wasm_sections.specs.Sections.{id_of}
 use Rattle.wasm_module.proofs.parsed.ParsedModule.add_item.Goals as goal
 

@@ -1,4 +1,4 @@
-use Rattle.std.proofs.Common.{rules, ◌≡◌, ◌+◌, length, arith}
+use Rattle.std.proofs.Common.{rules, arith}
 use Rattle.wasm_module.proofs.parsed.ParsedModule.put_in_pieces.Goals as goal
 
 pub returns-in-Ok-clause-written : goal.returns-in-Ok-clause-written

@@ -1,6 +1,6 @@
 use Rattle.std.proofs.Common.{◌≡◌, ◌≢◌, refl, rules}
 use Rattle.wasm_sections.specs.Sections.{id_of, section}
-use Rattle.wasm_module.specs.WrittenModules.IsWrittenFor.{code, replaced}
+use Rattle.wasm_module.specs.WrittenModules.IsWrittenFor.{code, replaced, carried_over}
 use Rattle.wasm_module.proofs.ModuleLemmas.{extends_same, then_ok}
 use Rattle.wasm_module.proofs.WritingLemmas.{if_so}
 use Rattle.wasm_module.proofs.parsed.ParsedModule.put_in_place.Goals as goal
@@ -21,7 +21,12 @@ returns-in-Some-clause-written g c = λ source e.
     let kind = c.args.section.now.kind in
     let contents = c.in-Some.contents.now in
     let not_code : id_of kind ≢ 10 = search rules in
-    if_so c.put_section.result c.put_section.ensures (λ end p. (section (id_of kind) contents, replaced contents not_code c.in-Some.ensures.some refl, p))
+    if_so c.put_section.result c.put_section.ensures (λ end p. (section (id_of kind) contents, replaced contents not_code (c.in_ok-omits.ensures.no c.if-branch.false) c.in-Some.ensures.some refl, p))
 
-pub returns-then-omits-clause-extends : goal.returns-then-omits-clause-extends
-returns-then-omits-clause-extends g c = extends_same c.args.self.now
+pub returns-then-branch-clause-extends : goal.returns-then-branch-clause-extends
+returns-then-branch-clause-extends g c = extends_same c.args.self.now
+
+pub returns-in-None-clause-written : goal.returns-in-None-clause-written
+returns-in-None-clause-written g c = λ source e.
+    let not_code : id_of c.args.section.now.kind ≢ 10 = search rules in
+    if_so c.put.result c.put.ensures (λ end p. (c.args.section.now.whole.now, carried_over not_code (c.in_ok-omits.ensures.no c.if-branch.false) c.in-None.ensures.none refl, p))

@@ -5,16 +5,16 @@ use Rattle.wasm_module.proofs.parsed.ParsedModule.put_large_body.Goals as goal
 pub returns-clause-extends : goal.returns-clause-extends
 returns-clause-extends g c =
     then_ok c.place_after.result
-    (extends_then c.args.self.now c.measure_large_body.new.parsed c.put_in_pieces.new.self c.in_ok-len.ensures.extends c.in_ok-put_in_pieces.ensures.extends)
+    (extends_then c.args.self.now c.measure_large_body.new.parsed c.put_in_pieces.new.self c.in_ok-measured.ensures.extends c.in_ok-put_in_pieces.ensures.extends)
 
 pub returns-clause-written : goal.returns-clause-written
 returns-clause-written g c = λ source e.
     let contents = g.W.Write.contents in
-    let measured = extends_then source c.args.self.now c.measure_large_body.new.parsed e c.in_ok-len.ensures.extends in
+    let measured = extends_then source c.args.self.now c.measure_large_body.new.parsed e c.in_ok-measured.ensures.extends in
     let made = c.in_ok-put_in_pieces.ensures.written source measured in
     if_so c.place_after.result c.place_after.ensures (λ end is. (
       made.0,
       made.1,
-      puts_entry (contents c.args.out.now) (contents c.put_number.new.out) (contents c.put_in_pieces.new.out) c.args.at c.in_ok-start.start end c.in_ok-len.len made.0
+      puts_entry (contents c.args.out.now) (contents c.put_number.new.out) (contents c.put_in_pieces.new.out) c.args.at c.in_ok-start.start end c.in_ok-measured.measured.len made.0
           c.in_ok-start.ensures made.2 made.3 is,
     ))

@@ -8,7 +8,6 @@ use Rattle.wasm_module.proofs.parsed.ParsedModule.put_with_new.Goals as goal
 
 pub returns-then-rank-eq0-clause-written : goal.returns-then-rank-eq0-clause-written
 returns-then-rank-eq0-clause-written g c = λ source all e m.
-    let writes = g.B.BodyWriter.writes c.args.rewritten.now.bodies in
     let changes = c.args.rewritten.now.changes in
     let w = c.in_ok-end.ensures.written source e in
     let is_custom : 0 ≡ rank (id_of c.args.section.now.kind) = omega (arith, c.rank-rank.ensures) in (
@@ -16,7 +15,7 @@ returns-then-rank-eq0-clause-written g c = λ source all e m.
       record {
         own = w.0;
         is_written = w.1;
-        text_is = sym (append-nil w.0) ∙ ap (λ (n : ℕ). w.0 ++ new_after_section writes source changes all n) is_custom;
+        text_is = sym (append-nil w.0) ∙ ap (λ (n : ℕ). w.0 ++ new_after_section changes.given.items all n) is_custom;
       },
       w.2,
     )
@@ -36,7 +35,7 @@ returns-clause-written g c = λ source all e m.
         is_written = w.1;
         text_is =
             ap (λ (l : List ℕ). w.0 ++ l)
-            (ap (λ (n : ℕ). new_after changes.given.items all n) c.rank-rank.ensures ∙ after_other (g.B.BodyWriter.writes c.args.rewritten.now.bodies) source changes all r not_custom);
+            (ap (λ (n : ℕ). new_after changes.given.items all n) c.rank-rank.ensures ∙ after_other changes.given.items all r not_custom);
       },
       puts_then (contents c.args.out.now) (contents c.put_in_place.new.out) (contents c.put_new_after.new.out) c.args.at c.in_ok-end.end end w.0
           (new_after changes.given.items all c.rank-rank.result) w.2 puts,

@@ -12,7 +12,7 @@ sections-init g c =
     record {
       extends = extends_same c.args.self.now;
       so_far =
-          no_sections (g.B.BodyWriter.writes c.args.rewritten.now.bodies) c.args.self.now c.args.rewritten.now.changes first.left.end first.left.rest.now first
+          no_sections (g.B.BodyWriter.writes c.args.rewritten.now.bodies) c.args.self.now c.args.rewritten.now.changes c.args.rewritten.now.omitted first.left.end first.left.rest.now first
           (contents c.args.out.now) (contents c.put.new.out) (contents c.put_new_after.new.out) 0 c.in_ok-begin.begin c.in_ok-end.end _ refl refl refl c.in_ok-begin.ensures c.in_ok-end.ensures;
     }
 
@@ -24,7 +24,7 @@ sections-preserved g c =
     record {
       extends = extends_then c.args.self.now at.self c.put_with_new.new.self at.invariant.extends c.in_ok-end-2.ensures.extends;
       so_far =
-          one_more_section (g.B.BodyWriter.writes c.args.rewritten.now.bodies) c.args.self.now c.args.rewritten.now.changes first.left.end first.left.rest.now
+          one_more_section (g.B.BodyWriter.writes c.args.rewritten.now.bodies) c.args.self.now c.args.rewritten.now.changes c.args.rewritten.now.omitted first.left.end first.left.rest.now
           at.section-iterator c.next.new.self c.next.result c.in_ok-section.section (contents c.args.out.now) (contents at.out) (contents c.put_with_new.new.out) 0 at.end
           c.in_ok-end-2.end at.invariant.so_far (c.in-Some.is ∙ ap (λ (r : _). Some r) c.in_ok-section.was) c.next.ensures.steps
           (λ all m.
@@ -35,6 +35,7 @@ pub returns-clause-written : goal.returns-clause-written
 returns-clause-written g c =
     let writes = g.B.BodyWriter.writes c.args.rewritten.now.bodies in
     let changes = c.args.rewritten.now.changes in
+    let left_out = c.args.rewritten.now.omitted in
     let old = g.W.Write.contents c.args.out.now in
     let new = g.W.Write.contents c.sections.out in
     let at = c.sections in
@@ -44,5 +45,5 @@ returns-clause-written g c =
     let same = c.into_iter-section-iterator.ensures.into_iter_gives in
     let parts : file ≡ preamble ++ text = c.in_ok-section-items.ensures.rest ∙ ap (λ (s : Sections). preamble ++ s.left.rest.now) (sym same) in
     let stop : first.left.end ≡ length file = ap (λ (s : Sections). s.left.end) same ∙ c.in_ok-section-items.ensures.end in
-    let so_far = subst (λ (n : ℕ). ModuleSoFar writes c.args.self.now changes n text at.section-iterator old new 0 at.end) stop at.invariant.so_far in
-    all_sections writes c.args.self.now changes file text at.section-iterator c.next.new.self c.next.result old new 0 at.end c.bytes.ensures parts so_far c.in-None.is c.next.ensures.steps
+    let so_far = subst (λ (n : ℕ). ModuleSoFar writes c.args.self.now changes left_out n text at.section-iterator old new 0 at.end) stop at.invariant.so_far in
+    all_sections writes c.args.self.now changes left_out file text at.section-iterator c.next.new.self c.next.result old new 0 at.end c.bytes.ensures parts so_far c.in-None.is c.next.ensures.steps

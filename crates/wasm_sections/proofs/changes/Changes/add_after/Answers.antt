@@ -14,7 +14,7 @@ returns-in-Some-clause-ok c =
     let new : Changes = record old { given = with_item old.given c.in-Some.at g } in
     on_ok c.append_item.result _ (AddsAfter old new (id_of c.args.kind) c.args.others.now c.args.item.now) c.append_item.ensures.ok
     (λ more. after_given old new (id_of c.args.kind) c.in-Some.at c.args.others.now c.args.item.now c.in-Some.ensures.found c.in-Some.ensures.within
-    c.index_mut.result.now g c.index_mut.ensures.value refl more (search rules) refl refl refl)
+    c.index_mut.result.now g c.index_mut.ensures.value refl more (search rules) refl)
 
 pub returns-in-Some-clause-err : goal.returns-in-Some-clause-err
 returns-in-Some-clause-err c =
@@ -22,7 +22,7 @@ returns-in-Some-clause-err c =
     let g : NewContents = record { kind = c.index_mut.result.now.kind; contents = c.append_item.new.contents } in
     let new : Changes = record old { given = with_item old.given c.in-Some.at g } in
     on_err c.append_item.result _ (AreUnchanged old new) c.append_item.ensures.err
-    (λ same. unchanged_at old new c.in-Some.at c.index_mut.result.now g c.index_mut.ensures.value refl same (search rules) refl refl refl)
+    (λ same. unchanged_at old new c.in-Some.at c.index_mut.result.now g c.index_mut.ensures.value refl same (search rules) refl)
 
 pub returns-in_ok-check_len-in-None-clause-ok : goal.returns-in_ok-check_len-in-None-clause-ok
 returns-in_ok-check_len-in-None-clause-ok c =
