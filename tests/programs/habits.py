@@ -36,7 +36,7 @@ def _(room):
 def _(room):
     for program in PROGRAMS:
         room.wrong_use(program, says="no file to read is given")
-        room.wrong_use(program, "in", says="no file to write is given")
+    room.wrong_use("wsnip", "in", says="no function is given")
     room.wrong_use("wsnip", "in", "out", says="no function is given")
 
 
@@ -48,10 +48,9 @@ def _(room):
     room.wrong_use("wsnip", "--check", "in", says="unknown option '--check'")
 
 
-@case("a repeated option is named")
+@case("an option whose value is given twice is named")
 def _(room):
     for program in PROGRAMS:
-        room.wrong_use(program, "-v", "--verbose", "in", "out", says="option '--verbose' is given twice")
         room.wrong_use(program, "--map=a", "--map", "b", "in", "out", says="option '--map' is given twice")
 
 
@@ -72,7 +71,7 @@ def _(room):
 def _(room):
     for option in ("--map=map", "--strip-debug"):
         name = option.split("=")[0]
-        room.wrong_use("wrewrite", "--check", option, "in", says=f"option '{name}' can't be used with '--check', which writes nothing")
+        room.wrong_use("wrewrite", "--check", option, "in", says=f"option '{name}' can't be used with '--check', which writes no module")
 
 
 @case("words that are wrong in more than one way, or in another form")
@@ -81,10 +80,9 @@ def _(room):
     room.put("i", source_map(""))
     for words, says in (
         ("--map m --map=m a b", "option '--map' is given twice"),
-        ("--check --check a", "option '--check' is given twice"),
         ("--source-map i --source-map i a b", "option '--source-map' is given twice"),
-        ("--check --map m a", "option '--map' can't be used with '--check', which writes nothing"),
-        ("--check --source-map i a", "option '--source-map' can't be used with '--check', which writes nothing"),
+        ("--check --map m a", "option '--map' can't be used with '--check', which writes no module"),
+        ("--check --source-map i a", "option '--source-map' can't be used with '--check', which writes no module"),
         ("--verbose=1 a b", "option '--verbose' takes no value"),
         ("a b --source-map-url", "option '--source-map-url' requires a value"),
         ("--mpa m a b", "unknown option '--mpa'"),
@@ -96,7 +94,7 @@ def _(room):
 
 @case("a word that isn't UTF-8")
 def _(room):
-    room.wrong_use("wrewrite", b"\xff", "out", says="a word is not UTF-8")
+    room.wrong_use("wrewrite", b"\xff", "out", says="word 1 isn't UTF-8, which a path has to be")
 
 
 @case("words after -- are no options")
@@ -126,7 +124,7 @@ def _(room):
     for words, printed in ("-v in out", b""), ("- - --verbose", GOOD_WRITTEN):
         status, out, err = room.run("wrewrite", *words.split(), given=GOOD)
         same((0, printed), (status, out), words)
-        assert re.fullmatch(r"wrewrite: 1 function, 25 bytes, \d+ ms\n", err), err
+        assert re.fullmatch(r"wrewrite: 1 function, 25 bytes read, 24 written \(-4\.0%\), \d+ ms\n", err), err
     same(["in", "out"], room.files())
     room.put("in", NAMED)
     _, _, err = room.run("wcount", "--verbose", "in", "out")

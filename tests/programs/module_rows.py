@@ -152,12 +152,14 @@ FAULTS_OF_BODIES = (
 WARNED = (
     (FOLLOWED, ("source map is out of date: use --source-map or --strip-debug",)),
     (
-        "0061736d01000000 000c0b2e64656275675f6c696e65 000b0a2e64656275675f737472 0008046e616d65020101",
+        "0061736d01000000 010401600000 03020100 0a050103 00010b 000c0b2e64656275675f6c696e65 000b0a2e64656275675f737472 0008046e616d65020101",
         (
             "debug information is out of date (.debug_line): use --strip-debug",
             'section "name" is carried over as it is, though the code has changed',
         ),
     ),
+    # no code is changed
+    ("0061736d01000000 010401600000 03020100 0a040102 000b 000c0b2e64656275675f6c696e65 0008046e616d65020101", ()),
 )
 
 # An imported function, and three of the module's own, of which the first and the last are refused. Of each of these two, the place of

@@ -16,6 +16,8 @@ TOGETHER = "wtools"
 DATA = f"{TOP}/crates/{TOGETHER}/data"
 # The program that rewrites and runs bodies without a module.
 BODIES = "wbody"
+# The program that runs rows of cases through it.
+ROWS = "wbody_rows"
 EXAMPLES = ("examples",)
 # The tools of the program `examples`, whose first word names one of them.
 TOOLS = ("wgc", "wloops", "wone", "wtrace")

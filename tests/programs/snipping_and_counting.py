@@ -1,11 +1,12 @@
 """Which functions wsnip takes out, and what wsnip and wcount write; what becomes of debug information; and what the scripts at
 the top run."""
 import os
+import shutil
 import subprocess
 
 from module_rows import FOLLOWED
 from modules import DEBUG, GOOD, GOOD_WRITTEN, NAMED, NOP, TRAP, custom, exports, module, names, section, sized, vector
-from runs import DATA, PROGRAMS, TOP, case, holds, same, stored
+from runs import DATA, PROGRAMS, TOGETHER, TOP, case, holds, same, stored
 
 IMPORT = section(2, vector([sized(b"m") + sized(b"f") + b"\0\0"]))
 SECOND_SNIPPED = module([b"", TRAP, b""], exported=exports([(b"out", 2)]), after=names([(0, b"first"), (1, b"second")]))
@@ -183,10 +184,23 @@ def _(room):
     assert len(room.get("once")) < os.path.getsize(sample)
 
 
+def marked_tree(folder):
+    """A copy of the repository, in which the program of this test is known as the proved one."""
+    top, program = f"{folder}/top", f"crates/{TOGETHER}/out/{TOGETHER}"
+    shutil.copytree(TOP, top, ignore=shutil.ignore_patterns("out", "out-quick", ".git"))
+    os.makedirs(os.path.dirname(f"{top}/{program}"))
+    shutil.copy(f"{TOP}/{program}", f"{top}/{program}")
+    script = f"{top}/run-program"
+    sources = subprocess.run([script, "--sources", TOGETHER], capture_output=True, check=True, text=True).stdout.strip()
+    subprocess.run([script, "--mark", TOGETHER, f"{top}/{program}", sources], check=True)
+    return top
+
+
 @case("the scripts at the top run the built programs for help and wrong words, and build nothing")
 def _(room):
+    top = marked_tree(room.folder)
     for program in PROGRAMS:
         for words in (["--help"], ["--version"], [], ["--mpa", "a", "b"], ["a"], [b"\xff", "b"]):
-            script = subprocess.run([f"{TOP}/{program}", *words], cwd=room.folder, stdin=subprocess.DEVNULL, capture_output=True, timeout=60)
+            script = subprocess.run([f"{top}/{program}", *words], cwd=room.folder, stdin=subprocess.DEVNULL, capture_output=True, timeout=60)
             status, out, err = room.run(program, *words)
             same((status, out, err), (script.returncode, script.stdout, script.stderr.decode()))

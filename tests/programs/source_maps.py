@@ -137,10 +137,9 @@ def _(room):
     room.put("in.map", source_map(""))
     room.wrong_use("wrewrite", "--source-map", "in.map", "in", "out", says="option '--source-map' requires '--output-source-map'")
     room.wrong_use("wrewrite", "--output-source-map", "out.map", "in", "out", says="option '--output-source-map' requires '--source-map'")
-    room.wrong_use("wrewrite", "--source-map-url", "u", "in", "out", says="option '--source-map-url' requires '--source-map'")
     room.wrong_use("wrewrite", *MAPS, "--source-map=x", "in", "out", says="option '--source-map' is given twice")
     room.wrong_use("wrewrite", "in", "out", "--source-map", says="option '--source-map' requires a value")
-    room.wrong_use("wrewrite", *MAPS, "--check", "in", says="option '--source-map' can't be used with '--check', which writes nothing")
+    room.wrong_use("wrewrite", *MAPS, "--check", "in", says="option '--source-map' can't be used with '--check', which writes no module")
 
 
 @case("the files of source maps are others than all that are read and written; one map may be written onto the other")

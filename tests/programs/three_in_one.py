@@ -1,12 +1,12 @@
 """Three programs are one executable, wtools: the name under which it is started, or else its first word, says which of them it
-is. Also its benchmark, wbench."""
+is. Also its benchmark, wbench, and what wbody_rows says of rows."""
 import os
-import re
+import resource
 import shutil
 import subprocess
 
-from modules import GOOD_WRITTEN, NAMED
-from runs import DATA, PROGRAMS, TOGETHER, case, holds, same
+from modules import GOOD_WRITTEN, NAMED, module
+from runs import DATA, PROGRAMS, ROWS, TOGETHER, case, holds, same
 
 
 @case("the first word names the program")
@@ -53,19 +53,18 @@ def _(room):
     for word in ("in", "", "wsni", "wsnipp", "Wsnip", "./wsnip", "--map", "wtools", "-"):
         room.wrong_use(TOGETHER, word, "in", "out", says=f"unknown program '{word}'")
     room.wrong_use(TOGETHER, "a\x1bb", says="unknown program 'a\\u{1b}b'")
-    room.wrong_use(TOGETHER, b"\xff", says="a word is not UTF-8")
+    room.wrong_use(TOGETHER, b"\xff", says="word 1 isn't UTF-8, which a path has to be")
     same(["in"], room.files())
 
 
-@case("the help and the version of the one program name them all")
+@case("the help of the one program names them all; its version is theirs")
 def _(room):
-    for option, other in (("--help", "-h"), ("--version", "-V")):
-        out = room.works(TOGETHER, option).decode()
-        same(out, room.works(TOGETHER, other).decode())
-        for program in (*PROGRAMS, "wbench"):
-            holds(program, out)
-    holds("usage: wtools PROGRAM ", room.works(TOGETHER, "--help").decode())
-    assert re.match(r"wtools \d+\.\d+\.\d+ ", room.works(TOGETHER, "--version").decode())
+    out = room.works(TOGETHER, "--help").decode()
+    same(out, room.works(TOGETHER, "-h").decode())
+    for words in (*PROGRAMS, "wbench", "usage: wtools PROGRAM "):
+        holds(words, out)
+    for option in ("--version", "-V"):
+        same(room.works("wrewrite", option), room.works(TOGETHER, option).replace(b"wtools", b"wrewrite"))
 
 
 @case("the benchmark adds up, for each pass, the bytes that are written and their pairs")
@@ -78,5 +77,27 @@ def _(room):
     for words in ([], ["map", "1"], ["mad", "1", "in"], ["map", "x", "in"], ["map", "1", "in", "more"]):
         status, out, err = room.run(TOGETHER, "wbench", *words)
         same((2, b""), (status, out), err)
+    room.put("cut", b"\0asm\1\0\0\0\1")
+    status, out, err = room.run(TOGETHER, "wbench", "map", "1", "cut")
+    same((1, b"", "wbench: cut: 0x9: the bytes end too early (Truncated)\n"), (status, out, err))
     status, out, err = room.run(TOGETHER, "wbench", "map", "1", "no")
     same((1, b"", "wbench: no: can't be opened: No such file or directory (os error 2)\n"), (status, out, err))
+
+
+@case("the benchmark names no place, nor the file, where memory runs out")
+def _(room):
+    # a tree of two million operators takes more memory than this
+    room.put("in", module([b"\x41\0\x1a" * 1000000]))
+    for megabytes in (32, 64):
+        limit = megabytes << 20
+        status, out, err = room.run(TOGETHER, "wbench", "rewrite", "1", "in", preexec_fn=lambda: resource.setrlimit(resource.RLIMIT_AS, (limit, limit)))
+        same((1, b"", "wbench: out of memory (Memory)\n"), (status, out, err), megabytes)
+
+
+@case("the rows of wbody_rows: status 1 where one differs")
+def _(room):
+    row = b"rewrite 010b\t0\t%s\t\n"
+    end = b"%d bodies rewritten by their tree and without it, 0 differ\n%d bodies read back, traced and cut short, 0 differ\n"
+    same(b"2 rows, 0 differ\n" + end % (2, 2), room.works(ROWS, given=row % b"0b" * 2))
+    said = b'rewrite 010b: 0 "0b\\n" ""\n2 rows, 1 differ\n' + end % (2, 2)
+    same((1, said, ""), room.run(ROWS, given=row % b"0b" + row % b"0c"))

@@ -11,9 +11,10 @@ from runs import case, same
 @case("wrewrite writes these modules, and leaves what it wrote unchanged")
 def _(room):
     for given, written in module_rows.REWRITTEN:
-        # this module names a source map
-        warned = "wrewrite: warning: source map is out of date: use --source-map or --strip-debug\n" if given is FOLLOWED else ""
         for source in (given, written):
+            # this module names a source map, which is true where no code is changed
+            moves = given is FOLLOWED and source is given
+            warned = "wrewrite: warning: source map is out of date: use --source-map or --strip-debug\n" if moves else ""
             room.put("in", bytes.fromhex(source))
             same((0, bytes.fromhex(written), warned), room.run("wrewrite", "in", "-"), source)
 
@@ -41,7 +42,7 @@ def _(room):
             # a rewrite names every fault on standard error, and --check that of a body on standard output
             status, out, err = room.run("wrewrite", "in", "out")
             same((1, b""), (status, out), given)
-            assert re.fullmatch(rf"wrewrite: in: {place:#x}: {item}[^:\n]+ \({name}\)\n", err), f"{err!r} isn't {name} at {place:#x}, of {given}"
+            assert re.fullmatch(rf"wrewrite: in: {place:#x}: {item}(?!function)[^\n]+ \({name}\)\n", err), f"{err!r} isn't {name} at {place:#x}, of {given}"
             said = ("", err) if item == "" else (err, "")
             status, out, err = room.run("wrewrite", "--check", "in")
             same((1, *said), (status, out.decode(), err), given)

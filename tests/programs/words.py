@@ -18,7 +18,7 @@ REQUESTS = (
         "wrewrite -v --strip-debug a b",
         {"a": GOOD + DEBUG},
         {"b": GOOD_WRITTEN + custom(b"other", b"o")},
-        r"wrewrite: 1 function, 84 bytes, \d+ ms\n",
+        r"wrewrite: 1 function, 84 bytes read, 33 written \(-60\.7%\), \d+ ms\n",
     ),
     (
         "wrewrite --source-map i --output-source-map=o a b",

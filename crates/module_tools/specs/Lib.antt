@@ -8,3 +8,5 @@ pub mod Endings
 pub mod Places
 -- what words ask for
 pub mod Words
+-- what a file is that isn't a module
+pub mod NotAModules

@@ -1,5 +1,5 @@
 -- What words ask of a program.
-use Rattle.std.specs.Prelude.{◌≡◌, length, false, nat_lt, None}
+use Rattle.std.specs.Prelude.{◌≡◌, length, [], true, false, nat_lt, None}
 use Rattle.module_tools.specs.declared.ending.Failure.{Failure}
 use Rattle.module_tools.specs.declared.ending.Failure.TheVariants as failure
 use Rattle.module_tools.specs.declared.program.Options.{Options}
@@ -8,15 +8,25 @@ use Rattle.module_tools.specs.declared.program.Request.{Request}
 use Rattle.module_tools.specs.declared.program.Request.TheVariants as request
 use Rattle.module_tools.specs.declared.program.Task.{Task}
 
--- Nothing is written but what is printed.
-pub record WritesNothing (task : Task) : Type 0 where
+-- No file is written, but where the module goes.
+pub record WritesNoFile (task : Task) : Type 0 where
   pub map : task.map ≡ None
   pub source_map : task.source_map ≡ None
-  pub strips_debug : task.strips_debug ≡ false
+  pub source_map_url : task.source_map_url ≡ None
+  pub export : task.export ≡ None
+  pub is_forced : task.is_forced ≡ false
 
--- Functions are asked for of a program that takes them, and of no other; and where no module is written, nothing is.
+-- Nothing is written but what is printed, and nothing is asked for that is for a module that is written.
+pub record WritesNothing (task : Task) : Type 0 where
+  pub files : WritesNoFile task
+  pub sections : task.sections.items ≡ []
+
+-- Functions are asked for of a program that takes them, and of no other, nor where they are listed; where they are listed no module is
+-- written; and where no module is written, nothing is.
 pub record IsTaskOf (program : Program) (task : Task) : Type 0 where
-  pub functions : nat_lt 0 (length task.functions.items) ≡ program.takes_functions
+  pub functions : task.lists ≡ false → nat_lt 0 (length task.functions.items) ≡ program.takes_functions
+  pub listed : task.lists ≡ true → task.functions.items ≡ []
+  pub alone : task.lists ≡ true → task.output ≡ None
   pub output : task.output ≡ None → WritesNothing task
 
 abbrev pub IsRequestOf : Program → Request → Type 0
@@ -37,4 +47,6 @@ IsRefusedRequest failure.Memory = Unit {0}
 pub record ChecksAlone (options : Options) : Type 0 where
   pub map : options.map ≡ None
   pub source_map : options.source_map ≡ None
-  pub strips_debug : options.strips_debug ≡ false
+  pub source_map_url : options.source_map_url ≡ None
+  pub export : options.export ≡ None
+  pub is_forced : options.is_forced ≡ false

@@ -59,23 +59,37 @@ pub fn call_counter(
     alloc: Global,
     parsed: &mut ParsedModule<'_>,
 ) -> Result<(CountCalls, Changes), ModuleError> {
+    call_counter_named(alloc, parsed, CALLS)
+}
+
+/// The same, where the global is exported under this name.
+///
+/// # Errors
+///
+/// `ExportTaken` where the module exports something else under this name; or `Memory`.
+pub fn call_counter_named(
+    alloc: Global,
+    parsed: &mut ParsedModule<'_>,
+    name: &str,
+) -> Result<(CountCalls, Changes), ModuleError> {
     let mut changes = Changes::new(alloc);
-    match add_counter(parsed, &mut changes) {
+    match add_counter(parsed, &mut changes, name) {
         Ok(global) => Ok((CountCalls(global), changes)),
         Err(error) => Err(error),
     }
 }
 
-/// Adds the global, and its export.
+/// Adds the global, and its export under this name.
 fn add_counter(
     parsed: &mut ParsedModule<'_>,
     changes: &mut Changes,
+    name: &str,
 ) -> Result<GlobalId, ModuleError> {
     let global = match parsed.add_global(changes, &COUNTER) {
         Ok(global) => global,
         Err(error) => return Err(error),
     };
-    match parsed.export_global(changes, CALLS, global) {
+    match parsed.export_global(changes, name, global) {
         Ok(()) => Ok(global),
         Err(error) => Err(error),
     }

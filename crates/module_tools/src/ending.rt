@@ -1,17 +1,22 @@
 //! How a program ends: its errors, and its status.
 
-ghost use Rattle.std.specs.Prelude.{◌≡◌, IfOk};
+ghost use Rattle.std.specs.Prelude.{◌≡◌, IfOk, IsOk, IsErr};
 ghost use Rattle.std.specs.Process.{exit_status};
 ghost use Rattle.module_tools.specs.Endings.{status_of, IsMemoryOr};
 
 use crate::escaped::Escaped;
+use crate::not_a_module::NotAModule;
 use crate::usage_error::UsageError;
 use source_map_json::{SourceMapError, SourceMapFault};
 use std::alloc::{AllocError, AllocFailed, Global};
+use std::env::FillError;
 use std::process::ExitCode;
 use std::rt::Env;
 use std::{env, fmt, io};
 use wasm_module::{ModuleError, ModuleFault};
+
+/// No argument is longer on Linux, in bytes.
+const LONGEST_WORD: usize = 1 << 17;
 
 /// What was tried with a file.
 #[derive(Clone, Copy)]
@@ -65,7 +70,7 @@ impl fmt::Display for Item {
     }
 }
 
-/// A path, as it is printed.
+/// A path, as it is printed: without control characters, and by the stream's name for `-`.
 #[derive(Clone, Copy)]
 struct Shown<'w>(&'w str, &'static str);
 
@@ -73,7 +78,10 @@ impl fmt::Display for Shown<'_> {
     fn fmt<W: fmt::Write>(&self, f: &mut fmt::Formatter<W>) -> fmt::Result {
         match self.0 {
             "-" => f.write_str(self.1),
-            path => f.write_str(path),
+            path => {
+                let path = Escaped(path);
+                write!(f, "{path}")
+            }
         }
     }
 }
@@ -102,6 +110,16 @@ fn fault_text(alloc: Global, error: &ModuleError) -> Result<String, AllocError> 
     let name = error.fault.name();
     let fault = &error.fault;
     format!(in alloc; "{fault} ({name})")
+}
+
+/// What a file is that isn't a module, and the name of the fault that it has as one.
+fn not_a_module_text(
+    alloc: Global,
+    kind: NotAModule,
+    error: &ModuleError,
+) -> Result<String, AllocError> {
+    let name = error.fault.name();
+    format!(in alloc; "{kind} ({name})")
 }
 
 impl<'w> Refusal<'w> {
@@ -136,6 +154,26 @@ impl<'w> Refusal<'w> {
 }
 
 impl<'w> Refusal<'w> {
+    /// This file isn't a module, but something else that is known.
+    fn of_other(
+        alloc: Global,
+        path: &'w str,
+        kind: NotAModule,
+        error: &ModuleError,
+    ) -> Result<Refusal<'w>, AllocError>
+        ensures { IfOk result (λ refusal. refusal.path.now ≡ path.entry.now) }
+    {
+        match not_a_module_text(alloc, kind, error) {
+            Ok(fault) => Ok(Refusal {
+                path,
+                at: Some(error.at),
+                item: None,
+                fault,
+            }),
+            Err(error) => Err(error),
+        }
+    }
+
     /// A fault of the source map that was read from this file, which has no place.
     fn of_source_map(
         alloc: Global,
@@ -226,6 +264,26 @@ impl<'w> Failure<'w> {
         }
     }
 
+    /// The bytes of this file aren't read as a module. Where they are something else that is known,
+    /// that is said.
+    pub(crate) fn not_read(
+        alloc: Global,
+        path: &'w str,
+        bytes: &[u8],
+        error: &ModuleError,
+    ) -> Failure<'w> {
+        if matches!(error.fault, ModuleFault::Memory) {
+            return Failure::Memory;
+        }
+        let Some(kind) = NotAModule::of(bytes) else {
+            return Failure::refused(alloc, path, None, error);
+        };
+        match Refusal::of_other(alloc, path, kind, error) {
+            Ok(refusal) => Failure::Refused(refusal),
+            Err(_) => Failure::Memory,
+        }
+    }
+
     /// The source map that was read from this file is refused.
     pub fn source_map(alloc: Global, path: &'w str, error: SourceMapError) -> Failure<'w> {
         let SourceMapError::Fault(fault) = error else {
@@ -287,11 +345,27 @@ impl<T: Drop> From<AllocFailed<T>> for Failure<'_> {
     }
 }
 
+/// The number of the first word that isn't UTF-8. The words are the arguments from this place on, and
+/// their numbers begin with 1.
+fn number_of_bad_word<R: Env + AllocGlobal>(rt: &R, first: usize) -> Result<usize, AllocError> {
+    let mut buffer = vec![in rt.alloc(); 0u8; LONGEST_WORD]?;
+    for place in first..usize::MAX {
+        match rt.arg(place, &mut buffer) {
+            Ok(len) if str::from_utf8(&buffer[..len]).is_err() => {
+                return Ok(place.saturating_sub(first).saturating_add(1));
+            }
+            Err(FillError::NotPresent) => break,
+            _ => {}
+        }
+    }
+    Ok(0)
+}
+
 /// The program's words: its arguments from this place on. At 0 is its own name.
 ///
 /// # Errors
 ///
-/// Wrong use where an argument isn't UTF-8; or that memory ran out.
+/// Wrong use where an argument isn't UTF-8, with its number; or that memory ran out.
 pub fn words<R: Env + AllocGlobal>(rt: &R, first: usize) -> Result<Vec<String>, Failure<'static>> {
     let mut words = Vec::new(rt.alloc());
     match env::args(rt) {
@@ -302,7 +376,8 @@ pub fn words<R: Env + AllocGlobal>(rt: &R, first: usize) -> Result<Vec<String>, 
             Ok(words)
         }
         Err(error) if error.kind() == io::ErrorKind::InvalidData => {
-            Err(Failure::UsageError(UsageError::NotUtf8))
+            let number = number_of_bad_word(rt, first)?;
+            Err(Failure::UsageError(UsageError::NotUtf8(number)))
         }
         Err(_) => Err(Failure::Memory),
     }
@@ -331,4 +406,16 @@ pub fn exit_code(rt: &impl Eprint, program: &str, failure: Failure<'_>) -> ExitC
         let _ = eprintln!(rt; "try '{program} --help'");
     }
     ExitCode::from(status)
+}
+
+/// The status after a page was printed, as help: 0. Where it couldn't be, that is printed to standard
+/// error, and the status is 1.
+pub fn page_code(rt: &impl Eprint, program: &str, printed: io::Result<()>) -> ExitCode
+    ensures printed { IsOk printed → exit_status result ≡ 0 }
+    ensures failed { IsErr printed → exit_status result ≡ 1 }
+{
+    match printed {
+        Ok(()) => ExitCode::SUCCESS,
+        Err(error) => exit_code(rt, program, Failure::file("-", Attempt::Write, error)),
+    }
 }

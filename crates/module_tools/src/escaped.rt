@@ -1,4 +1,4 @@
-//! Text from a module, as it is printed.
+//! Text from a module, a word or a path, as it is printed.
 
 use std::fmt;
 use std::fmt::Write;

@@ -6,21 +6,14 @@ ghost use Rattle.module_tools.specs.Endings.{IsMemoryOr};
 ghost use Rattle.module_tools.specs.declared.ending.Attempt.TheVariants as attempt;
 
 use crate::ending::{Attempt, Failure};
+use crate::in_place::{check_protection, is_denied, put, write_over};
+use crate::locks::LockFiles;
 use crate::places::resolve;
-use std::alloc::{AllocError, Global};
-use std::fs::{Metadata, OpenFile, OpenOptions, Permissions};
+use crate::unfinished::{Finished, Unfinished};
+use std::fs::{Metadata, OpenFile, Permissions};
 use std::io::{Read, Write};
-use std::os::unix::fs::OpenOptionsExt;
-use std::path::Path;
 use std::rt::Files;
 use std::{fs, io};
-
-/// How many names are tried for a file that is being written.
-const MAX_NAMES: u32 = 10_000;
-
-/// How many bytes of a file's name are in the name of one that is written beside it: a name has 255
-/// at most.
-const MAX_NAME_LEN: usize = 200;
 
 /// Appends the bytes of a file.
 fn read_into<'w, R: Files + Input>(
@@ -87,54 +80,53 @@ impl AtPath {
     }
 }
 
-/// The path of a file that is being written, beside the one that it becomes.
-fn path_beside(alloc: Global, path: &str, number: u32) -> Result<String, AllocError> {
-    let path = Path::new(path);
-    let name = path.file_name().unwrap_or("");
-    let (front, _) = name.split_at(name.floor_char_boundary(MAX_NAME_LEN));
-    let name = format!(in alloc; "{front}.unfinished-{number}")?;
-    Ok(path.with_file_name(alloc, name.as_str())?.into_string())
+/// Where the bytes are that are written.
+#[derive(Drop)]
+enum Store<F> {
+    /// In standard output.
+    Output,
+    /// In a device or a pipe.
+    Direct(F),
+    /// In a file beside its place.
+    Beside(Unfinished<F>, String),
+    /// In memory, until they are written at their place, where no file can be put.
+    Memory(Vec<u8>, String),
 }
 
-/// Makes a file, where none is: its owner alone may read it where `is_private`.
-fn create_new<R: Files>(rt: &R, path: &str, is_private: bool) -> io::Result<R::File> {
-    let mut options = OpenOptions::new();
-    options.write(true).create_new(true);
-    if is_private {
-        options.mode(0o600);
+/// Where the bytes are that are written whole.
+#[derive(Drop)]
+enum Whole<F> {
+    /// At their place.
+    Placed,
+    /// In a file beside its place.
+    Beside(Finished<F>, String),
+    /// In memory, until they are written at their place.
+    Memory(Vec<u8>, String),
+}
+
+/// Closes what is written to, and checks that a file has as many bytes as were written.
+fn close<F: Drop + OpenFile>(rt: &impl Files, store: Store<F>, count: u64) -> io::Result<Whole<F>> {
+    match store {
+        Store::Output | Store::Direct(_) => Ok(Whole::Placed),
+        Store::Beside(unfinished, place) => match unfinished.close(rt, count) {
+            Ok(finished) => Ok(Whole::Beside(finished, place)),
+            Err(error) => Err(error),
+        },
+        Store::Memory(bytes, place) => Ok(Whole::Memory(bytes, place)),
     }
-    options.open(rt, path)
 }
 
-/// Makes the file with this number beside the one that it becomes; none where one has its name.
-fn try_beside<R: Files + AllocGlobal>(
-    rt: &R,
-    path: &str,
-    is_private: bool,
-    number: u32,
-) -> io::Result<Option<(String, R::File)>> {
-    let beside = path_beside(rt.alloc(), path, number)?;
-    match create_new(rt, beside.as_str(), is_private) {
-        Ok(file) => Ok(Some((beside, file))),
-        Err(error) if error.kind() == io::ErrorKind::AlreadyExists => Ok(None),
-        Err(error) => Err(error),
-    }
-}
-
-/// Makes a file under a name that none has, beside the one that it becomes.
-fn create_beside<R: Files + AllocGlobal>(
-    rt: &R,
-    path: &str,
-    is_private: bool,
-) -> io::Result<(String, R::File)> {
-    for number in 0..MAX_NAMES {
-        match try_beside(rt, path, is_private, number) {
-            Ok(Some(created)) => return Ok(created),
-            Ok(None) => {}
-            Err(error) => return Err(error),
+/// Puts what is written whole in its place.
+fn place<R: Files>(rt: &R, whole: Whole<R::File>) -> io::Result<()> {
+    match whole {
+        Whole::Placed => Ok(()),
+        // Its lock is kept until it is in its place.
+        Whole::Beside(finished, place) => put(rt, finished.path.as_str(), place.as_str()),
+        Whole::Memory(bytes, place) => {
+            let mut rest = bytes.as_slice();
+            write_over(rt, place.as_str(), &mut rest)
         }
     }
-    Err(io::Error::from(io::ErrorKind::AlreadyExists))
 }
 
 /// A file that is being written, beside the one that it becomes; or standard output.
@@ -143,23 +135,38 @@ pub struct Target<'w, R: Files> {
     rt: &'w R,
     /// The path that was given.
     path: &'w str,
-    /// Where it is written, and where it is put then; none where it is written at its place.
-    move_to: Option<(String, String)>,
-    /// None for standard output.
-    file: Option<R::File>,
+    store: Store<R::File>,
+    /// How many bytes were written.
+    count: u64,
     /// Whether writing failed.
     has_failed: bool,
 }
 
-/// Gives a file these permissions.
-fn permit<F: OpenFile>(file: &F, permissions: Option<Permissions>) -> io::Result<()> {
-    match permissions {
-        Some(permissions) => file.set_permissions(permissions),
-        None => Ok(()),
-    }
+/// A file that is written and closed, and is to be put in its place.
+#[derive(Drop)]
+struct Closed<'w, R: Files> {
+    rt: &'w R,
+    /// The path that was given.
+    path: &'w str,
+    whole: Whole<R::File>,
 }
 
-impl<'w, R: Files + AllocGlobal> Target<'w, R> {
+impl<'w, R: LockFiles + AllocGlobal> Target<'w, R> {
+    /// What is written here.
+    fn new(rt: &'w R, path: &'w str, store: Store<R::File>) -> Target<'w, R>
+        ensures path { result.path.now ≡ path.entry.now }
+        ensures fresh { result.has_failed ≡ false }
+        ensures count { result.count ≡ 0 }
+    {
+        Target {
+            rt,
+            path,
+            store,
+            count: 0,
+            has_failed: false,
+        }
+    }
+
     /// What is written to this path, which is no device, nor standard output.
     fn create_file(
         rt: &'w R,
@@ -170,53 +177,47 @@ impl<'w, R: Files + AllocGlobal> Target<'w, R> {
         ensures fresh { IfOk result (λ target. target.has_failed ≡ false) }
     {
         let place = resolve(rt, path)?;
-        let (beside, file) = match create_beside(rt, place.as_str(), permissions.is_some()) {
-            Ok(created) => created,
+        let replaces = permissions.is_some();
+        let store = match Unfinished::create(rt, place.as_str(), permissions) {
+            Ok(unfinished) => Store::Beside(unfinished, place),
+            Err(error) if replaces && is_denied(error.kind()) => {
+                Store::Memory(Vec::new(rt.alloc()), place)
+            }
             Err(error) => return Err(error),
         };
-        let permitted = permit(&file, permissions);
-        let target = Target {
-            rt,
-            path,
-            file: Some(file),
-            move_to: Some((beside, place)),
-            has_failed: false,
-        };
-        match permitted {
-            Ok(()) => Ok(target),
-            Err(error) => {
-                target.discard();
-                Err(error)
-            }
-        }
+        Ok(Target::new(rt, path, store))
     }
 
-    /// What is written to this file directly; none for standard output.
-    fn direct(rt: &'w R, path: &'w str, file: Option<R::File>) -> Target<'w, R>
-        ensures path { result.path.now ≡ path.entry.now }
-        ensures fresh { result.has_failed ≡ false }
+    /// What is written to this path, where a file with these permissions is.
+    fn replace_file(
+        rt: &'w R,
+        path: &'w str,
+        permissions: Permissions,
+        is_forced: bool,
+    ) -> io::Result<Target<'w, R>>
+        ensures path { IfOk result (λ target. target.path.now ≡ path.entry.now) }
+        ensures fresh { IfOk result (λ target. target.has_failed ≡ false) }
     {
-        Target {
-            rt,
-            path,
-            move_to: None,
-            file,
-            has_failed: false,
+        match check_protection(rt, path, is_forced) {
+            Ok(()) => Target::create_file(rt, path, Some(permissions)),
+            Err(error) => Err(error),
         }
     }
 
-    fn try_create(rt: &'w R, path: &'w str) -> io::Result<Target<'w, R>>
+    fn try_create(rt: &'w R, path: &'w str, is_forced: bool) -> io::Result<Target<'w, R>>
         ensures path { IfOk result (λ target. target.path.now ≡ path.entry.now) }
         ensures fresh { IfOk result (λ target. target.has_failed ≡ false) }
     {
         if path == "-" {
-            return Ok(Target::direct(rt, path, None));
+            return Ok(Target::new(rt, path, Store::Output));
         }
         match AtPath::at(rt, path) {
-            Ok(AtPath::File(permissions)) => Target::create_file(rt, path, Some(permissions)),
+            Ok(AtPath::File(permissions)) => {
+                Target::replace_file(rt, path, permissions, is_forced)
+            }
             Ok(AtPath::Nothing) => Target::create_file(rt, path, None),
             Ok(AtPath::Special) => match fs::create(rt, path) {
-                Ok(file) => Ok(Target::direct(rt, path, Some(file))),
+                Ok(file) => Ok(Target::new(rt, path, Store::Direct(file))),
                 Err(error) => Err(error),
             },
             Err(error) => Err(error),
@@ -225,17 +226,17 @@ impl<'w, R: Files + AllocGlobal> Target<'w, R> {
 
     /// A file that is to be written to this path. What is there stays until it is closed. Through a
     /// link the file that it leads to is replaced; a new file has the mode of the one that it
-    /// replaces.
+    /// replaces. A write-protected file is replaced only where `is_forced`.
     ///
     /// # Errors
     ///
     /// Where it can't be created, or memory runs out. What is there is then as before.
-    pub fn create(rt: &'w R, path: &'w str) -> Result<Target<'w, R>, Failure<'w>>
+    pub fn create(rt: &'w R, path: &'w str, is_forced: bool) -> Result<Target<'w, R>, Failure<'w>>
         ensures path { IfOk result (λ target. target.path.now ≡ path.entry.now) }
         ensures fresh { IfOk result (λ target. target.has_failed ≡ false) }
         ensures refused { IfErr result (IsMemoryOr attempt.Create path.entry.now) }
     {
-        match Target::try_create(rt, path) {
+        match Target::try_create(rt, path, is_forced) {
             Ok(target) => Ok(target),
             Err(error) => Err(Failure::file(path, Attempt::Create, error)),
         }
@@ -248,6 +249,13 @@ impl<'w, R: Files + AllocGlobal> Target<'w, R> {
         self.has_failed
     }
 
+    /// How many bytes were written.
+    pub fn count(&self) -> u64
+        ensures { result ≡ self.now.count }
+    {
+        self.count
+    }
+
     /// The path that was given.
     pub fn path(&self) -> &'w str
         ensures { result.now ≡ self.now.path.now }
@@ -255,25 +263,21 @@ impl<'w, R: Files + AllocGlobal> Target<'w, R> {
         self.path
     }
 
-    /// Puts the file in its place.
-    ///
-    /// # Errors
-    ///
-    /// Where that can't be done. The file is then removed, and what is at its place stays.
-    pub fn keep(self) -> Result<(), Failure<'w>>
-        ensures { IfErr result (IsMemoryOr attempt.Rename self.entry.path.now) }
+    /// Closes the file, and checks that all that was written is there.
+    fn close(self) -> Result<Closed<'w, R>, Failure<'w>>
+        ensures path { IfOk result (λ closed. closed.path.now ≡ self.entry.path.now) }
+        ensures refused { IfErr result (IsMemoryOr attempt.Write self.entry.path.now) }
     {
         let Target {
             rt,
             path,
-            move_to,
-            file,
+            store,
+            count,
             has_failed: _,
         } = self;
-        drop(file);
-        match move_to {
-            Some((beside, place)) => put(rt, path, beside.as_str(), place.as_str()),
-            None => Ok(()),
+        match close(rt, store, count) {
+            Ok(whole) => Ok(Closed { rt, path, whole }),
+            Err(error) => Err(Failure::file(path, Attempt::Write, error)),
         }
     }
 
@@ -282,13 +286,13 @@ impl<'w, R: Files + AllocGlobal> Target<'w, R> {
         let Target {
             rt,
             path: _,
-            move_to,
-            file,
+            store,
+            count: _,
             has_failed: _,
         } = self;
-        drop(file);
-        if let Some((beside, _)) = move_to {
-            let _ = fs::remove_file(rt, beside.as_str());
+        match store {
+            Store::Beside(unfinished, _) => unfinished.remove(rt),
+            Store::Output | Store::Direct(_) | Store::Memory(_, _) => {}
         }
     }
 
@@ -296,39 +300,51 @@ impl<'w, R: Files + AllocGlobal> Target<'w, R> {
     ///
     /// # Errors
     ///
-    /// Why it isn't written whole, as is handed in; or where it can't be put in its place.
+    /// Why it isn't written whole, as is handed in; or where what was written isn't there after the
+    /// file is closed, or can't be put in its place.
     pub fn end(self, written: Result<(), Failure<'w>>) -> Result<(), Failure<'w>> {
-        match written {
-            Ok(()) => self.keep(),
-            Err(failure) => {
-                self.discard();
-                Err(failure)
-            }
+        if let Err(failure) = written {
+            self.discard();
+            return Err(failure);
+        }
+        match self.close() {
+            Ok(closed) => closed.keep(),
+            Err(failure) => Err(failure),
         }
     }
 }
 
-/// Puts a file that was written beside its place there, or removes it.
-fn put<'w>(rt: &impl Files, path: &'w str, beside: &str, place: &str) -> Result<(), Failure<'w>>
-    ensures { IfErr result (IsMemoryOr attempt.Rename path.entry.now) }
-{
-    match fs::rename(rt, beside, place) {
-        Ok(()) => Ok(()),
-        Err(error) => {
-            let _ = fs::remove_file(rt, beside);
-            Err(Failure::file(path, Attempt::Rename, error))
+impl<'w, R: Files> Closed<'w, R> {
+    /// Puts the file in its place.
+    ///
+    /// # Errors
+    ///
+    /// Where that can't be done. The file is then removed, and what is at its place stays; but where
+    /// no file can be put there, what was there is lost if it can't be written over whole.
+    fn keep(self) -> Result<(), Failure<'w>>
+        ensures { IfErr result (IsMemoryOr attempt.Rename self.entry.path.now) }
+    {
+        let Closed { rt, path, whole } = self;
+        match place(rt, whole) {
+            Ok(()) => Ok(()),
+            Err(error) => Err(Failure::file(path, Attempt::Rename, error)),
         }
     }
 }
 
 impl<R: Files + Print> Write for Target<'_, R> {
     fn write(&mut self, bytes: &[u8]) -> io::Result<usize> {
-        let written = match &mut self.file {
-            Some(file) => file.write(bytes),
-            None => self.rt.write_some(bytes),
+        let written = match &mut self.store {
+            Store::Output => self.rt.write_some(bytes),
+            Store::Direct(file) => file.write(bytes),
+            Store::Beside(unfinished, _) => unfinished.file.write(bytes),
+            Store::Memory(list, _) => list.write(bytes),
         };
         match written {
-            Ok(count) => Ok(count),
+            Ok(count) => {
+                self.count = self.count.saturating_add(count as u64);
+                Ok(count)
+            }
             Err(error) => {
                 self.has_failed = error.kind() != io::ErrorKind::Interrupted;
                 Err(error)
@@ -337,9 +353,10 @@ impl<R: Files + Print> Write for Target<'_, R> {
     }
 
     fn flush(&mut self) -> io::Result<()> {
-        match &mut self.file {
-            Some(file) => file.flush(),
-            None => Ok(()),
+        match &mut self.store {
+            Store::Direct(file) => file.flush(),
+            Store::Beside(unfinished, _) => unfinished.file.flush(),
+            Store::Output | Store::Memory(_, _) => Ok(()),
         }
     }
 }

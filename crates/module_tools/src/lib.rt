@@ -2,13 +2,20 @@
 //! they end.
 #![tactic(auto)]
 
+mod choosing;
 mod counting;
+mod demangling;
 mod edits;
 mod ending;
 mod escaped;
 mod files;
 mod filtering;
+mod in_place;
+mod listing;
+mod locks;
 mod names;
+mod not_a_module;
+mod options;
 mod places;
 mod program;
 mod progress;
@@ -16,18 +23,20 @@ mod running;
 mod snipping;
 mod source_map_places;
 mod source_maps;
+mod unfinished;
 mod usage_error;
 mod version;
 mod warnings;
 mod writing;
 
-pub use counting::{CALLS, CountCalls, call_counter, count_calls};
-pub use ending::{Attempt, Failure, Item, Refusal, exit_code, words};
+pub use counting::{CALLS, CountCalls, call_counter, call_counter_named, count_calls};
+pub use ending::{Attempt, Failure, Item, Refusal, exit_code, page_code, words};
 pub use escaped::Escaped;
 pub use files::{Target, read_file};
 pub use filtering::filter;
+pub use locks::LockFiles;
 pub use names::{Found, FunctionNames, function_at};
-pub use program::{MapPaths, Program, Request, Task, read_arguments};
+pub use program::{Asked, MapPaths, Program, Request, SectionChoice, Task, read_arguments};
 pub use progress::{Progress, Watched, WatchedChange};
 pub use running::{NoChange, Terminals, Tool, run};
 pub use snipping::{Snipping, snip};

@@ -1,9 +1,10 @@
 //! What a program's words ask for.
 
-ghost use Rattle.std.specs.Prelude.{◌≡◌, length, nat_lt, true, None, IsNone, IfOk, IfErr};
-ghost use Rattle.module_tools.specs.Words.{ChecksAlone, IsTaskOf, IsRequestOf, IsRefusedRequest};
+ghost use Rattle.std.specs.Prelude.{◌≡◌, [], length, nat_lt, true, false, None, IsNone, IsTrue, IfOk, IfErr};
+ghost use Rattle.module_tools.specs.Words.{ChecksAlone, IsTaskOf, IsRequestOf, IsRefusedRequest, WritesNoFile};
 
 use crate::ending::Failure;
+use crate::options::{Choice, HelpPage, Page, Switch, Valued, option_named, option_with_letter};
 use crate::usage_error::UsageError;
 use std::alloc::Global;
 use std::io;
@@ -19,30 +20,11 @@ pub struct Program {
     pub ending: &'static str,
     /// Whether it takes `--check`, with which it writes no module.
     pub takes_check: bool,
-    /// Whether it takes functions, after its files.
+    /// Whether it takes functions, after its files and by options; it then takes `--list` too.
     pub takes_functions: bool,
+    /// Whether it takes the name of what it exports.
+    pub takes_export: bool,
 }
-
-/// The option of a program that can check.
-const CHECK_OPTION: &str = "
-      --check          write nothing, and print a line for each function that is
-                       refused; types are not validated";
-
-/// The options of all programs.
-const OPTIONS: &str = "
-      --map FILE       write a line for each operator to FILE: its old and its new
-                       offset from the start of the module, in hexadecimal
-      --source-map FILE
-                       read the source map of IN.wasm (version 3)
-      --output-source-map FILE
-                       write that of OUT.wasm, whose mappings follow the operators
-      --source-map-url URL
-                       write URL in OUT.wasm, as the place of its source map
-      --strip-debug    leave out debug information and source maps
-  -v, --verbose        print how many functions and bytes were read, and the time
-  -h, --help           print this
-  -V, --version        print the version
-      --               what follows is no option";
 
 impl Program {
     /// Prints the page of help.
@@ -51,8 +33,7 @@ impl Program {
     ///
     /// Where it can't be printed.
     pub(crate) fn print_help(&self, rt: &impl Print) -> io::Result<()> {
-        let check = if self.takes_check { CHECK_OPTION } else { "" };
-        println!(rt; "{}\n{check}{OPTIONS}\n\n{}", self.about, self.ending)
+        println!(rt; "{}", HelpPage(self))
     }
 }
 
@@ -63,8 +44,61 @@ pub struct MapPaths<'w> {
     pub input: &'w str,
     /// Where the source map of the module that is written goes.
     pub output: &'w str,
-    /// Where that is found, as the module will say; none where the module says what it said before.
-    pub url: Option<&'w str>,
+}
+
+/// Functions that are asked for.
+#[derive(Clone, Copy)]
+pub enum Asked<'w> {
+    /// The one with this index or name.
+    Function(&'w str),
+    /// Those whose names contain a match of this regular expression.
+    Pattern(&'w str),
+    /// Those that are named in this file.
+    NamesFrom(&'w str),
+    /// Those of Rust that panic.
+    RustPanickingCode,
+    /// Those of Rust that format text.
+    RustFmtCode,
+}
+
+/// Custom sections that are left out, or kept all the same.
+#[derive(Clone, Copy)]
+pub enum SectionChoice<'w> {
+    /// All are left out.
+    LeaveOutAll,
+    /// Those with debug information are left out.
+    LeaveOutDebug,
+    /// Those with this name are left out.
+    LeaveOut(&'w str),
+    /// Those with this name are kept.
+    Keep(&'w str),
+}
+
+impl Asked<'_> {
+    /// The option by which they are asked for; of one that no option asks for nothing.
+    fn name(self) -> &'static str {
+        match self {
+            Asked::Function(_) => "",
+            Asked::Pattern(_) => "--pattern",
+            Asked::NamesFrom(_) => "--names-from",
+            Asked::RustPanickingCode => "--rust-panicking-code",
+            Asked::RustFmtCode => "--rust-fmt-code",
+        }
+    }
+}
+
+impl SectionChoice<'_> {
+    /// The option by which they are chosen.
+    fn name(self) -> &'static str {
+        match self {
+            SectionChoice::LeaveOutAll => "--strip",
+            SectionChoice::LeaveOutDebug => "--strip-debug",
+            SectionChoice::LeaveOut("name") => "--strip-names",
+            SectionChoice::LeaveOut("producers") => "--strip-producers",
+            SectionChoice::LeaveOut(_) => "--remove-section",
+            SectionChoice::Keep(_) => "--keep-section",
+        }
+    }
 }
 
 /// What a program is to do. A path is `-` for standard input or output.
@@ -72,18 +106,30 @@ pub struct MapPaths<'w> {
 pub struct Task<'w> {
     /// The module that is read.
     pub input: &'w str,
-    /// Where the module is written; none where its bodies are only checked.
+    /// Where the module is written; none where its bodies are only checked or listed.
     pub output: Option<&'w str>,
+    /// Whether the words say where the module is written. Else it goes to standard output.
+    pub names_output: bool,
     /// Where the location map is written.
     pub map: Option<&'w str>,
     /// The source map that follows the module, if one is asked for.
     pub source_map: Option<MapPaths<'w>>,
-    /// The functions that are asked for, by index or by name.
-    pub functions: Vec<&'w str>,
+    /// Where that is found, as the module will say; none where the module says what it said before.
+    pub source_map_url: Option<&'w str>,
+    /// The functions that are asked for.
+    pub functions: Vec<Asked<'w>>,
+    /// The name of what is exported; none where the program chooses it.
+    pub export: Option<&'w str>,
+    /// The custom sections that are left out.
+    pub sections: Vec<SectionChoice<'w>>,
+    /// Whether the functions are listed, and no module is written.
+    pub lists: bool,
+    /// Whether a file that is write-protected is replaced.
+    pub is_forced: bool,
+    /// Whether no warnings are printed.
+    pub is_quiet: bool,
     /// Whether counts and the time are printed.
     pub is_verbose: bool,
-    /// Whether debug information is left out.
-    pub strips_debug: bool,
 }
 
 /// What the arguments of a program request.
@@ -93,120 +139,59 @@ pub enum Request<'w> {
     Help,
     /// Print the version.
     Version,
-    /// Rewrite a module, or check its bodies.
+    /// Rewrite a module, or check or list its bodies.
     Task(Task<'w>),
 }
 
-/// A page that is printed, in the place of a task.
-#[derive(Clone, Copy)]
-enum Page {
-    Help,
-    Version,
-}
-
-/// An option that takes no value.
-#[derive(Clone, Copy)]
-enum Switch {
-    Verbose,
-    StripDebug,
-    Check,
-}
-
-/// An option that takes a value.
-#[derive(Clone, Copy)]
-enum Valued {
-    Map,
-    SourceMap,
-    OutputSourceMap,
-    SourceMapUrl,
-}
-
-impl Valued {
-    fn named(name: &str) -> Option<Valued> {
-        match name {
-            "--map" => Some(Valued::Map),
-            "--source-map" => Some(Valued::SourceMap),
-            "--output-source-map" => Some(Valued::OutputSourceMap),
-            "--source-map-url" => Some(Valued::SourceMapUrl),
-            _ => None,
-        }
-    }
-
-    fn name(self) -> &'static str {
-        match self {
-            Valued::Map => "--map",
-            Valued::SourceMap => "--source-map",
-            Valued::OutputSourceMap => "--output-source-map",
-            Valued::SourceMapUrl => "--source-map-url",
-        }
-    }
-}
-
-/// An option of the programs.
-#[derive(Clone, Copy)]
-enum Choice {
-    Page(Page),
-    Switch(Switch),
-    Valued(Valued),
-}
-
-impl Choice {
-    /// The option with this name.
-    fn named(name: &str, program: &Program) -> Option<Choice> {
-        match name {
-            "-h" | "--help" => Some(Choice::Page(Page::Help)),
-            "-V" | "--version" => Some(Choice::Page(Page::Version)),
-            "-v" | "--verbose" => Some(Choice::Switch(Switch::Verbose)),
-            "--strip-debug" => Some(Choice::Switch(Switch::StripDebug)),
-            "--check" if program.takes_check => Some(Choice::Switch(Switch::Check)),
-            _ => match Valued::named(name) {
-                Some(valued) => Some(Choice::Valued(valued)),
-                None => None,
-            },
-        }
-    }
-}
-
-/// Turns a switch on.
-fn turn_on(switch: &mut bool, name: &'static str) -> Result<(), UsageError<'static>> {
-    if *switch {
-        return Err(UsageError::GivenTwice(name));
-    }
-    *switch = true;
-    Ok(())
-}
-
-/// Gives an option its value, if that is known.
+/// Gives an option its value.
 fn set_value<'w>(
     option: &mut Option<&'w str>,
-    value: Option<&'w str>,
+    value: &'w str,
     name: &'static str,
-) -> Result<(), UsageError<'w>> {
+) -> Result<(), Failure<'w>>
+    ensures { IfErr result IsRefusedRequest }
+{
     if option.is_some() {
-        return Err(UsageError::GivenTwice(name));
+        return Err(Failure::UsageError(UsageError::GivenTwice(name)));
     }
-    *option = value;
+    *option = Some(value);
     Ok(())
+}
+
+/// Adds to a list.
+fn add<'w, T: Drop>(list: &mut Vec<T>, item: T) -> Result<(), Failure<'w>>
+    ensures { IfErr result IsRefusedRequest }
+{
+    match list.push(item) {
+        Ok(()) => Ok(()),
+        Err(_) => Err(Failure::Memory),
+    }
 }
 
 /// The name of an option, and the value that is given with it.
 fn split_option(word: &str) -> (&str, Option<&str>) {
     match word.split_once('=') {
-        Some((name, value)) if word.starts_with("--") => (name, Some(value)),
-        _ => (word, None),
+        Some((name, value)) => (name, Some(value)),
+        None => (word, None),
     }
 }
 
-/// The options that are given.
+/// The options that are given, but for those that may be repeated.
 #[derive(Clone, Copy)]
 struct Options<'w> {
     is_verbose: bool,
-    strips_debug: bool,
-    is_check: bool,
+    is_quiet: bool,
+    is_forced: bool,
+    /// Whether no module is written, since its bodies are only checked or listed.
+    reads_alone: bool,
+    /// Whether they are listed then.
+    lists: bool,
+    output: Option<&'w str>,
     map: Option<&'w str>,
     source_map: Option<&'w str>,
     output_source_map: Option<&'w str>,
     source_map_url: Option<&'w str>,
+    export: Option<&'w str>,
     /// The option whose value is the next word.
     awaits: Option<Valued>,
 }
@@ -215,67 +200,40 @@ impl<'w> Options<'w> {
     fn none() -> Options<'w> {
         Options {
             is_verbose: false,
-            strips_debug: false,
-            is_check: false,
+            is_quiet: false,
+            is_forced: false,
+            reads_alone: false,
+            lists: false,
+            output: None,
             map: None,
             source_map: None,
             output_source_map: None,
             source_map_url: None,
+            export: None,
             awaits: None,
         }
     }
 
-    fn take_switch(&mut self, switch: Switch) -> Result<(), UsageError<'w>> {
-        match switch {
-            Switch::Verbose => turn_on(&mut self.is_verbose, "--verbose"),
-            Switch::StripDebug => turn_on(&mut self.strips_debug, "--strip-debug"),
-            Switch::Check => turn_on(&mut self.is_check, "--check"),
+    /// The option with which no module is written.
+    fn for_reading(&self) -> &'static str {
+        match self.lists {
+            true => "--list",
+            false => "--check",
         }
     }
 
-    /// Gives an option its value, if that is known; else it is the next word.
-    fn take_value(&mut self, valued: Valued, value: Option<&'w str>) -> Result<(), UsageError<'w>> {
-        self.awaits = match value {
-            Some(_) => None,
-            None => Some(valued),
-        };
-        let name = valued.name();
-        match valued {
-            Valued::Map => set_value(&mut self.map, value, name),
-            Valued::SourceMap => set_value(&mut self.source_map, value, name),
-            Valued::OutputSourceMap => set_value(&mut self.output_source_map, value, name),
-            Valued::SourceMapUrl => set_value(&mut self.source_map_url, value, name),
-        }
-    }
-
-    /// Takes an option, and returns the page that it requests.
-    fn take(&mut self, program: &Program, word: &'w str) -> Result<Option<Page>, UsageError<'w>> {
-        let (name, value) = split_option(word);
-        match Choice::named(name, program) {
-            None => Err(UsageError::UnknownOption(name)),
-            Some(Choice::Valued(valued)) => match self.take_value(valued, value) {
-                Ok(()) => Ok(None),
-                Err(wrong) => Err(wrong),
-            },
-            Some(_) if value.is_some() => Err(UsageError::UnwantedValue(name)),
-            Some(Choice::Switch(switch)) => match self.take_switch(switch) {
-                Ok(()) => Ok(None),
-                Err(wrong) => Err(wrong),
-            },
-            Some(Choice::Page(page)) => Ok(Some(page)),
-        }
-    }
-
-    /// The option that goes with no `--check`, if it is given.
-    fn not_with_check(&self) -> Option<&'static str>
+    /// The option that is for a module that is written, if one is given.
+    fn for_writing(&self) -> Option<&'static str>
         ensures { IsNone result → ChecksAlone self.now }
     {
         match () {
+            _ if self.output.is_some() => Some("--output"),
             _ if self.map.is_some() => Some("--map"),
             _ if self.source_map.is_some() => Some("--source-map"),
             _ if self.output_source_map.is_some() => Some("--output-source-map"),
             _ if self.source_map_url.is_some() => Some("--source-map-url"),
-            _ if self.strips_debug => Some("--strip-debug"),
+            _ if self.export.is_some() => Some("--export"),
+            _ if self.is_forced => Some("--force"),
             _ => None,
         }
     }
@@ -286,26 +244,7 @@ impl<'w> Options<'w> {
         match (self.source_map, self.output_source_map) {
             (Some(_), None) => Some(UsageError::Requires(input, output)),
             (None, Some(_)) => Some(UsageError::Requires(output, input)),
-            (None, None) if self.source_map_url.is_some() => {
-                Some(UsageError::Requires("--source-map-url", input))
-            }
             _ => None,
-        }
-    }
-
-    /// What is wrong with the options, if something is.
-    fn fault(&self) -> Option<UsageError<'w>>
-        ensures { IsNone result → self.now.is_check ≡ true → ChecksAlone self.now }
-    {
-        if let Some(valued) = self.awaits {
-            return Some(UsageError::NoValue(valued.name()));
-        }
-        if !self.is_check {
-            return self.source_map_fault();
-        }
-        match self.not_with_check() {
-            Some(option) => Some(UsageError::NotWithCheck(option)),
-            None => None,
         }
     }
 
@@ -314,11 +253,7 @@ impl<'w> Options<'w> {
         ensures { self.now.source_map ≡ None → result ≡ None }
     {
         match (self.source_map, self.output_source_map) {
-            (Some(input), Some(output)) => Some(MapPaths {
-                input,
-                output,
-                url: self.source_map_url,
-            }),
+            (Some(input), Some(output)) => Some(MapPaths { input, output }),
             _ => None,
         }
     }
@@ -330,10 +265,10 @@ struct Words<'w> {
     options: Options<'w>,
     /// Whether `--` came, after which no word is an option.
     has_ended: bool,
-    input: Option<&'w str>,
-    output: Option<&'w str>,
-    /// The words after these two.
-    functions: Vec<&'w str>,
+    /// The words that are no options, nor their values.
+    operands: Vec<&'w str>,
+    functions: Vec<Asked<'w>>,
+    sections: Vec<SectionChoice<'w>>,
 }
 
 impl<'w> Words<'w> {
@@ -341,27 +276,129 @@ impl<'w> Words<'w> {
         Words {
             options: Options::none(),
             has_ended: false,
-            input: None,
-            output: None,
+            operands: Vec::new(alloc),
             functions: Vec::new(alloc),
+            sections: Vec::new(alloc),
         }
     }
 
-    /// Takes a word that is no option.
-    fn take_operand(&mut self, word: &'w str) -> Result<(), Failure<'w>>
+    /// Takes an option that has no value. It may be given more than once.
+    fn take_switch(&mut self, switch: Switch) -> Result<(), Failure<'w>>
         ensures { IfErr result IsRefusedRequest }
     {
-        if self.input.is_none() {
-            self.input = Some(word);
-        } else if self.output.is_none() {
-            self.output = Some(word);
-        } else {
-            match self.functions.push(word) {
-                Ok(()) => {}
-                Err(_) => return Err(Failure::Memory),
+        match switch {
+            Switch::Check => self.options.reads_alone = true,
+            Switch::List => {
+                self.options.reads_alone = true;
+                self.options.lists = true;
+            }
+            Switch::Force => self.options.is_forced = true,
+            Switch::Quiet => self.options.is_quiet = true,
+            Switch::Verbose => self.options.is_verbose = true,
+            Switch::RustPanickingCode => {
+                return add(&mut self.functions, Asked::RustPanickingCode);
+            }
+            Switch::RustFmtCode => return add(&mut self.functions, Asked::RustFmtCode),
+            Switch::Strip => return add(&mut self.sections, SectionChoice::LeaveOutAll),
+            Switch::StripDebug => return add(&mut self.sections, SectionChoice::LeaveOutDebug),
+            Switch::StripNames => {
+                return add(&mut self.sections, SectionChoice::LeaveOut("name"));
+            }
+            Switch::StripProducers => {
+                return add(&mut self.sections, SectionChoice::LeaveOut("producers"));
             }
         }
         Ok(())
+    }
+
+    /// Gives an option its value.
+    fn set(&mut self, valued: Valued, value: &'w str) -> Result<(), Failure<'w>>
+        ensures { IfErr result IsRefusedRequest }
+    {
+        let name = valued.name();
+        match valued {
+            Valued::Output => set_value(&mut self.options.output, value, name),
+            Valued::Export => set_value(&mut self.options.export, value, name),
+            Valued::Map => set_value(&mut self.options.map, value, name),
+            Valued::SourceMap => set_value(&mut self.options.source_map, value, name),
+            Valued::OutputSourceMap => {
+                set_value(&mut self.options.output_source_map, value, name)
+            }
+            Valued::SourceMapUrl => set_value(&mut self.options.source_map_url, value, name),
+            Valued::Pattern => add(&mut self.functions, Asked::Pattern(value)),
+            Valued::NamesFrom => add(&mut self.functions, Asked::NamesFrom(value)),
+            Valued::KeepSection => add(&mut self.sections, SectionChoice::Keep(value)),
+            Valued::RemoveSection => add(&mut self.sections, SectionChoice::LeaveOut(value)),
+        }
+    }
+
+    /// Gives an option its value, if that is known; else it is the next word.
+    fn take_value(&mut self, valued: Valued, value: Option<&'w str>) -> Result<(), Failure<'w>>
+        ensures { IfErr result IsRefusedRequest }
+    {
+        let Some(value) = value else {
+            self.options.awaits = Some(valued);
+            return Ok(());
+        };
+        self.options.awaits = None;
+        if value.is_empty() && valued.is_path() {
+            return Err(Failure::UsageError(UsageError::NoValue(valued.name())));
+        }
+        self.set(valued, value)
+    }
+
+    /// Takes an option that is named in full, and returns the page that it requests.
+    fn take_long(&mut self, program: &Program, word: &'w str) -> Result<Option<Page>, Failure<'w>>
+        ensures { IfErr result IsRefusedRequest }
+    {
+        let (name, value) = split_option(word);
+        let taken = match option_named(program, name) {
+            None => return Err(Failure::UsageError(UsageError::UnknownOption(name))),
+            Some(Choice::Valued(valued)) => self.take_value(valued, value),
+            Some(_) if value.is_some() => {
+                return Err(Failure::UsageError(UsageError::UnwantedValue(name)));
+            }
+            Some(Choice::Switch(switch)) => self.take_switch(switch),
+            Some(Choice::Page(page)) => return Ok(Some(page)),
+        };
+        match taken {
+            Ok(()) => Ok(None),
+            Err(failure) => Err(failure),
+        }
+    }
+
+    /// Takes options of one letter each, after a hyphen, and returns the page that one of them
+    /// requests. What follows the letter of an option with a value is its value.
+    fn take_letters(
+        &mut self,
+        program: &Program,
+        word: &'w str,
+    ) -> Result<Option<Page>, Failure<'w>>
+        ensures { IfErr result IsRefusedRequest }
+    {
+        let mut letters = word.chars();
+        letters.next();
+        for _ in 1..word.len() {
+            let Some(letter) = letters.next() else {
+                break;
+            };
+            let taken = match option_with_letter(program, letter) {
+                None => return Err(Failure::UsageError(UsageError::UnknownOption(word))),
+                Some(Choice::Page(page)) => return Ok(Some(page)),
+                Some(Choice::Switch(switch)) => self.take_switch(switch),
+                Some(Choice::Valued(valued)) => {
+                    let rest = letters.as_str();
+                    let value = if rest.is_empty() { None } else { Some(rest) };
+                    letters = "".chars();
+                    self.take_value(valued, value)
+                }
+            };
+            match taken {
+                Ok(()) => {}
+                Err(failure) => return Err(failure),
+            }
+        }
+        Ok(None)
     }
 
     /// Takes a word that is no value of an option. One that asks for a page ends the reading.
@@ -369,18 +406,17 @@ impl<'w> Words<'w> {
         ensures { IfErr result IsRefusedRequest }
     {
         if self.has_ended || word == "-" || !word.starts_with('-') {
-            match self.take_operand(word) {
+            match add(&mut self.operands, word) {
                 Ok(()) => Ok(None),
                 Err(failure) => Err(failure),
             }
         } else if word == "--" {
             self.has_ended = true;
             Ok(None)
+        } else if word.starts_with("--") {
+            self.take_long(program, word)
         } else {
-            match self.options.take(program, word) {
-                Ok(page) => Ok(page),
-                Err(wrong) => Err(Failure::UsageError(wrong)),
-            }
+            self.take_letters(program, word)
         }
     }
 
@@ -391,69 +427,190 @@ impl<'w> Words<'w> {
         let Some(valued) = self.options.awaits else {
             return self.take_next(program, word);
         };
-        match self.options.take_value(valued, Some(word)) {
+        match self.take_value(valued, Some(word)) {
             Ok(()) => Ok(None),
-            Err(wrong) => Err(Failure::UsageError(wrong)),
+            Err(failure) => Err(failure),
+        }
+    }
+
+    /// How many of the words that are no options are files.
+    fn file_count(&self) -> usize {
+        match self.options.reads_alone || self.options.output.is_some() {
+            true => 1,
+            false => 2,
+        }
+    }
+
+    /// Takes the words after the files as functions.
+    fn take_functions(&mut self) -> Result<(), Failure<'w>>
+        ensures { IfErr result IsRefusedRequest }
+    {
+        let files = self.file_count();
+        for word in self.operands.iter().skip(files) {
+            match add(&mut self.functions, Asked::Function(*word)) {
+                Ok(()) => {}
+                Err(failure) => return Err(failure),
+            }
+        }
+        Ok(())
+    }
+
+    /// Where the module is written; none where none is.
+    fn output(&self) -> Option<&'w str>
+        ensures none { IsNone result → self.now.options.reads_alone ≡ true }
+        ensures alone { self.now.options.reads_alone ≡ true → result ≡ None }
+    {
+        if self.options.reads_alone {
+            return None;
+        }
+        match (self.options.output, self.operands.get(1)) {
+            (Some(output), _) => Some(output),
+            (None, Some(output)) => Some(*output),
+            (None, None) => Some("-"),
+        }
+    }
+
+    /// Whether the functions are listed, and no module is written.
+    fn lists(&self) -> bool
+        ensures { IsTrue result → self.now.options.reads_alone ≡ true }
+    {
+        self.options.reads_alone && self.options.lists
+    }
+
+    /// The option that is for a module that is written, if one is given.
+    fn for_writing(&self) -> Option<&'static str>
+        ensures options { IsNone result → ChecksAlone self.now.options }
+        ensures sections { IsNone result → self.now.sections.items ≡ [] }
+    {
+        match self.sections.first() {
+            None => self.options.for_writing(),
+            Some(section) => Some(section.name()),
+        }
+    }
+
+    /// What is wrong with the options, if something is.
+    fn options_fault(&self) -> Option<UsageError<'w>>
+        ensures options { IsNone result → self.now.options.reads_alone ≡ true
+            → ChecksAlone self.now.options }
+        ensures sections { IsNone result → self.now.options.reads_alone ≡ true
+            → self.now.sections.items ≡ [] }
+    {
+        if let Some(valued) = self.options.awaits {
+            return Some(UsageError::NoValue(valued.name()));
+        }
+        if !self.options.reads_alone {
+            return self.options.source_map_fault();
+        }
+        match self.for_writing() {
+            Some(option) => Some(UsageError::NotWith(option, self.options.for_reading())),
+            None => None,
         }
     }
 
     /// What is wrong with the files, if something is.
-    fn file_fault(&self) -> Option<UsageError<'w>>
-        ensures { IsNone result → self.now.output ≡ None → self.now.options.is_check ≡ true }
-    {
-        match (self.output, self.options.is_check) {
-            (Some(output), true) => Some(UsageError::Unexpected(output)),
-            (None, false) => Some(UsageError::NoOutput),
-            (Some(_), false) | (None, true) => None,
+    fn files_fault(&self) -> Option<UsageError<'w>> {
+        let mut files = self.operands.iter().take(self.file_count());
+        match files.any(|file| file.is_empty()) {
+            true => Some(UsageError::EmptyPath),
+            false => None,
         }
     }
 
-    /// What is wrong with the functions, if something is.
-    fn functions_fault(&self, program: &Program) -> Option<UsageError<'w>>
-        ensures { IsNone result
+    /// What is wrong with the functions, if something is, where they are listed or aren't.
+    fn functions_fault(&self, program: &Program, lists: bool) -> Option<UsageError<'w>>
+        ensures asked { IsNone result → lists ≡ false
             → nat_lt 0 (length self.now.functions.items) ≡ program.now.takes_functions }
+        ensures listed { IsNone result → lists ≡ true → self.now.functions.items ≡ [] }
     {
-        match (self.functions.first(), program.takes_functions) {
-            (Some(word), false) => Some(UsageError::Unexpected(*word)),
-            (None, true) => Some(UsageError::NoFunctions),
-            (Some(_), true) | (None, false) => None,
+        match (self.functions.first(), lists, program.takes_functions) {
+            (Some(asked), true, _) | (Some(asked), false, false) => Some(self.unwanted(*asked)),
+            (None, false, true) => Some(UsageError::NoFunctions),
+            (None, true, _) | (Some(_), false, true) | (None, false, false) => None,
         }
     }
 
-    /// What is wrong with all words together, if something is.
-    fn fault(&self, program: &Program) -> Option<UsageError<'w>>
-        ensures functions { IsNone result
+    /// The wrong use that functions are asked for where none are taken.
+    fn unwanted(&self, asked: Asked<'w>) -> UsageError<'w> {
+        match asked {
+            Asked::Function(word) => UsageError::Unexpected(word),
+            option => UsageError::NotWith(option.name(), self.options.for_reading()),
+        }
+    }
+
+    /// What is wrong with all words together, if something is, where functions are listed or aren't.
+    fn fault(&self, program: &Program, lists: bool) -> Option<UsageError<'w>>
+        ensures asked { IsNone result → lists ≡ false
             → nat_lt 0 (length self.now.functions.items) ≡ program.now.takes_functions }
-        ensures output { IsNone result → self.now.output ≡ None → ChecksAlone self.now.options }
+        ensures listed { IsNone result → lists ≡ true → self.now.functions.items ≡ [] }
+        ensures options { IsNone result → self.now.options.reads_alone ≡ true
+            → ChecksAlone self.now.options }
+        ensures sections { IsNone result → self.now.options.reads_alone ≡ true
+            → self.now.sections.items ≡ [] }
     {
-        if let Some(fault) = self.options.fault() {
+        if let Some(fault) = self.options_fault() {
             return Some(fault);
         }
-        if let Some(fault) = self.file_fault() {
+        if let Some(fault) = self.files_fault() {
             return Some(fault);
         }
-        self.functions_fault(program)
+        self.functions_fault(program, lists)
+    }
+
+    /// What the words ask for of this module, after it is known that they are right.
+    fn into_task(self, input: &'w str, lists: bool) -> Task<'w>
+        ensures functions { result.functions ≡ self.entry.functions }
+        ensures sections { result.sections ≡ self.entry.sections }
+        ensures lists { result.lists ≡ lists }
+        ensures none { IsNone result.output → self.entry.options.reads_alone ≡ true }
+        ensures alone { self.entry.options.reads_alone ≡ true → result.output ≡ None }
+        ensures files { ChecksAlone self.entry.options → WritesNoFile result }
+    {
+        let Options {
+            map,
+            source_map_url,
+            export,
+            is_forced,
+            is_quiet,
+            is_verbose,
+            ..
+        } = self.options;
+        let output = self.output();
+        let names_output = self.options.output.is_some() || self.operands.len() > 1;
+        let source_map = self.options.map_paths();
+        Task {
+            input,
+            output,
+            names_output,
+            map,
+            source_map,
+            source_map_url,
+            functions: self.functions,
+            export,
+            sections: self.sections,
+            lists,
+            is_forced,
+            is_quiet,
+            is_verbose,
+        }
     }
 
     /// What the words ask for.
-    fn task(self, program: &Program) -> Result<Task<'w>, UsageError<'w>>
-        ensures { IfOk result (IsTaskOf program.now) }
+    fn task(mut self, program: &Program) -> Result<Task<'w>, Failure<'w>>
+        ensures task { IfOk result (IsTaskOf program.now) }
+        ensures refused { IfErr result IsRefusedRequest }
     {
-        let Some(input) = self.input else {
-            return Err(UsageError::NoInput);
+        let Some(input) = self.operands.first().copied() else {
+            return Err(Failure::UsageError(UsageError::NoInput));
         };
-        if let Some(fault) = self.fault(program) {
-            return Err(fault);
+        match self.take_functions() {
+            Ok(()) => {}
+            Err(failure) => return Err(failure),
         }
-        Ok(Task {
-            input,
-            output: self.output,
-            map: self.options.map,
-            source_map: self.options.map_paths(),
-            functions: self.functions,
-            is_verbose: self.options.is_verbose,
-            strips_debug: self.options.strips_debug,
-        })
+        let lists = self.lists();
+        match self.fault(program, lists) {
+            Some(fault) => Err(Failure::UsageError(fault)),
+            None => Ok(self.into_task(input, lists)),
+        }
     }
 }
 
@@ -481,6 +638,6 @@ pub fn read_arguments<'w>(
     }
     match taken.task(program) {
         Ok(task) => Ok(Request::Task(task)),
-        Err(wrong) => Err(Failure::UsageError(wrong)),
+        Err(failure) => Err(failure),
     }
 }

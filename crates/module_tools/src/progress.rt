@@ -8,7 +8,8 @@ use std::time::{Duration, Instant};
 use walrus_body::LocalFunction;
 use walrus_ir::ModuleLocals;
 use wasm_module::{
-    Body, BodyWriter, ByteSink, ChangeFunction, ModuleError, Needed, ParsedModule, Scratch,
+    Body, BodyWriter, ByteSink, ChangeFunction, Measured, ModuleError, Needed, ParsedModule,
+    Scratch,
 };
 
 /// For how many milliseconds a run shows nothing.
@@ -140,7 +141,7 @@ impl<R: Eprint + Clock, B: BodyWriter> BodyWriter for Watched<'_, R, B> {
         parsed: &mut ParsedModule<'a>,
         body: Body<'a>,
         scratch: &mut Scratch,
-    ) -> Result<usize, ModuleError> {
+    ) -> Result<Measured, ModuleError> {
         self.progress.step();
         self.bodies.measure_large_body(parsed, body, scratch)
     }

@@ -3,11 +3,14 @@
 ghost use Rattle.std.specs.Prelude.{◌≡◌, ◌≤◌, nat_lt, if◌then◌else◌, IfOk};
 ghost use Rattle.std.specs.Process.{exit_status};
 
-use crate::ending::{Attempt, Failure, Item, Refusal, exit_code, words};
+use crate::choosing::{check_input, functions_of};
+use crate::ending::{Attempt, Failure, Item, Refusal, exit_code, page_code, words};
 use crate::files::read_file;
-use crate::names::{Bytes, Found, FunctionNames, function_at};
+use crate::listing::list_functions;
+use crate::locks::LockFiles;
+use crate::names::{Bytes, FunctionNames, function_at};
 use crate::places::check_files;
-use crate::program::{MapPaths, Program, Request, Task, read_arguments};
+use crate::program::{Program, Request, SectionChoice, Task, read_arguments};
 use crate::progress::{Progress, Watched, WatchedChange};
 use crate::source_map_places::check_source_maps;
 use crate::source_maps::read_source_map;
@@ -17,15 +20,16 @@ use crate::warnings::warn;
 use crate::writing::write_module;
 use source_map_json::SourceMap;
 use std::alloc::{AllocError, Global};
-use std::io;
+use std::cmp::Ordering;
 use std::process::ExitCode;
-use std::rt::{Clock, Env, Files};
+use std::rt::{Clock, Env};
 use std::time::Instant;
+use std::{fmt, io};
 use walrus_body::LocalFunction;
 use walrus_ir::{FunctionId, IdHashSet, ModuleLocals};
 use wasm_module::{
     Body, BodyWriter, ChangeFunction, Changes, KeptBodies, ModuleError, ModuleFault, ParsedModule,
-    Rewriting, RewrittenModule, Scratch,
+    Rewriting, RewrittenModule, Scratch, SectionKind,
 };
 
 /// Which of the standard streams are terminals.
@@ -54,6 +58,22 @@ pub trait Tool {
         parsed: &mut ParsedModule<'_>,
         functions: IdHashSet<FunctionId>,
     ) -> Result<(Option<Self::Change>, Changes), ModuleError>;
+
+    /// The same where the words name what the program exports, which only one with `takes_export` is
+    /// asked.
+    ///
+    /// # Errors
+    ///
+    /// What the program refuses.
+    fn changes_with_export(
+        &self,
+        alloc: Global,
+        parsed: &mut ParsedModule<'_>,
+        functions: IdHashSet<FunctionId>,
+        _export: &str,
+    ) -> Result<(Option<Self::Change>, Changes), ModuleError> {
+        self.changes(alloc, parsed, functions)
+    }
 }
 
 /// The change of a program that rewrites functions as they are.
@@ -80,13 +100,22 @@ impl ChangeFunction for NoChange {
     }
 }
 
+/// What came of a module that was read.
+#[derive(Clone, Copy)]
+struct Outcome {
+    /// How many bodies were refused.
+    refused: usize,
+    /// How many bytes the module has that was written, if one was.
+    written: Option<u64>,
+}
+
 /// What was done.
 #[derive(Clone, Copy)]
 struct Done {
     functions: usize,
-    bytes: usize,
-    /// How many bodies were refused.
-    refused: usize,
+    /// How many bytes were read.
+    read: u64,
+    outcome: Outcome,
 }
 
 /// A function with its name.
@@ -122,8 +151,11 @@ fn item_of(
     parsed: &ParsedModule<'_>,
     error: &ModuleError,
 ) -> Result<Option<Item>, AllocError> {
-    if matches!(error.fault, ModuleFault::ExportTaken) {
-        return export_at(alloc, parsed, error.at);
+    match error.fault {
+        ModuleFault::ExportTaken => return export_at(alloc, parsed, error.at),
+        // its place is that of a section, which may be where the last body ends
+        ModuleFault::ObjectFile => return Ok(None),
+        _ => {}
     }
     let Some(index) = function_at(parsed, error.at) else {
         return Ok(None);
@@ -242,86 +274,19 @@ fn check_bodies<'w, R: Clock + Print + Eprint + AllocGlobal>(
     check_each(rt, program, parsed, &names, path, progress, &mut scratch)
 }
 
-/// The function with a body that a word names: by its index, or by its name.
-fn function_of<'w>(
-    parsed: &ParsedModule<'_>,
-    names: &FunctionNames<'_>,
-    word: &'w str,
-) -> Result<FunctionId, UsageError<'w>> {
-    let index = match word.parse::<usize>() {
-        Ok(index) => index,
-        Err(_) => match names.find(word) {
-            Found::None => return Err(UsageError::NoFunction(word)),
-            Found::One(index) => index,
-            Found::Several(first, second) => {
-                return Err(UsageError::Ambiguous(word, first, second));
-            }
-        },
-    };
-    if parsed.has_body(index) {
-        return Ok(FunctionId::new(index));
-    }
-    if parsed.is_imported(index) {
-        return Err(UsageError::Imported(word));
-    }
-    Err(UsageError::NoFunction(word))
-}
-
-/// Adds the functions that words name, each of which has a body.
-fn add_functions<'w>(
-    parsed: &ParsedModule<'_>,
-    names: &FunctionNames<'_>,
-    words: &[&'w str],
-    functions: &mut IdHashSet<FunctionId>,
-) -> Result<(), Failure<'w>> {
-    for word in words {
-        match function_of(parsed, names, *word) {
-            Ok(function) => functions.insert(function)?,
-            Err(fault) => return Err(Failure::UsageError(fault)),
-        };
-    }
-    Ok(())
-}
-
-/// Adds the functions that words name to none.
-fn fill_functions<'w>(
-    alloc: Global,
-    parsed: &ParsedModule<'_>,
-    words: &[&'w str],
-    functions: &mut IdHashSet<FunctionId>,
-) -> Result<(), Failure<'w>> {
-    if words.is_empty() {
-        return Ok(());
-    }
-    let names = FunctionNames::read(alloc, parsed)?;
-    add_functions(parsed, &names, words, functions)
-}
-
-/// The functions that are asked for, each of which has a body.
-fn functions_of<'w>(
-    alloc: Global,
-    parsed: &ParsedModule<'_>,
-    words: &[&'w str],
-) -> Result<IdHashSet<FunctionId>, Failure<'w>> {
-    let mut functions = IdHashSet::new(alloc);
-    match fill_functions(alloc, parsed, words, &mut functions) {
-        Ok(()) => Ok(functions),
-        Err(failure) => Err(failure),
-    }
-}
-
-/// What the program changes of a module.
+/// What the program changes of a module, where these functions are asked for.
 fn changes_of<'w, R: AllocGlobal, T: Tool>(
     rt: &R,
     tool: &T,
     task: &Task<'w>,
     parsed: &mut ParsedModule<'_>,
+    functions: IdHashSet<FunctionId>,
 ) -> Result<(Option<T::Change>, Changes), Failure<'w>> {
-    let functions = match functions_of(rt.alloc(), parsed, &task.functions) {
-        Ok(functions) => functions,
-        Err(failure) => return Err(failure),
+    let changes = match task.export {
+        None => tool.changes(rt.alloc(), parsed, functions),
+        Some(name) => tool.changes_with_export(rt.alloc(), parsed, functions, name),
     };
-    match tool.changes(rt.alloc(), parsed, functions) {
+    match changes {
         Ok(changes) => Ok(changes),
         Err(error) => Err(refused(rt.alloc(), parsed, task.input, &error)),
     }
@@ -354,7 +319,7 @@ fn changed<'a, R: Eprint + Clock, C: ChangeFunction + Drop>(
 }
 
 /// The source map that is read, if one is.
-fn given_source_map<'w, R: Files + Input + AllocGlobal>(
+fn given_source_map<'w, R: LockFiles + Input + AllocGlobal>(
     rt: &R,
     task: &Task<'w>,
 ) -> Result<Option<SourceMap>, Failure<'w>> {
@@ -367,48 +332,116 @@ fn given_source_map<'w, R: Files + Input + AllocGlobal>(
     }
 }
 
-/// Leaves out what the task asks to leave out.
-fn omit<B: BodyWriter>(task: &Task<'_>, module: &mut RewrittenModule<'_, B>) {
-    if task.strips_debug {
-        module.omit_debug();
+/// The name of a custom section of a module that has this name; none if no section has it.
+fn name_in<'a>(parsed: &ParsedModule<'a>, wanted: &str) -> Result<Option<&'a str>, ModuleError> {
+    for section in parsed.sections()? {
+        let section = section?;
+        if section.kind == SectionKind::Custom {
+            let name = section.name()?;
+            if name == wanted {
+                return Ok(Some(name));
+            }
+        }
     }
-    if let Some(MapPaths { url: Some(_), .. }) = task.source_map {
-        module.omit_source_map_url();
+    Ok(None)
+}
+
+/// Leaves out the custom sections with a name.
+fn leave_out<'a, B: BodyWriter>(
+    name: &str,
+    parsed: &ParsedModule<'a>,
+    module: &mut RewrittenModule<'a, B>,
+) -> Result<(), ModuleError> {
+    match name_in(parsed, name) {
+        Ok(Some(name)) => module.omit_custom_section(name),
+        Ok(None) => Ok(()),
+        Err(error) => Err(error),
     }
 }
 
-/// Writes a module that was made of one, after what is wrong now with its sections is said, and the
-/// source map, if there is one, of which each mapping follows its operator.
-fn write_made<'w, R: Files + Print + Eprint + AllocGlobal + Drop, B: BodyWriter + Drop>(
+/// Keeps the custom sections with a name.
+fn keep<'a, B: BodyWriter>(
+    name: &str,
+    parsed: &ParsedModule<'a>,
+    module: &mut RewrittenModule<'a, B>,
+) -> Result<(), ModuleError> {
+    match name_in(parsed, name) {
+        Ok(Some(name)) => module.keep_custom_section(name),
+        Ok(None) => Ok(()),
+        Err(error) => Err(error),
+    }
+}
+
+/// Leaves out custom sections, or keeps them.
+fn choose<'a, B: BodyWriter>(
+    section: SectionChoice<'_>,
+    parsed: &ParsedModule<'a>,
+    module: &mut RewrittenModule<'a, B>,
+) -> Result<(), ModuleError> {
+    match section {
+        SectionChoice::LeaveOutAll => module.omit_custom_sections(),
+        SectionChoice::LeaveOutDebug => module.omit_debug(),
+        SectionChoice::LeaveOut(name) => return leave_out(name, parsed, module),
+        SectionChoice::Keep(name) => return keep(name, parsed, module),
+    }
+    Ok(())
+}
+
+/// Leaves out what the task asks to leave out, and keeps what it asks to keep.
+fn omit<'a, B: BodyWriter>(
+    task: &Task<'_>,
+    parsed: &ParsedModule<'a>,
+    module: &mut RewrittenModule<'a, B>,
+) -> Result<(), ModuleError> {
+    for section in &task.sections {
+        choose(*section, parsed, module)?;
+    }
+    if task.source_map_url.is_some() {
+        module.omit_source_map_url();
+    }
+    Ok(())
+}
+
+/// Writes a module that was made of one, and the source map, if there is one, of which each mapping
+/// follows its operator; then says what is wrong now with the module's sections. Returns how many
+/// bytes the module has.
+fn write_made<'w, 'a, R: LockFiles + Print + Eprint + AllocGlobal + Drop, B: BodyWriter + Drop>(
     rt: &'w R,
     name: &str,
     task: &Task<'w>,
     source: &Option<SourceMap>,
-    parsed: &mut ParsedModule<'_>,
-    mut module: RewrittenModule<'_, B>,
+    parsed: &mut ParsedModule<'a>,
+    mut module: RewrittenModule<'a, B>,
     output: &'w str,
-) -> Result<(), Failure<'w>> {
-    omit(task, &mut module);
-    warn(rt, name, &module.notes, task);
-    write_module(rt, parsed, &module, task, source, output)
+) -> Result<u64, Failure<'w>> {
+    if omit(task, parsed, &mut module).is_err() {
+        // Its sections were read before.
+        return Err(Failure::Memory);
+    }
+    let written = write_module(rt, parsed, &module, task, source, output);
+    if written.is_ok() {
+        warn(rt, name, &module, task);
+    }
+    written
 }
 
 /// Writes what was made of a module, and the source map that follows it, if there is one; or says
-/// why nothing was made.
+/// why nothing was made. Returns how many bytes the module has.
 fn write_or_refuse<
     'w,
-    R: Files + Clock + Print + Eprint + AllocGlobal + Drop,
+    'a,
+    R: LockFiles + Clock + Print + Eprint + AllocGlobal + Drop,
     B: BodyWriter + Drop,
 >(
     rt: &'w R,
     name: &str,
     task: &Task<'w>,
     source: &Option<SourceMap>,
-    parsed: &mut ParsedModule<'_>,
-    made: Result<RewrittenModule<'_, B>, ModuleError>,
+    parsed: &mut ParsedModule<'a>,
+    made: Result<RewrittenModule<'a, B>, ModuleError>,
     output: &'w str,
     progress: &Progress<'_, R>,
-) -> Result<(), Failure<'w>> {
+) -> Result<u64, Failure<'w>> {
     match made {
         Ok(module) => {
             progress.clear();
@@ -418,18 +451,20 @@ fn write_or_refuse<
     }
 }
 
-/// Writes what the program makes of a module, and the source map that follows it, if there is one.
-fn rewrite<'w, 'a, R: Files + Clock + Print + Eprint + AllocGlobal + Drop, T: Tool>(
+/// Writes what the program makes of a module, where these functions are asked for, and the source map
+/// that follows it, if there is one. Returns how many bytes the module has.
+fn rewrite<'w, 'a, R: LockFiles + Clock + Print + Eprint + AllocGlobal + Drop, T: Tool>(
     rt: &'w R,
     tool: &T,
     program: &Program,
     task: &Task<'w>,
     source: &Option<SourceMap>,
     parsed: &mut ParsedModule<'a>,
+    functions: IdHashSet<FunctionId>,
     output: &'w str,
     progress: &'a Progress<'a, R>,
-) -> Result<(), Failure<'w>> {
-    let (change, changes) = match changes_of(rt, tool, task, parsed) {
+) -> Result<u64, Failure<'w>> {
+    let (change, changes) = match changes_of(rt, tool, task, parsed, functions) {
         Ok(found) => found,
         Err(failure) => return Err(failure),
     };
@@ -463,8 +498,39 @@ fn rewrite<'w, 'a, R: Files + Clock + Print + Eprint + AllocGlobal + Drop, T: To
     }
 }
 
-/// Writes what the program makes of a module, after the source map is read, if one is given.
-fn rewrite_with<'w, 'a, R: Files + Input + Clock + Print + Eprint + AllocGlobal + Drop, T: Tool>(
+/// Writes what the program makes of a module, after the source map is read, if one is given. Returns
+/// how many bytes the module has.
+fn rewrite_with_map<
+    'w,
+    'a,
+    R: LockFiles + Input + Clock + Print + Eprint + AllocGlobal + Drop,
+    T: Tool,
+>(
+    rt: &'w R,
+    tool: &T,
+    program: &Program,
+    task: &Task<'w>,
+    parsed: &mut ParsedModule<'a>,
+    functions: IdHashSet<FunctionId>,
+    output: &'w str,
+    progress: &'a Progress<'a, R>,
+) -> Result<u64, Failure<'w>> {
+    match given_source_map(rt, task) {
+        Ok(map) => rewrite(
+            rt, tool, program, task, &map, parsed, functions, output, progress,
+        ),
+        Err(failure) => Err(failure),
+    }
+}
+
+/// Writes what the program makes of a module, after the functions are found that are asked for.
+/// Returns how many bytes the module has.
+fn rewrite_asked<
+    'w,
+    'a,
+    R: LockFiles + Input + Clock + Print + Eprint + AllocGlobal + Drop,
+    T: Tool,
+>(
     rt: &'w R,
     tool: &T,
     program: &Program,
@@ -472,34 +538,61 @@ fn rewrite_with<'w, 'a, R: Files + Input + Clock + Print + Eprint + AllocGlobal 
     parsed: &mut ParsedModule<'a>,
     output: &'w str,
     progress: &'a Progress<'a, R>,
+) -> Result<u64, Failure<'w>> {
+    match functions_of(rt, parsed, &task.functions) {
+        Ok(functions) => rewrite_with_map(
+            rt, tool, program, task, parsed, functions, output, progress,
+        ),
+        Err(failure) => Err(failure),
+    }
+}
+
+/// Prints a line for each function, or for each body that is refused, and returns how many are.
+fn read_alone<'w, R: Clock + Print + Eprint + AllocGlobal>(
+    rt: &R,
+    program: &Program,
+    task: &Task<'w>,
+    parsed: &mut ParsedModule<'_>,
+    progress: &Progress<'_, R>,
 ) -> Result<usize, Failure<'w>> {
-    let map = match given_source_map(rt, task) {
-        Ok(map) => map,
-        Err(failure) => return Err(failure),
-    };
-    match rewrite(rt, tool, program, task, &map, parsed, output, progress) {
+    if !task.lists {
+        return check_bodies(rt, program, parsed, task.input, progress);
+    }
+    match list_functions(rt, parsed) {
         Ok(()) => Ok(0),
         Err(failure) => Err(failure),
     }
 }
 
-/// Does what is asked for with a module that was read, and returns how many bodies are refused.
-fn run_with<'w, 'a, R: Files + Input + Clock + Print + Eprint + AllocGlobal + Drop, T: Tool>(
+/// Does what is asked for with a module that was read.
+fn run_with<'w, 'a, R: LockFiles + Input + Clock + Print + Eprint + AllocGlobal + Drop, T: Tool>(
     rt: &'w R,
     tool: &T,
     program: &Program,
     task: &Task<'w>,
     parsed: &mut ParsedModule<'a>,
     progress: &'a Progress<'a, R>,
-) -> Result<usize, Failure<'w>> {
-    match task.output {
-        Some(output) => rewrite_with(rt, tool, program, task, parsed, output, progress),
-        None => check_bodies(rt, program, parsed, task.input, progress),
+) -> Result<Outcome, Failure<'w>> {
+    let Some(output) = task.output else {
+        return match read_alone(rt, program, task, parsed, progress) {
+            Ok(refused) => Ok(Outcome {
+                refused,
+                written: None,
+            }),
+            Err(failure) => Err(failure),
+        };
+    };
+    match rewrite_asked(rt, tool, program, task, parsed, output, progress) {
+        Ok(written) => Ok(Outcome {
+            refused: 0,
+            written: Some(written),
+        }),
+        Err(failure) => Err(failure),
     }
 }
 
 /// Does what is asked for with a module of these bytes.
-fn run_over<'w, 'a, R: Files + Input + Clock + Print + Eprint + AllocGlobal + Drop, T: Tool>(
+fn run_over<'w, 'a, R: LockFiles + Input + Clock + Print + Eprint + AllocGlobal + Drop, T: Tool>(
     rt: &'w R,
     tool: &T,
     program: &Program,
@@ -509,15 +602,15 @@ fn run_over<'w, 'a, R: Files + Input + Clock + Print + Eprint + AllocGlobal + Dr
 ) -> Result<Done, Failure<'w>> {
     let mut parsed = match ParsedModule::read_in_box(rt.alloc(), bytes) {
         Ok(parsed) => parsed,
-        Err(error) => return Err(Failure::refused(rt.alloc(), task.input, None, &error)),
+        Err(error) => return Err(Failure::not_read(rt.alloc(), task.input, bytes, &error)),
     };
     let functions = parsed.body_count();
     progress.begin(functions);
     match run_with(rt, tool, program, task, &mut parsed, progress) {
-        Ok(refused) => Ok(Done {
+        Ok(outcome) => Ok(Done {
             functions,
-            bytes: bytes.len(),
-            refused,
+            read: bytes.len() as u64,
+            outcome,
         }),
         Err(failure) => Err(failure),
     }
@@ -532,7 +625,7 @@ fn read_and_run<'w, 'a, R, T: Tool>(
     progress: &'a Progress<'a, R>,
 ) -> Result<Done, Failure<'w>>
 where
-    R: Files + Input + Clock + Print + Eprint + AllocGlobal + Drop,
+    R: LockFiles + Input + Clock + Print + Eprint + AllocGlobal + Drop,
 {
     match read_file(rt, task.input) {
         Ok(bytes) => run_over(rt, tool, program, task, &bytes, progress),
@@ -541,14 +634,18 @@ where
 }
 
 /// Checks the files of a task before any is opened.
-fn check_task<'w, R: Files + AllocGlobal>(
+fn check_task<'w, R: LockFiles + AllocGlobal>(
     rt: &R,
     task: &Task<'w>,
     terminals: Terminals,
 ) -> Result<(), Failure<'w>> {
     if terminals.output && task.output == Some("-") {
-        return Err(Failure::UsageError(UsageError::Terminal));
+        return Err(Failure::UsageError(match task.names_output {
+            true => UsageError::Terminal,
+            false => UsageError::NoOutput,
+        }));
     }
+    check_input(task)?;
     match check_files(rt, task) {
         Ok(()) => check_source_maps(rt, task),
         Err(failure) => Err(failure),
@@ -556,7 +653,7 @@ fn check_task<'w, R: Files + AllocGlobal>(
 }
 
 /// Does what is asked for, and shows on a terminal how far it is.
-fn run_task<'w, R: Files + Input + Clock + Print + Eprint + AllocGlobal + Drop, T: Tool>(
+fn run_task<'w, R: LockFiles + Input + Clock + Print + Eprint + AllocGlobal + Drop, T: Tool>(
     rt: &'w R,
     tool: &T,
     program: &Program,
@@ -573,6 +670,47 @@ fn run_task<'w, R: Files + Input + Clock + Print + Eprint + AllocGlobal + Drop, 
     done
 }
 
+/// By how much what was written is longer or shorter than what was read, in percent.
+#[derive(Clone, Copy)]
+struct Growth {
+    read: u64,
+    written: u64,
+}
+
+impl fmt::Display for Growth {
+    fn fmt<W: fmt::Write>(&self, f: &mut fmt::Formatter<W>) -> fmt::Result {
+        let sign = match self.written.cmp(&self.read) {
+            Ordering::Less => "-",
+            Ordering::Equal => "",
+            Ordering::Greater => "+",
+        };
+        let difference = u128::from(self.written.abs_diff(self.read));
+        let tenths = difference
+            .saturating_mul(1000)
+            .checked_div(u128::from(self.read))
+            .unwrap_or(0);
+        let (whole, tenth) = (tenths / 10, tenths % 10);
+        write!(f, "{sign}{whole}.{tenth}%")
+    }
+}
+
+/// How many bytes were written, if a module was.
+#[derive(Clone, Copy)]
+struct Written(Done);
+
+impl fmt::Display for Written {
+    fn fmt<W: fmt::Write>(&self, f: &mut fmt::Formatter<W>) -> fmt::Result {
+        let Some(written) = self.0.outcome.written else {
+            return Ok(());
+        };
+        let growth = Growth {
+            read: self.0.read,
+            written,
+        };
+        write!(f, ", {written} written ({growth})")
+    }
+}
+
 /// Prints how much was done, and in which time.
 fn print_done(
     rt: &(impl Eprint + Clock),
@@ -583,26 +721,27 @@ fn print_done(
     let name = program.name;
     let Done {
         functions,
-        bytes,
+        read,
         ..
     } = done;
     let ending = if functions == 1 { "" } else { "s" };
     let time = start.elapsed(rt)?.as_millis();
-    eprintln!(rt; "{name}: {functions} function{ending}, {bytes} bytes, {time} ms")
+    let written = Written(done);
+    eprintln!(rt; "{name}: {functions} function{ending}, {read} bytes read{written}, {time} ms")
 }
 
 /// The status of a run that was done: 1 where a body is refused.
 fn status_of_done(done: Done) -> ExitCode
-    ensures { exit_status result ≡ (if nat_lt 0 done.refused then 1 else 0) }
+    ensures { exit_status result ≡ (if nat_lt 0 done.outcome.refused then 1 else 0) }
 {
-    match done.refused {
+    match done.outcome.refused {
         0 => ExitCode::SUCCESS,
         _ => ExitCode::FAILURE,
     }
 }
 
 /// Does what is asked for, and returns its status.
-fn run_timed<R: Files + Input + Clock + Print + Eprint + AllocGlobal + Drop, T: Tool>(
+fn run_timed<R: LockFiles + Input + Clock + Print + Eprint + AllocGlobal + Drop, T: Tool>(
     rt: &R,
     tool: &T,
     program: &Program,
@@ -623,7 +762,7 @@ fn run_timed<R: Files + Input + Clock + Print + Eprint + AllocGlobal + Drop, T: 
 }
 
 /// Runs a program over its words, and returns its status.
-fn run_arguments<R: Files + Input + Clock + Print + Eprint + AllocGlobal + Drop, T: Tool>(
+fn run_arguments<R: LockFiles + Input + Clock + Print + Eprint + AllocGlobal + Drop, T: Tool>(
     rt: &R,
     tool: &T,
     program: &Program,
@@ -634,13 +773,10 @@ fn run_arguments<R: Files + Input + Clock + Print + Eprint + AllocGlobal + Drop,
 {
     match read_arguments(rt.alloc(), program, words) {
         Ok(Request::Task(task)) => run_timed(rt, tool, program, &task, terminals),
-        Ok(Request::Help) => {
-            program.print_help(rt)?;
-            Ok(ExitCode::SUCCESS)
-        }
+        Ok(Request::Help) => Ok(page_code(rt, program.name, program.print_help(rt))),
         Ok(Request::Version) => {
-            println!(rt; "{} {VERSION} ({BUILD})", program.name)?;
-            Ok(ExitCode::SUCCESS)
+            let printed = println!(rt; "{} {VERSION} ({BUILD})", program.name);
+            Ok(page_code(rt, program.name, printed))
         }
         Err(failure) => Ok(exit_code(rt, program.name, failure)),
     }
@@ -653,8 +789,8 @@ fn run_arguments<R: Files + Input + Clock + Print + Eprint + AllocGlobal + Drop,
 ///
 /// # Errors
 ///
-/// Where help can't be printed, or the clock can't be read.
-pub fn run<R: Files + Input + Env + Clock + Print + Eprint + AllocGlobal + Drop, T: Tool>(
+/// Where the clock can't be read, or what `--verbose` prints can't be.
+pub fn run<R: LockFiles + Input + Env + Clock + Print + Eprint + AllocGlobal + Drop, T: Tool>(
     rt: &R,
     tool: &T,
     program: &Program,

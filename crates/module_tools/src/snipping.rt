@@ -2,6 +2,7 @@
 
 ghost use Rattle.std.specs.Prelude.{◌≡◌, ◌==◌, [], IfOk, OnOk};
 ghost use Rattle.std.specs.HashSet.{contains};
+ghost use Rattle.wasm_sections.specs.Omissions.{OmitsNothing};
 ghost use Rattle.wasm_module.specs.KeptCode.{AreKeptAs};
 ghost use Rattle.wasm_module.specs.RewrittenCode.{Extends, IsChanged, keeps_locals};
 ghost use Rattle.wasm_module.specs.WrittenModules.{new_contents_in};
@@ -71,6 +72,7 @@ pub fn snip<'a>(
     ensures snips { IfOk result
         (λ made. AreKeptAs (IsChanged (keeps_locals (Snips functions))) parsed.old made.bodies) }
     ensures none_given { IfOk result (λ made. new_contents_in made ≡ []) }
+    ensures none_omitted { IfOk result (λ made. OmitsNothing made.omitted) }
     ensures extends { OnOk result (Extends parsed.old parsed.new) }
 {
     let mut snipping = Snipping::new(functions);

@@ -1,8 +1,10 @@
 //! The source map of a module that is written: its mappings follow the operators.
 
 use crate::ending::{Attempt, Failure};
-use crate::files::{Target, read_file};
+use crate::files::read_file;
+use crate::locks::LockFiles;
 use crate::program::Task;
+use crate::writing::create_target;
 use source_map::{Move, moved};
 use source_map_json::SourceMap;
 use std::alloc::{AllocError, Global};
@@ -116,12 +118,13 @@ fn moved_text(alloc: Global, map: &SourceMap, moves: &[Move]) -> Result<Vec<u8>,
 }
 
 /// Writes a text to a file, whole or not at all.
-fn write_text<'w, R: Files + Print + AllocGlobal + Drop>(
+fn write_text<'w, R: LockFiles + Print + AllocGlobal + Drop>(
     rt: &'w R,
+    task: &Task<'w>,
     path: &'w str,
     text: &[u8],
 ) -> Result<(), Failure<'w>> {
-    let mut target = match Target::create(rt, path) {
+    let mut target = match create_target(rt, task, path) {
         Ok(target) => target,
         Err(failure) => return Err(failure),
     };
@@ -133,7 +136,7 @@ fn write_text<'w, R: Files + Print + AllocGlobal + Drop>(
 }
 
 /// Writes the source map that follows a module, if one is asked for.
-pub(crate) fn write_source_map<'w, R: Files + Print + AllocGlobal + Drop>(
+pub(crate) fn write_source_map<'w, R: LockFiles + Print + AllocGlobal + Drop>(
     rt: &'w R,
     task: &Task<'w>,
     source: &Option<SourceMap>,
@@ -143,7 +146,7 @@ pub(crate) fn write_source_map<'w, R: Files + Print + AllocGlobal + Drop>(
         return Ok(());
     };
     match moved_text(rt.alloc(), map, &moves.list) {
-        Ok(text) => write_text(rt, paths.output, &text),
+        Ok(text) => write_text(rt, task, paths.output, &text),
         Err(_) => Err(Failure::Memory),
     }
 }

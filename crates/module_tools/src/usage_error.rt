@@ -20,12 +20,14 @@ pub enum UsageError<'w> {
     UnwantedValue(&'w str),
     /// An option is given without another that it requires.
     Requires(&'w str, &'w str),
-    /// An option is given with `--check`, which writes nothing.
-    NotWithCheck(&'w str),
+    /// An option is given with another one that writes no module.
+    NotWith(&'w str, &'w str),
     /// The path of the module that is read is missing.
     NoInput,
-    /// The path of the module that is written is missing.
+    /// The path of the module that is written is missing, and standard output is a terminal.
     NoOutput,
+    /// A path is empty.
+    EmptyPath,
     /// The functions are missing.
     NoFunctions,
     /// A word is too many.
@@ -34,12 +36,18 @@ pub enum UsageError<'w> {
     SameFile(&'w str, &'w str),
     /// A module would be written to a terminal.
     Terminal,
-    /// A word isn't UTF-8.
-    NotUtf8,
+    /// The word with this number isn't UTF-8.
+    NotUtf8(usize),
+    /// A name in a file of names isn't UTF-8.
+    NameNotUtf8,
     /// The module has no function with this name or index.
     NoFunction(&'w str),
     /// The function with this name or index is imported.
     Imported(&'w str),
+    /// No function with a body has a name that contains a match of this regular expression.
+    NoMatch(&'w str),
+    /// This is no regular expression.
+    BadPattern(&'w str, regex::Error),
     /// More than one function has this name; these are the first two.
     Ambiguous(&'w str, usize, usize),
 }
@@ -71,7 +79,7 @@ impl<'w> Line<'w> {
         }
     }
 
-    /// The line for a wrong use; of an ambiguous name its end, after the functions that have it.
+    /// The line for a wrong use, without the number at its front or the fault at its end.
     fn of(wrong: UsageError<'w>) -> Line<'w> {
         match wrong {
             UsageError::NoProgram => Line::text("no program is named"),
@@ -87,13 +95,16 @@ impl<'w> Line<'w> {
                 other,
                 third: "'",
             },
-            UsageError::NotWithCheck(name) => Line::with(
-                "option '",
-                name,
-                "' can't be used with '--check', which writes nothing",
-            ),
+            UsageError::NotWith(name, other) => Line {
+                first: "option '",
+                word: name,
+                second: "' can't be used with '",
+                other,
+                third: "', which writes no module",
+            },
             UsageError::NoInput => Line::text("no file to read is given"),
             UsageError::NoOutput => Line::text("no file to write is given"),
+            UsageError::EmptyPath => Line::text("a path is empty"),
             UsageError::NoFunctions => Line::text("no function is given"),
             UsageError::Unexpected(word) => Line::with("unexpected word '", word, "'"),
             UsageError::SameFile(word, other) => Line {
@@ -106,11 +117,18 @@ impl<'w> Line<'w> {
             UsageError::Terminal => {
                 Line::text("standard output is a terminal, and a module isn't text")
             }
-            UsageError::NotUtf8 => Line::text("a word is not UTF-8"),
+            UsageError::NotUtf8(_) => Line::text(" isn't UTF-8, which a path has to be"),
+            UsageError::NameNotUtf8 => Line::text("the name isn't UTF-8"),
             UsageError::NoFunction(word) => Line::with("the module has no function '", word, "'"),
             UsageError::Imported(word) => {
                 Line::with("function '", word, "' is imported, so that it has no body")
             }
+            UsageError::NoMatch(text) => Line::with("no function matches '", text, "'"),
+            UsageError::BadPattern(text, _) => Line::with(
+                "'",
+                text,
+                "' is no regular expression: ",
+            ),
             UsageError::Ambiguous(word, _, _) => Line::with("'", word, "': give an index"),
         }
     }
@@ -124,12 +142,38 @@ impl fmt::Display for Line<'_> {
     }
 }
 
+/// What the line for a wrong use begins with.
+#[derive(Clone, Copy)]
+struct Front<'w>(UsageError<'w>);
+
+impl fmt::Display for Front<'_> {
+    fn fmt<W: fmt::Write>(&self, f: &mut fmt::Formatter<W>) -> fmt::Result {
+        match self.0 {
+            UsageError::Ambiguous(_, first, second) => {
+                write!(f, "functions {first} and {second} are both named ")
+            }
+            UsageError::NotUtf8(number) => write!(f, "word {number}"),
+            _ => Ok(()),
+        }
+    }
+}
+
+/// What the line for a wrong use ends with.
+#[derive(Clone, Copy)]
+struct End<'w>(UsageError<'w>);
+
+impl fmt::Display for End<'_> {
+    fn fmt<W: fmt::Write>(&self, f: &mut fmt::Formatter<W>) -> fmt::Result {
+        match self.0 {
+            UsageError::BadPattern(_, error) => write!(f, "{error}"),
+            _ => Ok(()),
+        }
+    }
+}
+
 impl fmt::Display for UsageError<'_> {
     fn fmt<W: fmt::Write>(&self, f: &mut fmt::Formatter<W>) -> fmt::Result {
-        if let UsageError::Ambiguous(_, first, second) = *self {
-            write!(f, "functions {first} and {second} are both named ")?;
-        }
-        let line = Line::of(*self);
-        write!(f, "{line}")
+        let (front, line, end) = (Front(*self), Line::of(*self), End(*self));
+        write!(f, "{front}{line}{end}")
     }
 }

@@ -1,11 +1,37 @@
 //! Warnings of sections that aren't true any more.
 
 use crate::escaped::Escaped;
-use crate::program::Task;
+use crate::program::{SectionChoice, Task};
 use std::fmt;
-use wasm_module::{Note, NoteKind};
+use wasm_module::{Note, NoteKind, RewrittenModule};
 
-/// What is wrong now with a section, and what helps.
+impl Task<'_> {
+    /// Whether the custom section with this name is left out, which contains debug information or
+    /// doesn't.
+    fn leaves_out(&self, name: &str, is_debug: bool) -> bool {
+        let mut is_left_out = false;
+        for section in &self.sections {
+            match *section {
+                SectionChoice::Keep(kept) if kept == name => return false,
+                SectionChoice::Keep(_) => {}
+                SectionChoice::LeaveOutAll => is_left_out = true,
+                SectionChoice::LeaveOutDebug => is_left_out |= is_debug,
+                SectionChoice::LeaveOut(other) => is_left_out |= other == name,
+            }
+        }
+        is_left_out
+    }
+
+    /// Whether a section isn't wrong, since it is left out, or since the source map is written anew.
+    fn fixes(&self, note: &Note<'_>) -> bool {
+        let is_debug = matches!(note.kind, NoteKind::SourceMap | NoteKind::DebugInfo);
+        let is_mapped = matches!(note.kind, NoteKind::SourceMap) && self.source_map.is_some();
+        is_mapped || self.leaves_out(note.name, is_debug)
+    }
+}
+
+/// What is wrong now with a section, and what helps. It isn't one with debug information, of which
+/// all are in one line.
 #[derive(Clone, Copy)]
 struct Warning<'n>(Note<'n>);
 
@@ -16,43 +42,75 @@ impl fmt::Display for Warning<'_> {
             NoteKind::SourceMap => {
                 f.write_str("source map is out of date: use --source-map or --strip-debug")
             }
-            NoteKind::DebugInfo => {
-                write!(
-                    f,
-                    "debug information is out of date ({name}): use --strip-debug"
-                )
-            }
-            NoteKind::Relocations => {
-                write!(
-                    f,
-                    "relocations are out of date ({name}): link the module first"
-                )
-            }
-            NoteKind::NotFollowed => {
-                write!(
-                    f,
-                    "section \"{name}\" is carried over as it is, though the code has changed"
-                )
-            }
+            _ => write!(
+                f,
+                "section \"{name}\" is carried over as it is, though the code has changed"
+            ),
         }
     }
 }
 
-/// Whether a section isn't wrong, since it is left out, or since the source map is written anew.
-fn is_fixed(note: &Note<'_>, task: &Task<'_>) -> bool {
-    match note.kind {
-        NoteKind::SourceMap => task.strips_debug || task.source_map.is_some(),
-        NoteKind::DebugInfo => task.strips_debug,
-        _ => false,
+/// The names of the sections with debug information that is wrong now, as a list.
+#[derive(Clone, Copy)]
+struct StaleDebug<'n, 'a, 't, 'w> {
+    notes: &'n [Note<'a>],
+    task: &'t Task<'w>,
+}
+
+impl StaleDebug<'_, '_, '_, '_> {
+    /// Whether a section is one of them.
+    fn includes(&self, note: &Note<'_>) -> bool {
+        matches!(note.kind, NoteKind::DebugInfo) && !self.task.fixes(note)
+    }
+
+    /// Whether there is one.
+    fn is_some(&self) -> bool {
+        self.notes.iter().any(|note| self.includes(note))
     }
 }
 
-/// Prints to standard error what is wrong now in a module that is written, and what helps.
-pub(crate) fn warn(rt: &impl Eprint, program: &str, notes: &[Note<'_>], task: &Task<'_>) {
+impl fmt::Display for StaleDebug<'_, '_, '_, '_> {
+    fn fmt<W: fmt::Write>(&self, f: &mut fmt::Formatter<W>) -> fmt::Result {
+        let mut separator = "";
+        for note in self.notes {
+            if self.includes(note) {
+                let name = Escaped(note.name);
+                write!(f, "{separator}{name}")?;
+                separator = ", ";
+            }
+        }
+        Ok(())
+    }
+}
+
+/// Prints to standard error what is wrong now in a module that was written, and what helps: nothing
+/// of debug information, names and metadata where its code is what it was, nor of a source map where
+/// the code is where it was too.
+pub(crate) fn warn<B>(
+    rt: &impl Eprint,
+    program: &str,
+    module: &RewrittenModule<'_, B>,
+    task: &Task<'_>,
+) {
+    if task.is_quiet {
+        return;
+    }
+    let notes = &module.notes;
+    let stale = StaleDebug { notes, task };
+    if module.changes_code() && stale.is_some() {
+        // The module is written all the same where standard error can't be.
+        let _ = eprintln!(rt;
+            "{program}: warning: debug information is out of date ({stale}): use --strip-debug"
+        );
+    }
     for note in notes {
-        if !is_fixed(note, task) {
+        let is_wrong = match note.kind {
+            NoteKind::SourceMap => module.moves_code(),
+            NoteKind::DebugInfo => false,
+            NoteKind::NotFollowed => module.changes_code(),
+        };
+        if is_wrong && !task.fixes(note) {
             let warning = Warning(*note);
-            // The module is written all the same where standard error can't be.
             let _ = eprintln!(rt; "{program}: warning: {warning}");
         }
     }

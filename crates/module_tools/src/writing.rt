@@ -2,12 +2,12 @@
 
 use crate::ending::{Attempt, Failure};
 use crate::files::Target;
+use crate::locks::LockFiles;
 use crate::program::Task;
 use crate::source_maps::{Moves, MovesAndLines, write_source_map};
 use source_map_json::SourceMap;
 use std::alloc::Global;
 use std::io::{BufWriter, Write};
-use std::rt::Files;
 use wasm_module::{
     BodyWriter, MapLines, MapSink, ParsedModule, RewrittenModule, WriteError, write_source_map_url,
 };
@@ -96,6 +96,15 @@ fn write_both_buffered<W: Write, B: BodyWriter>(
     }
 }
 
+/// A file that is written to this path for a task.
+pub(crate) fn create_target<'w, R: LockFiles + AllocGlobal>(
+    rt: &'w R,
+    task: &Task<'w>,
+    path: &'w str,
+) -> Result<Target<'w, R>, Failure<'w>> {
+    Target::create(rt, path, task.is_forced)
+}
+
 /// Why a module that was read from one file isn't written to another.
 fn failure_of<'w>(
     alloc: Global,
@@ -109,16 +118,8 @@ fn failure_of<'w>(
     }
 }
 
-/// Where the source map is found that follows a module, as the module will say.
-fn url_of<'w>(task: &Task<'w>) -> Option<&'w str> {
-    match task.source_map {
-        Some(paths) => paths.url,
-        None => None,
-    }
-}
-
 /// Writes a module to a target that is lent, and then its source map, if one follows it.
-fn write_to<'w, R: Files + Print + AllocGlobal + Drop, B: BodyWriter>(
+fn write_to<'w, R: LockFiles + Print + AllocGlobal + Drop, B: BodyWriter>(
     rt: &'w R,
     parsed: &mut ParsedModule<'_>,
     module: &RewrittenModule<'_, B>,
@@ -127,7 +128,7 @@ fn write_to<'w, R: Files + Print + AllocGlobal + Drop, B: BodyWriter>(
     target: &mut Target<'w, R>,
 ) -> Result<(), Failure<'w>> {
     let mut moves = Moves::new(rt.alloc(), source.is_some());
-    let url = url_of(task);
+    let url = task.source_map_url;
     match write_buffered(rt.alloc(), parsed, module, url, &mut moves, target) {
         Ok(()) => write_source_map(rt, task, source, &moves),
         Err(error) => Err(failure_of(rt.alloc(), task.input, target.path(), error)),
@@ -136,7 +137,7 @@ fn write_to<'w, R: Files + Print + AllocGlobal + Drop, B: BodyWriter>(
 
 /// Writes a module and its location map to two targets that are lent, and then its source map, if
 /// one follows it.
-fn write_both_to<'w, R: Files + Print + AllocGlobal + Drop, B: BodyWriter>(
+fn write_both_to<'w, R: LockFiles + Print + AllocGlobal + Drop, B: BodyWriter>(
     rt: &'w R,
     parsed: &mut ParsedModule<'_>,
     module: &RewrittenModule<'_, B>,
@@ -146,7 +147,7 @@ fn write_both_to<'w, R: Files + Print + AllocGlobal + Drop, B: BodyWriter>(
     map: &mut Target<'w, R>,
 ) -> Result<(), Failure<'w>> {
     let mut moves = Moves::new(rt.alloc(), source.is_some());
-    let url = url_of(task);
+    let url = task.source_map_url;
     match write_both_buffered(rt.alloc(), parsed, module, url, &mut moves, target, map) {
         Ok(()) => write_source_map(rt, task, source, &moves),
         Err(error) => {
@@ -160,7 +161,7 @@ fn write_both_to<'w, R: Files + Print + AllocGlobal + Drop, B: BodyWriter>(
 }
 
 /// Writes a module to a target that is lent, and its location map, which is put in its place.
-fn write_with_map<'w, R: Files + Print + AllocGlobal + Drop, B: BodyWriter>(
+fn write_with_map<'w, R: LockFiles + Print + AllocGlobal + Drop, B: BodyWriter>(
     rt: &'w R,
     parsed: &mut ParsedModule<'_>,
     module: &RewrittenModule<'_, B>,
@@ -169,7 +170,7 @@ fn write_with_map<'w, R: Files + Print + AllocGlobal + Drop, B: BodyWriter>(
     target: &mut Target<'w, R>,
     map: &'w str,
 ) -> Result<(), Failure<'w>> {
-    let mut map = match Target::create(rt, map) {
+    let mut map = match create_target(rt, task, map) {
         Ok(map) => map,
         Err(failure) => return Err(failure),
     };
@@ -178,22 +179,22 @@ fn write_with_map<'w, R: Files + Print + AllocGlobal + Drop, B: BodyWriter>(
 }
 
 /// Writes a module, and its location map and the source map that follows it where these are asked
-/// for, each whole or not at all.
+/// for, each whole or not at all. Returns how many bytes the module has.
 ///
 /// # Errors
 ///
 /// Where one of them can't be written. All files are then as before; but where one of them can't be
 /// put in its place at the very end, those before it are new: first the source map, then the
 /// location map, then the module.
-pub(crate) fn write_module<'w, R: Files + Print + AllocGlobal + Drop, B: BodyWriter>(
+pub(crate) fn write_module<'w, R: LockFiles + Print + AllocGlobal + Drop, B: BodyWriter>(
     rt: &'w R,
     parsed: &mut ParsedModule<'_>,
     module: &RewrittenModule<'_, B>,
     task: &Task<'w>,
     source: &Option<SourceMap>,
     output: &'w str,
-) -> Result<(), Failure<'w>> {
-    let mut target = match Target::create(rt, output) {
+) -> Result<u64, Failure<'w>> {
+    let mut target = match create_target(rt, task, output) {
         Ok(target) => target,
         Err(failure) => return Err(failure),
     };
@@ -201,5 +202,9 @@ pub(crate) fn write_module<'w, R: Files + Print + AllocGlobal + Drop, B: BodyWri
         Some(map) => write_with_map(rt, parsed, module, task, source, &mut target, map),
         None => write_to(rt, parsed, module, task, source, &mut target),
     };
-    target.end(written)
+    let count = target.count();
+    match target.end(written) {
+        Ok(()) => Ok(count),
+        Err(failure) => Err(failure),
+    }
 }

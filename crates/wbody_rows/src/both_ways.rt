@@ -24,8 +24,19 @@ impl Appended {
         }
     }
 
-    /// This fault, if both differ.
+    /// Whether memory ran out before all was appended.
+    fn lacks_memory(&self) -> bool {
+        match self.error {
+            Some(error) => Fault::from(error) == Fault::Memory,
+            None => false,
+        }
+    }
+
+    /// This fault, if both differ; but where memory ran out in one of them nothing is known of both.
     fn compare(&self, other: &Appended, fault: Fault) -> Result<(), Fault> {
+        if self.lacks_memory() || other.lacks_memory() {
+            return Err(Fault::Memory);
+        }
         let alike = self.bytes == other.bytes && self.pairs == other.pairs;
         if alike && self.error == other.error {
             Ok(())
@@ -117,6 +128,9 @@ pub(crate) fn rewritten_alike(
     scratch: &mut FlatScratch,
 ) -> Result<(), Fault> {
     let flat = without_tree(alloc, demo, body, scratch)?;
+    if flat.lacks_memory() {
+        return Err(Fault::Memory);
+    }
     if !is_checked_alike(demo, body, scratch, &flat.error) {
         return Err(Fault::FlatDiffers);
     }

@@ -20,6 +20,7 @@ use crate::traces::compare_runs;
 use std::alloc::{AllocError, Global};
 use std::io;
 use std::io::{BufRead, BufReader};
+use std::process::ExitCode;
 use walrus_run::{FlatScratch, NamedBody, run_arguments};
 
 /// The result of a run: its status, and what it prints to standard output and to standard error.
@@ -263,6 +264,14 @@ impl Counts {
         Ok(())
     }
 
+    /// The status of the program: 1 where something differs.
+    fn status(&self) -> ExitCode {
+        match (self.rows_differ, self.rewritten_differ, self.bodies_differ) {
+            (0, 0, 0) => ExitCode::SUCCESS,
+            _ => ExitCode::FAILURE,
+        }
+    }
+
     fn print(&self, rt: &HostRuntime) -> io::Result<()> {
         let Counts {
             rows,
@@ -280,8 +289,8 @@ impl Counts {
     }
 }
 
-/// Counts the cases of standard input, and prints how many there were.
-fn run(rt: &HostRuntime, demo: &Demo) -> io::Result<()> {
+/// Counts the cases of standard input, prints how many there were, and returns the status.
+fn run(rt: &HostRuntime, demo: &Demo) -> io::Result<ExitCode> {
     let mut counts = Counts {
         rows: 0,
         rows_differ: 0,
@@ -292,10 +301,24 @@ fn run(rt: &HostRuntime, demo: &Demo) -> io::Result<()> {
     };
     let mut scratch = FlatScratch::new(rt.alloc());
     counts.take_all(rt, demo, &mut scratch)?;
-    counts.print(rt)
+    counts.print(rt)?;
+    Ok(counts.status())
 }
 
-fn main(rt: HostRuntime) -> io::Result<()> {
+/// Does so with a demo module of its own.
+fn run_in_demo(rt: &HostRuntime) -> io::Result<ExitCode> {
     let demo = Box::new(rt.alloc(), Demo::new(rt.alloc())?)?;
-    run(&rt, &demo)
+    run(rt, &demo)
+}
+
+/// Its status is 0 where nothing differs, and else 1; also where memory runs out, or the rows can't be
+/// read or the results printed, which is then said on standard error.
+fn main(rt: HostRuntime) -> ExitCode {
+    match run_in_demo(&rt) {
+        Ok(status) => status,
+        Err(error) => {
+            let _ = eprintln!(rt; "wbody_rows: {error}");
+            ExitCode::FAILURE
+        }
+    }
 }

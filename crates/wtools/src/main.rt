@@ -14,7 +14,9 @@ mod snipping;
 
 use counting::Count;
 use measuring::run_passes;
-use module_tools::{BUILD, Failure, Terminals, UsageError, VERSION, exit_code, run, words};
+use module_tools::{
+    BUILD, Failure, LockFiles, Terminals, UsageError, VERSION, exit_code, page_code, run, words,
+};
 use naming::{Chosen, asked};
 use rewriting::RewriteAll;
 use snipping::Snip;
@@ -22,7 +24,7 @@ use std::alloc::{AllocError, Global};
 use std::io;
 use std::io::IsTerminal;
 use std::process::ExitCode;
-use std::rt::{Clock, Env, Files};
+use std::rt::{Clock, Env};
 
 /// Its own name, with which its messages begin where it runs as none of them.
 const NAME: &str = "wtools";
@@ -68,12 +70,12 @@ fn requested_page(words: &[String]) -> Result<Page, UsageError<'_>> {
 fn print_page(rt: &(impl Print + Eprint), words: &[String]) -> io::Result<ExitCode>
     ensures { IfOk result (λ code. exit_status code ≤ 2) }
 {
-    match requested_page(words) {
-        Ok(Page::Help) => println!(rt; "{HELP}")?,
-        Ok(Page::Version) => println!(rt; "{NAME} {VERSION} ({BUILD})")?,
+    let printed = match requested_page(words) {
+        Ok(Page::Help) => println!(rt; "{HELP}"),
+        Ok(Page::Version) => println!(rt; "{NAME} {VERSION} ({BUILD})"),
         Err(wrong) => return Ok(exit_code(rt, NAME, Failure::UsageError(wrong))),
-    }
-    Ok(ExitCode::SUCCESS)
+    };
+    Ok(page_code(rt, NAME, printed))
 }
 
 /// Runs none of the programs, and returns the status.
@@ -87,7 +89,7 @@ fn run_none<R: Env + Print + Eprint + AllocGlobal>(rt: &R) -> io::Result<ExitCod
 }
 
 /// Runs the program that is asked for, and returns the status, which is `run`'s.
-fn run_asked<R: Files + Input + Env + Clock + Print + Eprint + AllocGlobal + Drop>(
+fn run_asked<R: LockFiles + Input + Env + Clock + Print + Eprint + AllocGlobal + Drop>(
     rt: &R,
     terminals: Terminals,
 ) -> io::Result<ExitCode>

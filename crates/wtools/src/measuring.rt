@@ -3,7 +3,7 @@
 ghost use Rattle.std.specs.Prelude.{◌≤◌, IfOk};
 ghost use Rattle.std.specs.Process.{exit_status};
 
-use module_tools::{exit_code, read_file, words};
+use module_tools::{Failure, exit_code, read_file, words};
 use std::alloc::Global;
 use std::io;
 use std::process::ExitCode;
@@ -245,8 +245,8 @@ fn print_measured<R: Print + Eprint + AllocGlobal>(
             Ok(ExitCode::SUCCESS)
         }
         Err(error) => {
-            eprintln!(rt; "{NAME}: {error}")?;
-            Ok(ExitCode::FAILURE)
+            let failure = Failure::refused(rt.alloc(), task.path, None, &error);
+            Ok(exit_code(rt, NAME, failure))
         }
     }
 }

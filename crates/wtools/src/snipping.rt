@@ -9,16 +9,22 @@ use wasm_module::{Changes, ModuleError, ParsedModule};
 pub const PROGRAM: Program = Program {
     name: "wsnip",
     about: "usage: wsnip [OPTION].. IN.wasm OUT.wasm FUNCTION..
+       wsnip [OPTION].. -o OUT.wasm IN.wasm FUNCTION..
+       wsnip --list IN.wasm
 
-Leaves nothing but `unreachable` of functions of a WebAssembly module, and rewrites
-all others as `wrewrite` does. FUNCTION is an index, which counts imported functions
-too, or a name: of the `name` section, or else of an export. A path of `-` is standard
-input or output. OUT.wasm may be IN.wasm.",
-    ending: "Status: 0 written; 1 refused, or a file can't be read or written; 2 wrong use.
+Leaves nothing but `unreachable` of functions of a WebAssembly module, and
+rewrites all others as `wrewrite` does. FUNCTION is an index, which counts
+imported functions too, or a name: of the `name` section, or else of an export.
+Options can choose functions too. A path of `-` is standard input or output,
+and without OUT.wasm the module goes to standard output. OUT.wasm may be
+IN.wasm.",
+    ending: "Status: 0 written or listed; 1 refused, or a file can't be read or written; 2
+wrong use.
 
 example: wsnip in.wasm out.wasm 12 unused_function",
     takes_check: false,
     takes_functions: true,
+    takes_export: false,
 };
 
 /// Takes away the bodies of functions.
