@@ -4,77 +4,100 @@
 //! ```
 //! // a function that is `nop`, `i32.const 7`, `drop`
 //! let module = b"\0asm\x01\0\0\0\x01\x04\x01\x60\0\0\x03\x02\x01\0\x0a\x08\x01\x06\0\x01\x41\x07\x1a\x0b";
-//! let rewritten = wrewrite::rewrite(module, wrewrite::Options::default()).unwrap();
-//! assert_eq!(rewritten.len(), module.len() - 1);
+//! let made = wrewrite::rewrite(module, wrewrite::Options::default())?;
+//! assert_eq!(made.module.len(), module.len() - 1);
+//! # Ok::<(), wrewrite::Error>(())
 //! ```
 
+mod faults;
+mod raw;
+mod snip;
+
+use raw::Outcome;
 use std::fmt;
 
-/// How a call of the library ended, as `include/wrewrite.h` declares it.
-#[repr(C)]
-struct Outcome {
-    status: u32,
-    place: usize,
-    function: usize,
-    module_size: usize,
-    map_size: usize,
-    text: [u8; 120],
-}
+pub use faults::{check, Faults};
+pub use snip::{find, Snip};
 
-const DONE: u32 = 0;
-const REFUSED: u32 = 1;
-const NO_FUNCTION: u32 = 2;
-const TOO_SMALL: u32 = 3;
-
-// As `include/wrewrite.h` declares them.
-unsafe extern "C" {
-    fn wrewrite_rewrite(
-        source: *const u8,
-        source_size: usize,
-        has_map: bool,
-        strips_debug: bool,
-        out: *mut u8,
-        out_size: usize,
-        map: *mut u8,
-        map_size: usize,
-    ) -> Outcome;
-
-    fn wrewrite_snip(
-        source: *const u8,
-        source_size: usize,
-        functions: *const usize,
-        function_count: usize,
-        has_map: bool,
-        strips_debug: bool,
-        out: *mut u8,
-        out_size: usize,
-        map: *mut u8,
-        map_size: usize,
-    ) -> Outcome;
-
-    fn wrewrite_check(source: *const u8, source_size: usize, first: usize) -> Outcome;
-}
-
-/// What is wanted.
+/// What is wanted. Each option is off by default.
+///
+/// ```
+/// let options = wrewrite::Options::default().strip_debug().with_map();
+/// assert!(options.strips_debug && options.has_map && !options.strips_all);
+/// ```
 #[derive(Clone, Copy, Debug, Default, PartialEq, Eq)]
+#[non_exhaustive]
 pub struct Options {
+    /// The location map is wanted.
+    pub has_map: bool,
     /// Leave out the custom sections `sourceMappingURL` and `external_debug_info`, and those whose names begin with `.debug_`.
     pub strips_debug: bool,
+    /// Leave out all custom sections, also the names of functions.
+    pub strips_all: bool,
+}
+
+impl Options {
+    /// The location map is wanted.
+    #[must_use]
+    pub fn with_map(self) -> Self {
+        Options { has_map: true, ..self }
+    }
+
+    /// Debug information is left out.
+    #[must_use]
+    pub fn strip_debug(self) -> Self {
+        Options { strips_debug: true, ..self }
+    }
+
+    /// All custom sections are left out.
+    #[must_use]
+    pub fn strip_all(self) -> Self {
+        Options { strips_all: true, ..self }
+    }
+}
+
+/// What may no longer be true in a module that is made, since its code has changed.
+#[derive(Clone, Copy, Debug, Default, PartialEq, Eq)]
+#[non_exhaustive]
+pub struct Warnings {
+    /// The place of its source map, which has places of the source.
+    pub source_map: bool,
+    /// Its debug information, which has places of the source.
+    pub debug_info: bool,
+    /// Names of locals or labels, or metadata of code, in a section that can't be read and is carried over as it is.
+    pub names: bool,
+}
+
+/// What is made of a module.
+#[derive(Clone, Debug, PartialEq, Eq)]
+#[non_exhaustive]
+pub struct Made {
+    /// The module.
+    pub module: Vec<u8>,
+    /// Its location map, if it is wanted: a line for each operator that is one of the source, with its old and its new offset from the
+    /// start of the module, in hexadecimal.
+    pub map: Option<String>,
+    /// What may no longer be true in it.
+    pub warnings: Warnings,
 }
 
 /// Which kind of error it is.
 #[derive(Clone, Copy, Debug, PartialEq, Eq)]
+#[non_exhaustive]
 pub enum ErrorKind {
     /// The module, or a function of it, is refused.
     Refused,
-    /// A function that is named has no body.
+    /// A function that is named isn't there or has no body, or several functions have its name.
     NoFunction,
     /// Memory ran out.
     NoMemory,
+    /// The library doesn't know an option that is wanted: it is older than this crate.
+    BadOptions,
 }
 
 /// Why nothing is made of a module.
 #[derive(Clone, Debug, PartialEq, Eq)]
+#[non_exhaustive]
 pub struct Error {
     pub kind: ErrorKind,
     /// The place of the fault, a byte offset from the start of the module, if it has one.
@@ -99,60 +122,33 @@ impl fmt::Display for Error {
 
 impl std::error::Error for Error {}
 
-fn known(number: usize) -> Option<usize> {
-    (number != usize::MAX).then_some(number)
-}
-
-impl Outcome {
-    fn into_error(self) -> Error {
-        let end = self.text.iter().position(|byte| *byte == 0).unwrap_or(self.text.len());
-        Error {
-            kind: match self.status {
-                REFUSED => ErrorKind::Refused,
-                NO_FUNCTION => ErrorKind::NoFunction,
-                _ => ErrorKind::NoMemory,
-            },
-            place: known(self.place),
-            function: known(self.function),
-            text: String::from_utf8_lossy(&self.text[..end]).into_owned(),
-        }
-    }
+/// The version of the library: its three numbers.
+pub fn version() -> (u32, u32, u32) {
+    // SAFETY: it takes nothing, and only returns a number.
+    let number = unsafe { raw::wrewrite_version() };
+    (number / 10_000, number / 100 % 100, number % 100)
 }
 
 /// Calls with room for as many bytes as the source has and some more, and once more where that is too small.
-fn made(source: &[u8], has_map: bool, call: impl Fn(&mut [u8], &mut [u8]) -> Outcome) -> Result<(Vec<u8>, Vec<u8>), Error> {
-    let mut out = vec![0; source.len() + 64];
-    let mut map = vec![0; if has_map { source.len() * 10 } else { 0 }];
-    let mut outcome = call(&mut out, &mut map);
-    if outcome.status == TOO_SMALL {
-        out.resize(outcome.module_size, 0);
+fn made(source: &[u8], options: Options, call: impl Fn(&[u32], &mut [u8], &mut [u8]) -> Outcome) -> Result<Made, Error> {
+    let words = raw::words_of(options);
+    let mut module = vec![0; source.len() + 64];
+    let mut map = vec![0; if options.has_map { source.len() * 10 } else { 0 }];
+    let mut outcome = call(&words, &mut module, &mut map);
+    if outcome.status == raw::TOO_SMALL {
+        module.resize(outcome.module_size, 0);
         map.resize(outcome.map_size, 0);
-        outcome = call(&mut out, &mut map);
+        outcome = call(&words, &mut module, &mut map);
     }
-    if outcome.status != DONE {
+    if outcome.status != raw::DONE {
         return Err(outcome.into_error());
     }
-    out.truncate(outcome.module_size);
+    module.truncate(outcome.module_size);
     map.truncate(outcome.map_size);
-    Ok((out, map))
-}
-
-fn rewritten(source: &[u8], has_map: bool, options: Options) -> Result<(Vec<u8>, Vec<u8>), Error> {
-    made(source, has_map, |out, map| {
-        // SAFETY: each pointer comes with the length of its slice, isn't null, and is borrowed for the call; those that are written
-        // are borrowed mutably, so that they overlap nothing. The declaration is that of the library.
-        unsafe {
-            wrewrite_rewrite(
-                source.as_ptr(),
-                source.len(),
-                has_map,
-                options.strips_debug,
-                out.as_mut_ptr(),
-                out.len(),
-                map.as_mut_ptr(),
-                map.len(),
-            )
-        }
+    Ok(Made {
+        module,
+        map: options.has_map.then(|| String::from_utf8_lossy(&map).into_owned()),
+        warnings: outcome.warnings(),
     })
 }
 
@@ -162,58 +158,21 @@ fn rewritten(source: &[u8], has_map: bool, options: Options) -> Result<(Vec<u8>,
 /// # Errors
 ///
 /// The first fault of the module or of a function; or that memory ran out.
-pub fn rewrite(source: &[u8], options: Options) -> Result<Vec<u8>, Error> {
-    Ok(rewritten(source, false, options)?.0)
-}
-
-/// The same, with the location map: a line for each operator that is one of the source, with its old and its new offset from the start
-/// of the module, in hexadecimal.
-///
-/// # Errors
-///
-/// Those of `rewrite`.
-pub fn rewrite_with_map(source: &[u8], options: Options) -> Result<(Vec<u8>, String), Error> {
-    let (module, map) = rewritten(source, true, options)?;
-    Ok((module, String::from_utf8_lossy(&map).into_owned()))
-}
-
-/// Rewrites a module, and leaves nothing but `unreachable` of the functions with these indices. Imported functions have the first
-/// indices.
-///
-/// # Errors
-///
-/// Where a function isn't there or has no body; those of `rewrite`.
-pub fn snip(source: &[u8], functions: &[usize], options: Options) -> Result<Vec<u8>, Error> {
-    let (module, _) = made(source, false, |out, map| {
-        // SAFETY: as in `rewritten`.
+pub fn rewrite(source: &[u8], options: Options) -> Result<Made, Error> {
+    made(source, options, |words, out, map| {
+        // SAFETY: each pointer comes with the length of its slice, isn't null, and is borrowed for the call; those that are written
+        // are borrowed mutably, so that they overlap nothing. The declaration is that of the library.
         unsafe {
-            wrewrite_snip(
+            raw::wrewrite_raw_rewrite(
                 source.as_ptr(),
                 source.len(),
-                functions.as_ptr(),
-                functions.len(),
-                false,
-                options.strips_debug,
+                words.as_ptr(),
+                words.len(),
                 out.as_mut_ptr(),
                 out.len(),
                 map.as_mut_ptr(),
                 map.len(),
             )
         }
-    })?;
-    Ok(module)
-}
-
-/// Looks for the first function that is refused, among those with the index `first` and the following ones. Types are not validated.
-///
-/// # Errors
-///
-/// Its fault, or that of a module that isn't read; or that memory ran out.
-pub fn check(source: &[u8], first: usize) -> Result<(), Error> {
-    // SAFETY: as in `rewritten`.
-    let outcome = unsafe { wrewrite_check(source.as_ptr(), source.len(), first) };
-    match outcome.status {
-        DONE => Ok(()),
-        _ => Err(outcome.into_error()),
-    }
+    })
 }

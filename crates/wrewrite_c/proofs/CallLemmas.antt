@@ -1,36 +1,67 @@
 -- What calls make, step by step.
-use Rattle.std.proofs.Common.{◌≡◌, ◌==◌, ℕ, ◌+◌, ◌<◌, List, [], ◌++◌, length, get_or, take, Bool, true, false, cond, ◌||◌, ◌&&◌, Result, Ok, Err, OnOk, refl, sym, ap, subst, ◌∙◌}
+use Rattle.std.proofs.Common.{◌≡◌, ◌==◌, ℕ, ◌+◌, ◌<◌, List, [], ◌++◌, length, get_or, take, Bool, true, false, cond, not, ◌||◌, ◌&&◌, Result, Ok, Err, IfOk, OnOk, refl, sym, ap, subst, ◌∙◌}
 use Rattle.std.proofs.Math.Bool.{and-true}
 use Rattle.std.proofs.lemmas.List.Folds.{list_any_more}
 use Rattle.std.specs.List.{list_any}
 use Rattle.std.specs.HashSet.{HashSet, IsEmpty, contains}
 use Rattle.wasm_sections.specs.declared.changes.Changes.{Changes}
+use Rattle.wasm_sections.specs.declared.omissions.OmittedSections.{OmittedSections}
+use Rattle.wasm_sections.specs.Omissions.{OmitsNothing, texts, has_name, names_debug, names_source_map}
 use Rattle.wasm_module.specs.declared.parsed.ParsedModule.{ParsedModule}
 use Rattle.wasm_module.specs.declared.changing.kept_bodies.KeptBodies.{KeptBodies}
 use Rattle.wasm_module.specs.KeptCode.{IsKept, AreKeptAs}
 use Rattle.wasm_module.specs.RewrittenCode.{Extends}
 use Rattle.wasm_module.specs.WrittenModules.{Writes, IsWrittenModule}
 use Rattle.wasm_module.proofs.WriterLemmas.{kept_module}
+use Rattle.wrewrite_c.specs.declared.options.Options.{Options}
+use Rattle.wrewrite_c.specs.declared.outcome.Named.{Named}
 use Rattle.wrewrite_c.specs.declared.outcome.Stop.{Stop}
 use Rattle.wrewrite_c.specs.declared.outcome.Stop.TheVariants.{Refused, NoFunction}
-use Rattle.wrewrite_c.specs.Made.{IsMadeFrom, IsMadeOf, is_listed, HasFunctions, Adds}
-use Rattle.wrewrite_c.specs.Outcomes.{IsMissingIn, LacksFunction}
+use Rattle.wrewrite_c.specs.Made.{without_debug, without_all, LeavesOut, IsMadeFrom, IsMadeOf, is_listed, HasFunctions, Adds}
+use Rattle.wrewrite_c.specs.Outcomes.{IsMissingIn, LacksFunction, IsNamed, IsNamedIn}
+
+-- ---- what is left out
+
+-- Where nothing was left out, only what isn't wanted is: by what is kept (k), named (n) and asked for before, by what the name says
+-- (nd, ns), and by what isn't wanted (sa, sd).
+unwanted :
+    (k a n d nd u ns sa sd : Bool) → (not k && (a || (n || ((d && nd) || (u && ns))))) ≡ false →
+    (not k && ((sa || a) || (n || (((sd || d) && nd) || (u && ns))))) ≡ true → (sa || (sd && nd)) ≡ true
+unwanted k a n d nd u ns true sd h g = refl
+unwanted k a n d true u ns false true h g = refl
+unwanted k a n true false u ns false true h g = sym h ∙ g
+unwanted k a n false false u ns false true h g = sym h ∙ g
+unwanted k a n d nd u ns false false h g = sym h ∙ g
+
+or_true : (a b : Bool) → a ≡ true → (a || b) ≡ true
+or_true a b h = ap (λ (x : Bool). x || b) h
+
+pub leaves_out :
+    (wanted : Options) (old new : OmittedSections) → OmitsNothing old → new ≡ without_all wanted.strips_all (without_debug wanted.strips_debug old) → LeavesOut wanted new
+leaves_out wanted old new none e = subst (λ (o : OmittedSections). LeavesOut wanted o) (sym e) (record {
+  debug = or_true wanted.strips_debug old.is_debug;
+  all = or_true wanted.strips_all old.is_all;
+  no_others = λ name.
+      unwanted (has_name (texts old.kept.items) name) old.is_all (has_name (texts old.named.items) name) old.is_debug (names_debug name) old.is_source_map_url
+      (names_source_map name) wanted.strips_all wanted.strips_debug (none name);
+})
 
 -- ---- the module
 
 -- after nothing that was written before
 pub made_new :
-    {B : Type 0} (writes : B → Writes) (a b : B) (parsed : ParsedModule) (changes : Changes) (strips_debug : Bool) (old made : List ℕ) → b ≡ a → changes.given.items ≡ [] →
-    (strips_debug ≡ true → changes.omits_debug ≡ true) → old ≡ [] → (new : List ℕ) × IsWrittenModule (writes b) parsed changes new × (made ≡ old ++ new) →
-    IsMadeFrom (writes a) parsed strips_debug made
-made_new writes a b parsed changes strips_debug old made same none leaves empty w =
-    let here = subst (λ (x : _). IsWrittenModule (writes x) parsed changes w.0) same w.1 in
+    {B : Type 0} (writes : B → Writes) (a b : B) (parsed : ParsedModule) (changes : Changes) (omitted : OmittedSections) (wanted : Options) (old made : List ℕ) → b ≡ a →
+    changes.given.items ≡ [] → LeavesOut wanted omitted → old ≡ [] → (new : List ℕ) × IsWrittenModule (writes b) parsed changes omitted new × (made ≡ old ++ new) →
+    IsMadeFrom (writes a) parsed wanted made
+made_new writes a b parsed changes omitted wanted old made same none leaves empty w =
+    let here = subst (λ (x : _). IsWrittenModule (writes x) parsed changes omitted w.0) same w.1 in
     let is_new : w.0 ≡ made = ap (λ (l : List ℕ). l ++ w.0) (sym empty) ∙ sym w.2 in
     record {
       changes = changes;
       none_given = none;
-      omits = leaves;
-      is_written = subst (λ (l : List ℕ). IsWrittenModule (writes a) parsed changes l) is_new here;
+      omitted = omitted;
+      leaves_out = leaves;
+      is_written = subst (λ (l : List ℕ). IsWrittenModule (writes a) parsed changes omitted l) is_new here;
     }
 
 on_ok : {A E P Q : Type 0} (r : Result A E) → (P → Q) → OnOk r P → OnOk r Q
@@ -39,28 +70,29 @@ on_ok (Err e) f p = tt
 
 -- of the bytes of a module that was read, which has changed since, and whose bodies are written in this way or kept so
 pub made_of :
-    {A E : Type 0} (r : Result A E) (writes : Writes) (parsed now : ParsedModule) (strips_debug : Bool) (new : List ℕ) → Extends parsed now →
-    OnOk r (IsMadeFrom writes now strips_debug new) → OnOk r (IsMadeOf writes parsed.bytes.now strips_debug new)
-made_of r writes parsed now strips_debug new x h = on_ok r (λ m. record { parsed = now; bytes_are = x.bytes; is_made = m }) h
+    {A E : Type 0} (r : Result A E) (writes : Writes) (parsed now : ParsedModule) (wanted : Options) (new : List ℕ) → Extends parsed now →
+    OnOk r (IsMadeFrom writes now wanted new) → OnOk r (IsMadeOf writes parsed.bytes.now wanted new)
+made_of r writes parsed now wanted new x h = on_ok r (λ m. record { parsed = now; bytes_are = x.bytes; is_made = m }) h
 
 kept_from :
-    (writes : Writes) (parsed now : ParsedModule) (kept : KeptBodies) (strips_debug : Bool) (new : List ℕ) → Extends parsed now → AreKeptAs writes parsed kept →
-    IsMadeFrom (IsKept kept) now strips_debug new → IsMadeOf writes parsed.bytes.now strips_debug new
-kept_from writes parsed now kept strips_debug new x k h = record {
+    (writes : Writes) (parsed now : ParsedModule) (kept : KeptBodies) (wanted : Options) (new : List ℕ) → Extends parsed now → AreKeptAs writes parsed kept →
+    IsMadeFrom (IsKept kept) now wanted new → IsMadeOf writes parsed.bytes.now wanted new
+kept_from writes parsed now kept wanted new x k h = record {
   parsed = parsed;
   bytes_are = refl;
   is_made = record {
     changes = h.changes;
     none_given = h.none_given;
-    omits = h.omits;
-    is_written = kept_module writes parsed now kept h.changes new x k h.is_written;
+    omitted = h.omitted;
+    leaves_out = h.leaves_out;
+    is_written = kept_module writes parsed now kept h.changes h.omitted new x k h.is_written;
   };
 }
 
 pub made_of_kept :
-    {A E : Type 0} (r : Result A E) (writes : Writes) (parsed now : ParsedModule) (kept : KeptBodies) (strips_debug : Bool) (new : List ℕ) → Extends parsed now →
-    AreKeptAs writes parsed kept → OnOk r (IsMadeFrom (IsKept kept) now strips_debug new) → OnOk r (IsMadeOf writes parsed.bytes.now strips_debug new)
-made_of_kept r writes parsed now kept strips_debug new x k h = on_ok r (λ m. kept_from writes parsed now kept strips_debug new x k m) h
+    {A E : Type 0} (r : Result A E) (writes : Writes) (parsed now : ParsedModule) (kept : KeptBodies) (wanted : Options) (new : List ℕ) → Extends parsed now →
+    AreKeptAs writes parsed kept → OnOk r (IsMadeFrom (IsKept kept) now wanted new) → OnOk r (IsMadeOf writes parsed.bytes.now wanted new)
+made_of_kept r writes parsed now kept wanted new x k h = on_ok r (λ m. kept_from writes parsed now kept wanted new x k m) h
 
 -- ---- functions that are added, one after the other
 
@@ -97,3 +129,11 @@ adds_one old new index other h = rw (sym (by_number new other), h, by_number old
 pub lacks : (parsed : ParsedModule) (indices : List ℕ) (stop : Stop) → IsMissingIn parsed indices stop → LacksFunction indices parsed.bytes.now stop
 lacks parsed indices (Refused r) h = tt
 lacks parsed indices (NoFunction index) h = (h.0, (parsed, refl, h.1))
+
+-- ---- functions with names
+
+-- in the module of these bytes
+pub named_in :
+    {E : Type 0} (r : Result Named E) (parsed : ParsedModule) (source : List ℕ) → parsed.bytes.now ≡ source → IfOk r (IsNamed parsed) → IfOk r (IsNamedIn source)
+named_in (Ok named) parsed source same h = (parsed, same, h)
+named_in (Err e) parsed source same h = tt

@@ -1,27 +1,53 @@
 -- What calls make of a module.
-use Rattle.std.specs.Prelude.{◌≡◌, ◌==◌, ℕ, List, [], Bool, true, cond}
+use Rattle.std.specs.Prelude.{◌≡◌, ◌==◌, ℕ, List, [], Bool, true, cond, ◌||◌, ◌&&◌}
 use Rattle.std.specs.List.{list_any}
 use Rattle.std.specs.HashSet.{HashSet, contains}
 use Rattle.wasm_sections.specs.declared.changes.Changes.{Changes}
+use Rattle.wasm_sections.specs.declared.omissions.OmittedSections.{OmittedSections}
+use Rattle.wasm_sections.specs.Omissions.{omits_name, names_debug}
 use Rattle.wasm_module.specs.declared.parsed.ParsedModule.{ParsedModule}
 use Rattle.wasm_module.specs.RewrittenCode.{IsChanged, keeps_locals}
 use Rattle.wasm_module.specs.WrittenModules.{Writes, IsWrittenModule}
 use Rattle.module_tools.specs.declared.snipping.Snipping.{Snipping}
 use Rattle.module_tools.specs.FunctionChanges.{Snips}
+use Rattle.wrewrite_c.specs.declared.options.Options.{Options}
+
+-- ---- custom sections that are left out
+
+-- debug information too, if it is to be left out
+abbrev pub without_debug : (is_left_out : Bool) → OmittedSections → OmittedSections
+without_debug is_left_out o = record o { is_debug = is_left_out || o.is_debug }
+
+-- all of them, if they are to be left out
+abbrev pub without_all : (are_left_out : Bool) → OmittedSections → OmittedSections
+without_all are_left_out o = record o { is_all = are_left_out || o.is_all }
+
+-- A section with this name isn't wanted.
+abbrev pub is_unwanted : Options → (name : List ℕ) → Bool
+is_unwanted wanted name = wanted.strips_all || (wanted.strips_debug && names_debug name)
+
+-- What isn't wanted is left out, and nothing else.
+pub record LeavesOut (wanted : Options) (o : OmittedSections) : Type 0 where
+  pub debug : wanted.strips_debug ≡ true → o.is_debug ≡ true
+  pub all : wanted.strips_all ≡ true → o.is_all ≡ true
+  pub no_others : (name : List ℕ) → omits_name o name ≡ true → is_unwanted wanted name ≡ true
+
+-- ---- modules
 
 -- These bytes are the module that is written for this one: with bodies that are written in this way, with no section that is
--- given, and without debug information where it is to be left out.
-pub record IsMadeFrom (writes : Writes) (parsed : ParsedModule) (strips_debug : Bool) (new : List ℕ) : Type 0 where
+-- given, and without the custom sections that aren't wanted.
+pub record IsMadeFrom (writes : Writes) (parsed : ParsedModule) (wanted : Options) (new : List ℕ) : Type 0 where
   pub changes : Changes
   pub none_given : changes.given.items ≡ []
-  pub omits : strips_debug ≡ true → changes.omits_debug ≡ true
-  pub is_written : IsWrittenModule writes parsed changes new
+  pub omitted : OmittedSections
+  pub leaves_out : LeavesOut wanted omitted
+  pub is_written : IsWrittenModule writes parsed changes omitted new
 
 -- The same for a module of these source bytes, as it was read.
-pub record IsMadeOf (writes : Writes) (source : List ℕ) (strips_debug : Bool) (new : List ℕ) : Type 0 where
+pub record IsMadeOf (writes : Writes) (source : List ℕ) (wanted : Options) (new : List ℕ) : Type 0 where
   pub parsed : ParsedModule
   pub bytes_are : parsed.bytes.now ≡ source
-  pub is_made : IsMadeFrom writes parsed strips_debug new
+  pub is_made : IsMadeFrom writes parsed wanted new
 
 -- ---- functions that are named by their indices
 
@@ -38,7 +64,7 @@ abbrev pub Adds : {S : Type 0} → (index : ℕ) → (old new : HashSet ℕ S) �
 Adds index old new = (other : ℕ) → contains (λ x y. x == y) new other ≡ cond (index == other) true (contains (λ x y. x == y) old other)
 
 -- The same, with the bodies of the functions with these indices taken away.
-pub record IsSnippedOf (indices source : List ℕ) (strips_debug : Bool) (new : List ℕ) : Type 0 where
+pub record IsSnippedOf (indices source : List ℕ) (wanted : Options) (new : List ℕ) : Type 0 where
   pub snipping : Snipping
   pub has_functions : HasFunctions indices snipping.0
-  pub is_made : IsMadeOf (IsChanged (keeps_locals (Snips snipping.0))) source strips_debug new
+  pub is_made : IsMadeOf (IsChanged (keeps_locals (Snips snipping.0))) source wanted new

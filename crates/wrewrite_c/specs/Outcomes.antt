@@ -6,15 +6,19 @@ use Rattle.wasm_sections.specs.declared.fault.ModuleFault.TheVariants.{Memory, T
 use Rattle.wasm_module.specs.declared.parsed.ParsedModule.{ParsedModule}
 use Rattle.wasm_sections.specs.CodeSections.{BodyAt}
 use Rattle.wasm_module.specs.Refusals.{IsRefused}
+use Rattle.wrewrite_c.specs.declared.options.Options.{Options}
 use Rattle.wrewrite_c.specs.declared.outcome.Outcome.{Outcome}
+use Rattle.wrewrite_c.specs.declared.outcome.Named.{Named}
+use Rattle.wrewrite_c.specs.declared.outcome.Named.TheVariants.{One, None as NoneNamed, Several}
 use Rattle.wrewrite_c.specs.declared.outcome.Refusal.{Refusal}
 use Rattle.wrewrite_c.specs.declared.outcome.Stop.{Stop}
 use Rattle.wrewrite_c.specs.declared.outcome.Stop.TheVariants.{Refused, NoFunction}
 use Rattle.wrewrite_c.specs.Made.{is_listed}
+use Rattle.wrewrite_c.specs.Options.{AreOptions}
 
--- the place, and the index of the function, where there is none
-abbrev pub nowhere : ℕ
-nowhere = 2 ^ 64 - 1
+-- the index of a function, where there is none
+abbrev pub no_index : ℕ
+no_index = 2 ^ 64 - 1
 
 -- how many bytes the module and its location map take
 abbrev pub HasSizes : (size map_size : ℕ) → Outcome → Type 0
@@ -46,7 +50,7 @@ IsPlaceOf error place = error.fault ≢ Memory → error.fault ≢ TooGreat → 
 pub record HasRefusal (r : Refusal) (o : Outcome) : Type 0 where
   pub status : IsStatusOf r.error.fault o.status
   pub place : IsPlaceOf r.error o.place
-  pub function : MatchOption r.function (o.function ≡ nowhere) (λ index. o.function ≡ index)
+  pub function : MatchOption r.function (o.function ≡ no_index) (λ index. o.function ≡ index)
 
 -- the outcome for what stopped a call: 2 where a function is named that has no body
 abbrev pub IsStopped : Stop → Outcome → Type 0
@@ -78,6 +82,24 @@ LacksFunction indices source (Refused r) = Unit {0}
 LacksFunction indices source (NoFunction index) =
     (is_listed indices index ≡ true) × ((parsed : ParsedModule) × (parsed.bytes.now ≡ source) × (HasBody parsed index → ⊥))
 
+-- ---- functions with names
+
+-- The function that is found has a body in this module.
+abbrev pub IsNamed : ParsedModule → Named → Type 0
+IsNamed parsed (One index) = HasBody parsed index
+IsNamed parsed NoneNamed = Unit {0}
+IsNamed parsed Several = Unit {0}
+
+-- the same of the module of these bytes, as it was read
+abbrev pub IsNamedIn : (source : List ℕ) → Named → Type 0
+IsNamedIn source named = (parsed : ParsedModule) × (parsed.bytes.now ≡ source) × IsNamed parsed named
+
+-- the outcome of a search: 2 where no function, or more than one, has the name
+abbrev pub IsOfNamed : Named → Outcome → Type 0
+IsOfNamed (One index) o = (o.status ≡ 0) × (o.function ≡ index)
+IsOfNamed NoneNamed o = (o.status ≡ 2) × (o.function ≡ no_index)
+IsOfNamed Several o = (o.status ≡ 2) × (o.function ≡ no_index)
+
 -- ---- calls
 
 -- A call makes a module, as is said of its bytes, and the lines of a map, if one is wanted; or stops, for a reason that may come.
@@ -105,3 +127,14 @@ IsOfCheck source first (NoFunction index) = ⊥
 pub data IsChecked (source : List ℕ) (first : ℕ) (o : Outcome) : Type 0 where
   accepted : o.status ≡ 0 → HasSizes 0 0 o → IsChecked source first o
   refused : (stop : Stop) → IsOfCheck source first stop → IsStopped stop o → HasSizes 0 0 o → IsChecked source first o
+
+-- A search by name finds a function with a body, or none, or several; or the module isn't read.
+pub data IsFound (source : List ℕ) (o : Outcome) : Type 0 where
+  found : (named : Named) → IsNamedIn source named → IsOfNamed named o → HasSizes 0 0 o → IsFound source o
+  not_read : (stop : Stop) → IsOfModule stop → IsStopped stop o → HasSizes 0 0 o → IsFound source o
+
+-- A call ends in a way that depends on its options; or they say nothing, the status is 5, and nothing is written.
+pub data Asks (words : List ℕ) (Ends : Options → Type 0) (out out' map map' : List ℕ) (o : Outcome) : Type 0 where
+  asked : (wanted : Options) → AreOptions words wanted → Ends wanted → Asks words Ends out out' map map' o
+  not_asked :
+      ((wanted : Options) → AreOptions words wanted → ⊥) → o.status ≡ 5 → HasSizes 0 0 o → out' ≡ out → map' ≡ map → Asks words Ends out out' map map' o

@@ -3,39 +3,42 @@
 //! its caller lends, puts what it makes into bytes that its caller lends, and keeps nothing.
 #![tactic(auto)]
 
+ghost use Rattle.std.specs.Prelude.{◌≡◌};
 ghost use Rattle.wasm_module.specs.RewrittenCode.{IsRewritten};
 ghost use Rattle.wrewrite_c.specs.Made.{IsMadeOf, IsSnippedOf};
-ghost use Rattle.wrewrite_c.specs.Outcomes.{Ends, IsOfModule, LacksFunction, IsChecked};
+ghost use Rattle.wrewrite_c.specs.Outcomes.{Asks, Ends, IsOfModule, LacksFunction, IsChecked, IsFound};
 
 mod checking;
+mod finding;
 mod made;
 mod making;
+mod options;
 mod outcome;
 mod reading;
+mod stripping;
+mod warnings;
 
-use made::{Made, Sought};
+use made::Made;
+use options::Options;
 pub use outcome::{Outcome, TEXT_SIZE};
 use std::alloc::Global;
 
-/// Rewrites a module, as the program `wrewrite` does. The module is put at the front of `out`, and its
-/// location map at the front of `map`, where both fit; `map` is left as it is where no map is wanted.
-/// The outcome has the sizes of both.
+/// The version of the library: its three numbers, with two digits for each of the last two.
+const VERSION: u32 = 200;
+
+/// The version of the library.
 #[unsafe(no_mangle)]
-pub extern "C" fn wrewrite_rewrite(
-    alloc: Global,
-    source: &[u8],
-    has_map: bool,
-    strips_debug: bool,
-    out: &mut [u8],
-    map: &mut [u8],
-) -> Outcome
-    ensures { Ends (IsMadeOf IsRewritten source.now strips_debug) has_map IsOfModule
+pub extern "C" fn wrewrite_version() -> u32
+    ensures { result ≡ 200 }
+{
+    VERSION
+}
+
+/// Rewrites a module as is wanted.
+fn rewrite(alloc: Global, source: &[u8], wanted: Options, out: &mut [u8], map: &mut [u8]) -> Outcome
+    ensures { Ends (IsMadeOf IsRewritten source.now wanted) wanted.has_map IsOfModule
         out.old out.new map.old map.new result }
 {
-    let wanted = Sought {
-        has_map,
-        strips_debug,
-    };
     let mut made = Made::new(alloc);
     match making::rewrite(alloc, source, wanted, &mut made) {
         Ok(()) => made.deliver(out, map),
@@ -43,25 +46,18 @@ pub extern "C" fn wrewrite_rewrite(
     }
 }
 
-/// The same, and leaves nothing but `unreachable` of the functions with these indices, as the program
-/// `wsnip` does. Imported functions have the first indices, and none of them has a body.
-#[unsafe(no_mangle)]
-pub extern "C" fn wrewrite_snip(
+/// Snips functions of a module, as is wanted.
+fn snip(
     alloc: Global,
     source: &[u8],
     functions: &[usize],
-    has_map: bool,
-    strips_debug: bool,
+    wanted: Options,
     out: &mut [u8],
     map: &mut [u8],
 ) -> Outcome
-    ensures { Ends (IsSnippedOf functions.now source.now strips_debug) has_map
+    ensures { Ends (IsSnippedOf functions.now source.now wanted) wanted.has_map
         (LacksFunction functions.now source.now) out.old out.new map.old map.new result }
 {
-    let wanted = Sought {
-        has_map,
-        strips_debug,
-    };
     let mut made = Made::new(alloc);
     match making::snip(alloc, source, functions, wanted, &mut made) {
         Ok(()) => made.deliver(out, map),
@@ -69,14 +65,68 @@ pub extern "C" fn wrewrite_snip(
     }
 }
 
+/// Rewrites a module, as the program `wrewrite` does. The module is put at the front of `out`, and its
+/// location map at the front of `map`, where both fit; `map` is left as it is where no map is wanted.
+/// The outcome has the sizes of both. The options are the words of a `struct wrewrite_options`.
+#[unsafe(no_mangle)]
+pub extern "C" fn wrewrite_raw_rewrite(
+    alloc: Global,
+    source: &[u8],
+    options: &[u32],
+    out: &mut [u8],
+    map: &mut [u8],
+) -> Outcome
+    ensures { Asks options.now (λ wanted. Ends (IsMadeOf IsRewritten source.now wanted)
+        wanted.has_map IsOfModule out.old out.new map.old map.new result)
+        out.old out.new map.old map.new result }
+{
+    match Options::read(options) {
+        Some(wanted) => rewrite(alloc, source, wanted, out, map),
+        None => Outcome::of_bad_options(),
+    }
+}
+
+/// The same, and leaves nothing but `unreachable` of the functions with these indices, as the program
+/// `wsnip` does. Imported functions have the first indices, and none of them has a body.
+#[unsafe(no_mangle)]
+pub extern "C" fn wrewrite_raw_snip(
+    alloc: Global,
+    source: &[u8],
+    functions: &[usize],
+    options: &[u32],
+    out: &mut [u8],
+    map: &mut [u8],
+) -> Outcome
+    ensures { Asks options.now (λ wanted. Ends (IsSnippedOf functions.now source.now wanted)
+        wanted.has_map (LacksFunction functions.now source.now)
+        out.old out.new map.old map.new result) out.old out.new map.old map.new result }
+{
+    match Options::read(options) {
+        Some(wanted) => snip(alloc, source, functions, wanted, out, map),
+        None => Outcome::of_bad_options(),
+    }
+}
+
 /// Looks for the first function that is refused, as `wrewrite --check` does, among those with this
 /// index and the following ones. Nothing is written.
 #[unsafe(no_mangle)]
-pub extern "C" fn wrewrite_check(alloc: Global, source: &[u8], first: usize) -> Outcome
+pub extern "C" fn wrewrite_raw_check(alloc: Global, source: &[u8], first: usize) -> Outcome
     ensures { IsChecked source.now first result }
 {
     match checking::check(alloc, source, first) {
         Ok(()) => Outcome::of_sizes(outcome::DONE, 0, 0),
+        Err(stop) => Outcome::of_stop(stop),
+    }
+}
+
+/// Looks for the function with a name, as `wsnip` does: one that the `name` section names so, else one
+/// that is exported so. Its index is put into the outcome if it has a body.
+#[unsafe(no_mangle)]
+pub extern "C" fn wrewrite_raw_find(alloc: Global, source: &[u8], name: &[u8]) -> Outcome
+    ensures { IsFound source.now result }
+{
+    match finding::find(alloc, source, name) {
+        Ok(named) => Outcome::of_named(named),
         Err(stop) => Outcome::of_stop(stop),
     }
 }

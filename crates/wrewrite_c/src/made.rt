@@ -6,20 +6,13 @@ ghost use Rattle.wrewrite_c.specs.Outcomes.{IsDelivered};
 use crate::outcome::{DONE, Outcome, TOO_SMALL};
 use std::alloc::Global;
 
-/// What is wanted.
-#[derive(Clone, Copy)]
-pub(crate) struct Sought {
-    /// Whether the location map is wanted.
-    pub has_map: bool,
-    /// Whether debug information is left out of the module.
-    pub strips_debug: bool,
-}
-
 /// A module that was written, and the lines of its location map.
 #[derive(Drop)]
 pub(crate) struct Made {
     pub bytes: Vec<u8>,
     pub lines: Vec<u8>,
+    /// What may no longer be true in it.
+    pub warnings: u32,
 }
 
 /// Puts bytes at the front of others.
@@ -39,6 +32,7 @@ impl Made {
         Made {
             bytes: Vec::new(alloc),
             lines: Vec::new(alloc),
+            warnings: 0,
         }
     }
 
@@ -54,6 +48,9 @@ impl Made {
         }
         put(&self.bytes, out);
         put(&self.lines, map);
-        Outcome::of_sizes(DONE, size, map_size)
+        Outcome {
+            warnings: self.warnings,
+            ..Outcome::of_sizes(DONE, size, map_size)
+        }
     }
 }

@@ -1,16 +1,20 @@
 //! Modules that are made of others: rewritten, or snipped.
 
-ghost use Rattle.std.specs.Prelude.{◌≡◌, ◌++◌, ℕ, List, [], true, false, OnOk, IfOk, IfErr};
+ghost use Rattle.std.specs.Prelude.{◌≡◌, ◌++◌, ℕ, List, [], false, OnOk, IfOk, IfErr};
 ghost use Rattle.std.specs.HashSet.{IsEmpty};
 ghost use Rattle.module_tools.specs.FunctionChanges.{Snips};
+ghost use Rattle.wasm_sections.specs.Omissions.{OmitsNothing};
 ghost use Rattle.wasm_module.specs.RewrittenCode.{IsRewritten, IsChanged, keeps_locals};
 ghost use Rattle.wasm_module.specs.WrittenModules.{new_contents_in, IsWrittenModule};
 ghost use Rattle.wrewrite_c.specs.Made.{IsMadeFrom, IsMadeOf, IsSnippedOf, HasFunctions, Adds};
 ghost use Rattle.wrewrite_c.specs.Outcomes.{IsOfModule, IsMissing, IsMissingIn, LacksFunction};
 
-use crate::made::{Made, Sought};
+use crate::made::Made;
+use crate::options::Options;
 use crate::outcome::{Refusal, Stop};
 use crate::reading::read;
+use crate::stripping::strip;
+use crate::warnings::warnings_of;
 use module_tools::function_at;
 use std::alloc::Global;
 use walrus_ir::{FunctionId, IdHashSet};
@@ -34,21 +38,12 @@ fn module_error(error: WriteError) -> ModuleError {
 fn stop_of(parsed: &ParsedModule<'_>, error: ModuleError) -> Stop
     ensures { IsOfModule result }
 {
-    Stop::Refused(Refusal {
-        error,
-        function: function_at(parsed, error.at),
-    })
-}
-
-/// Leaves out debug information, where that is wanted.
-fn strip<B>(rewritten: &mut RewrittenModule<'_, B>, strips_debug: bool)
-    ensures bodies { rewritten.new.bodies ≡ rewritten.old.bodies }
-    ensures given { new_contents_in rewritten.new ≡ new_contents_in rewritten.old }
-    ensures strips { strips_debug ≡ true → rewritten.new.changes.omits_debug ≡ true }
-{
-    if strips_debug {
-        rewritten.omit_debug();
-    }
+    let function = match error.fault {
+        // Its place is that of a section, which may begin where the last body ends.
+        ModuleFault::ObjectFile => None,
+        _ => function_at(parsed, error.at),
+    };
+    Stop::Refused(Refusal { error, function })
 }
 
 /// Writes a module, and its location map where that is wanted.
@@ -59,7 +54,8 @@ fn write_made<B: BodyWriter>(
     made: &mut Made,
 ) -> Result<(), WriteError>
     ensures written { OnOk result ((new : List ℕ)
-        × IsWrittenModule (B.writes rewritten.now.bodies) parsed.old rewritten.now.changes new
+        × IsWrittenModule (B.writes rewritten.now.bodies) parsed.old rewritten.now.changes
+        rewritten.now.omitted new
         × (made.new.bytes.items ≡ made.old.bytes.items ++ new)) }
     ensures no_map { has_map ≡ false → made.new.lines.items ≡ made.old.lines.items }
 {
@@ -73,16 +69,18 @@ fn write_made<B: BodyWriter>(
 fn finish<B: BodyWriter>(
     parsed: &mut ParsedModule<'_>,
     rewritten: &mut RewrittenModule<'_, B>,
-    wanted: Sought,
+    wanted: Options,
     made: &mut Made,
 ) -> Result<(), ModuleError>
     requires none_given { new_contents_in rewritten.old ≡ [] }
+    requires none_omitted { OmitsNothing rewritten.old.omitted }
     requires empty { made.old.bytes.items ≡ [] }
     ensures written { OnOk result (IsMadeFrom (B.writes rewritten.old.bodies) parsed.old
-        wanted.strips_debug made.new.bytes.items) }
+        wanted made.new.bytes.items) }
     ensures no_map { wanted.has_map ≡ false → made.new.lines.items ≡ made.old.lines.items }
 {
-    strip(rewritten, wanted.strips_debug);
+    strip(rewritten, wanted);
+    made.warnings = warnings_of(rewritten, wanted);
     match write_made(parsed, rewritten, wanted.has_map, made) {
         Ok(()) => Ok(()),
         Err(error) => Err(module_error(error)),
@@ -92,12 +90,12 @@ fn finish<B: BodyWriter>(
 /// Rewrites a module that was read.
 fn rewrite_parsed(
     parsed: &mut ParsedModule<'_>,
-    wanted: Sought,
+    wanted: Options,
     made: &mut Made,
 ) -> Result<(), ModuleError>
     requires { made.old.bytes.items ≡ [] }
     ensures written { OnOk result (IsMadeOf IsRewritten parsed.old.bytes.now
-        wanted.strips_debug made.new.bytes.items) }
+        wanted made.new.bytes.items) }
     ensures no_map { wanted.has_map ≡ false → made.new.lines.items ≡ made.old.lines.items }
 {
     match parsed.rewrite_all() {
@@ -110,12 +108,12 @@ fn rewrite_parsed(
 pub(crate) fn rewrite(
     alloc: Global,
     source: &[u8],
-    wanted: Sought,
+    wanted: Options,
     made: &mut Made,
 ) -> Result<(), Stop>
     requires { made.old.bytes.items ≡ [] }
     ensures written { OnOk result (IsMadeOf IsRewritten source.now
-        wanted.strips_debug made.new.bytes.items) }
+        wanted made.new.bytes.items) }
     ensures no_map { wanted.has_map ≡ false → made.new.lines.items ≡ made.old.lines.items }
     ensures stops { IfErr result IsOfModule }
 {
@@ -187,12 +185,12 @@ fn snip_functions(
     alloc: Global,
     parsed: &mut ParsedModule<'_>,
     functions: IdHashSet<FunctionId>,
-    wanted: Sought,
+    wanted: Options,
     made: &mut Made,
 ) -> Result<(), ModuleError>
     requires { made.old.bytes.items ≡ [] }
     ensures written { OnOk result (IsMadeOf (IsChanged (keeps_locals (Snips functions)))
-        parsed.old.bytes.now wanted.strips_debug made.new.bytes.items) }
+        parsed.old.bytes.now wanted made.new.bytes.items) }
     ensures no_map { wanted.has_map ≡ false → made.new.lines.items ≡ made.old.lines.items }
 {
     match module_tools::snip(alloc, parsed, functions) {
@@ -206,12 +204,12 @@ fn snip_parsed(
     alloc: Global,
     parsed: &mut ParsedModule<'_>,
     indices: &[usize],
-    wanted: Sought,
+    wanted: Options,
     made: &mut Made,
 ) -> Result<(), Stop>
     requires { made.old.bytes.items ≡ [] }
     ensures written { OnOk result (IsSnippedOf indices.now parsed.old.bytes.now
-        wanted.strips_debug made.new.bytes.items) }
+        wanted made.new.bytes.items) }
     ensures no_map { wanted.has_map ≡ false → made.new.lines.items ≡ made.old.lines.items }
     ensures stops { IfErr result (LacksFunction indices.now parsed.old.bytes.now) }
 {
@@ -230,12 +228,12 @@ pub(crate) fn snip(
     alloc: Global,
     source: &[u8],
     indices: &[usize],
-    wanted: Sought,
+    wanted: Options,
     made: &mut Made,
 ) -> Result<(), Stop>
     requires { made.old.bytes.items ≡ [] }
     ensures written { OnOk result (IsSnippedOf indices.now source.now
-        wanted.strips_debug made.new.bytes.items) }
+        wanted made.new.bytes.items) }
     ensures no_map { wanted.has_map ≡ false → made.new.lines.items ≡ made.old.lines.items }
     ensures stops { IfErr result (LacksFunction indices.now source.now) }
 {

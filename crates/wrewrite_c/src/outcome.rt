@@ -1,7 +1,7 @@
 //! How calls end.
 
 ghost use Rattle.std.specs.Prelude.{◌≡◌, MatchOption};
-ghost use Rattle.wrewrite_c.specs.Outcomes.{nowhere, HasSizes, IsStatusOf, IsPlaceOf, IsStopped, HasRefusal};
+ghost use Rattle.wrewrite_c.specs.Outcomes.{no_index, HasSizes, IsStatusOf, IsPlaceOf, IsOfNamed, IsStopped, HasRefusal};
 
 use std::fmt;
 use std::io::Write;
@@ -20,9 +20,22 @@ const NO_FUNCTION: u32 = 2;
 pub(crate) const TOO_SMALL: u32 = 3;
 /// Memory ran out.
 const NO_MEMORY: u32 = 4;
+/// The options aren't ones that this library understands.
+const BAD_OPTIONS: u32 = 5;
 
-/// Where no place or no function is known.
+const BAD_OPTIONS_TEXT: &str =
+    "the options have no size, or one is set that this library doesn't know (BadOptions)";
+
+const NO_INDEXED_TEXT: &str = "no function with a body has this index (NoFunction)";
+
+const NO_NAMED_TEXT: &str = "no function with a body has this name (NoFunction)";
+
+const SEVERAL_NAMED_TEXT: &str = "several functions have this name (SeveralFunctions)";
+
+/// The place, where none is known.
 const NOWHERE: usize = usize::MAX;
+/// The index of a function, where there is none.
+const NO_INDEX: usize = usize::MAX;
 
 /// How a call ended.
 #[repr(C)]
@@ -30,9 +43,11 @@ const NOWHERE: usize = usize::MAX;
 pub struct Outcome {
     /// One of the numbers above.
     pub status: u32,
+    /// What may no longer be true in the module that is made: the sum of numbers of `warnings`.
+    pub warnings: u32,
     /// The place of a fault, a byte offset from the start of the module.
     pub place: usize,
-    /// The index of the function that a fault is in.
+    /// The index of the function that a fault is in, or of the one that is found.
     pub function: usize,
     /// How many bytes the module takes that is made.
     pub module_size: usize,
@@ -47,6 +62,17 @@ pub struct Outcome {
 pub(crate) struct Refusal {
     pub error: ModuleError,
     pub function: Option<usize>,
+}
+
+/// The function that has a name.
+#[derive(Clone, Copy)]
+pub(crate) enum Named {
+    /// The one with this index, which has a body.
+    One(usize),
+    /// None with a body.
+    None,
+    /// More than one.
+    Several,
 }
 
 /// Why nothing is made of a module.
@@ -90,11 +116,11 @@ fn text_of<D: fmt::Display + Drop>(text: D) -> [u8; TEXT_SIZE] {
 
 /// The index of a function, if there is one.
 fn index_of(function: Option<usize>) -> usize
-    ensures { MatchOption function (result ≡ nowhere) (λ index. result ≡ index) }
+    ensures { MatchOption function (result ≡ no_index) (λ index. result ≡ index) }
 {
     match function {
         Some(index) => index,
-        None => NOWHERE,
+        None => NO_INDEX,
     }
 }
 
@@ -121,7 +147,7 @@ impl Refusal {
 
     /// The index of the function, if one is known.
     fn index(&self) -> usize
-        ensures { MatchOption self.now.function (result ≡ nowhere) (λ index. result ≡ index) }
+        ensures { MatchOption self.now.function (result ≡ no_index) (λ index. result ≡ index) }
     {
         index_of(self.function)
     }
@@ -140,11 +166,53 @@ impl Outcome {
     {
         Outcome {
             status,
+            warnings: 0,
             place: NOWHERE,
-            function: NOWHERE,
+            function: NO_INDEX,
             module_size,
             map_size,
             text: [0; TEXT_SIZE],
+        }
+    }
+
+    /// Of a call that made nothing, with this status and a text that says why.
+    fn of_text<D: fmt::Display + Drop>(status: u32, text: D) -> Outcome
+        ensures status { result.status ≡ status }
+        ensures function { result.function ≡ no_index }
+        ensures sizes { HasSizes 0 0 result }
+    {
+        let text = text_of(text);
+        Outcome {
+            status,
+            warnings: 0,
+            place: NOWHERE,
+            function: NO_INDEX,
+            module_size: 0,
+            map_size: 0,
+            text,
+        }
+    }
+
+    /// Of a call whose options aren't understood.
+    pub(crate) fn of_bad_options() -> Outcome
+        ensures status { result.status ≡ 5 }
+        ensures sizes { HasSizes 0 0 result }
+    {
+        Outcome::of_text(BAD_OPTIONS, BAD_OPTIONS_TEXT)
+    }
+
+    /// Of a search by name.
+    pub(crate) fn of_named(named: Named) -> Outcome
+        ensures named { IsOfNamed named result }
+        ensures sizes { HasSizes 0 0 result }
+    {
+        match named {
+            Named::One(index) => Outcome {
+                function: index,
+                ..Outcome::of_sizes(DONE, 0, 0)
+            },
+            Named::None => Outcome::of_text(NO_FUNCTION, NO_NAMED_TEXT),
+            Named::Several => Outcome::of_text(NO_FUNCTION, SEVERAL_NAMED_TEXT),
         }
     }
 
@@ -159,6 +227,7 @@ impl Outcome {
         let text = refusal.text();
         Outcome {
             status,
+            warnings: 0,
             place,
             function,
             module_size: 0,
@@ -173,14 +242,9 @@ impl Outcome {
         ensures function { result.function ≡ function }
         ensures sizes { HasSizes 0 0 result }
     {
-        let text = text_of("no function with a body has this index (NoFunction)");
         Outcome {
-            status: NO_FUNCTION,
-            place: NOWHERE,
             function,
-            module_size: 0,
-            map_size: 0,
-            text,
+            ..Outcome::of_text(NO_FUNCTION, NO_INDEXED_TEXT)
         }
     }
 

@@ -1,0 +1,45 @@
+//! Modules that are checked.
+
+use crate::{raw, Error, ErrorKind};
+use std::iter::FusedIterator;
+
+/// The faults of a module: one for each function that is refused, in order; or the one fault of a module that isn't read. Each step
+/// reads the module again.
+#[derive(Clone, Debug)]
+pub struct Faults<'a> {
+    source: &'a [u8],
+    /// The first function that wasn't looked at; none at the end.
+    first: Option<usize>,
+}
+
+/// The functions of a module that are refused. Types are not validated.
+///
+/// ```
+/// // two functions, of which the second branches too far
+/// let module = b"\0asm\x01\0\0\0\x01\x04\x01\x60\0\0\x03\x03\x02\0\0\x0a\x09\x02\x02\0\x0b\x04\0\x0c\x01\x0b";
+/// let faults: Vec<_> = wrewrite::check(module).map(|fault| fault.to_string()).collect();
+/// assert_eq!(faults, ["0x1b: function 1: a label is not open (NoSuchLabel)"]);
+/// ```
+pub fn check(source: &[u8]) -> Faults<'_> {
+    Faults { source, first: Some(0) }
+}
+
+impl Iterator for Faults<'_> {
+    type Item = Error;
+
+    fn next(&mut self) -> Option<Error> {
+        let first = self.first.take()?;
+        // SAFETY: the pointer comes with the length of its slice, isn't null, and is borrowed for the call.
+        let outcome = unsafe { raw::wrewrite_raw_check(self.source.as_ptr(), self.source.len(), first) };
+        if outcome.status == raw::DONE {
+            return None;
+        }
+        let error = outcome.into_error();
+        if error.kind == ErrorKind::Refused {
+            self.first = error.function.map(|function| function + 1);
+        }
+        Some(error)
+    }
+}
+
+impl FusedIterator for Faults<'_> {}
