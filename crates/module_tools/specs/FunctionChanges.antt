@@ -12,8 +12,8 @@ ChangesFirst change old new =
     (was : InstrSeq) → slice_get old.builder.sequences (first_slot old.builder) ≡ Some was → new ≡ record old { builder = with_first old.builder (change was) }
 
 -- each function adds 1 to the global before all else
-abbrev pub Counts : (global function : ℕ) → (old new : FunctionParts) → Type 0
-Counts global function old new = HasEntry old.builder → ChangesFirst (counted global) old new
+abbrev pub CountsCalls : (global function : ℕ) → (old new : FunctionParts) → Type 0
+CountsCalls global function old new = HasEntry old.builder → ChangesFirst (counted global) old new
 
 -- where its body is taken away a function only traps, and else it is as it was
 abbrev pub TrapsIf : (is_taken : Bool) → (old new : FunctionParts) → Type 0

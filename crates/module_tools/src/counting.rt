@@ -5,7 +5,7 @@ ghost use Rattle.wasm_module.specs.declared.parsed.ParsedModule.{ParsedModule as
 ghost use Rattle.wasm_module.specs.KeptCode.{AreKeptAs};
 ghost use Rattle.wasm_module.specs.RewrittenCode.{Extends, IsChanged, keeps_locals};
 ghost use Rattle.module_tools.specs.declared.counting.CountCalls.{CountCalls as Counter};
-ghost use Rattle.module_tools.specs.FunctionChanges.{Counts};
+ghost use Rattle.module_tools.specs.FunctionChanges.{CountsCalls};
 
 use crate::edits::count_call;
 use std::alloc::Global;
@@ -27,14 +27,14 @@ pub struct CountCalls(GlobalId);
 
 impl ChangeFunction for CountCalls {
     ghost use Rattle.module_tools.specs.declared.counting.CountCalls.{CountCalls};
-    ghost use Rattle.module_tools.specs.FunctionChanges.{Counts};
+    ghost use Rattle.module_tools.specs.FunctionChanges.{CountsCalls};
     ghost use Rattle.wasm_module.specs.RewrittenCode.{alike};
 
     ghost State = { CountCalls };
 
     ghost state = { λ self. self };
 
-    ghost changes = { alike (λ count. Counts count.0) };
+    ghost changes = { alike (λ count. CountsCalls count.0) };
 
     fn change(
         &mut self,
@@ -108,7 +108,7 @@ pub fn count_calls<'a>(
 ) -> Result<RewrittenModule<'a, KeptBodies<'a>>, ModuleError>
     ensures { IfOk result (λ made. (source : Parsed) × (counter : Counter)
         × Extends source parsed.new
-        × AreKeptAs (IsChanged (keeps_locals (Counts counter.0))) source made.bodies) }
+        × AreKeptAs (IsChanged (keeps_locals (CountsCalls counter.0))) source made.bodies) }
 {
     match call_counter(alloc, parsed) {
         Ok((mut counter, changes)) => parsed.change_all(&mut counter, changes),

@@ -8,7 +8,7 @@ use Rattle.std.proofs.lemmas.List.Splits.{slice_split_none, slice_split_at}
 use Rattle.source_map.specs.declared.mapping.Mapping.{Mapping}
 use Rattle.source_map.specs.declared.fields.Fields.{Fields}
 use Rattle.source_map.specs.declared.fault.MappingsFault.{MappingsFault}
-use Rattle.source_map.specs.Spelling.{after}
+use Rattle.source_map.specs.Spelling.{fields_after}
 use Rattle.source_map.specs.Reading.{◌>>=◌, segment_at, segments_at}
 use Rattle.source_map.specs.Shortest.{short_segment, short_segments}
 use Rattle.source_map.proofs.Steps.{test_false}
@@ -47,10 +47,10 @@ regroup front m (Ok ms) = ap (λ (x : List Mapping). Ok x) (simp append_assoc)
 regroup front m (Err f) = refl
 
 pub continues : (front : List Mapping) (s : Fields) (t : List ℕ) (ts : List (List ℕ)) (m : Mapping) (total : Result (List Mapping) MappingsFault) → segment_at s t ≡ Ok m
-    → with_front front (segments_at s (t ∷ ts)) ≡ total → with_front (front ++ m ∷ []) (segments_at (after s m) ts) ≡ total
+    → with_front front (segments_at s (t ∷ ts)) ≡ total → with_front (front ++ m ∷ []) (segments_at (fields_after s m) ts) ≡ total
 unfolding segments_at
 continues front s t ts m total h so_far =
-    let one : with_front front (segments_at s (t ∷ ts)) ≡ with_front (front ++ m ∷ []) (segments_at (after s m) ts) = rw h (regroup front m (segments_at (after s m) ts)) in
+    let one : with_front front (segments_at s (t ∷ ts)) ≡ with_front (front ++ m ∷ []) (segments_at (fields_after s m) ts) = rw h (regroup front m (segments_at (fields_after s m) ts)) in
     sym one ∙ so_far
 
 pub ends : (front : List Mapping) (s : Fields) (t : List ℕ) (ts : List (List ℕ)) (f : MappingsFault) (total : Result (List Mapping) MappingsFault) → segment_at s t ≡ Err f
@@ -75,8 +75,8 @@ joined_is : (t : List ℕ) (ts : List (List ℕ)) → join_with_byte 44 (t ∷ t
 joined_is t [] = sym (append-nil t)
 joined_is t (u ∷ us) = ap (λ (x : List ℕ). t ++ 44 ∷ x) (joined_is u us)
 
-pub first_written : (s : Fields) (m : Mapping) (ms : List Mapping) → short_segment s m ++ after_commas (short_segments (after s m) ms) ≡ join_with_byte 44 (short_segments s (m ∷ ms))
-first_written s m ms = sym (joined_is (short_segment s m) (short_segments (after s m) ms))
+pub first_written : (s : Fields) (m : Mapping) (ms : List Mapping) → short_segment s m ++ after_commas (short_segments (fields_after s m) ms) ≡ join_with_byte 44 (short_segments s (m ∷ ms))
+first_written s m ms = sym (joined_is (short_segment s m) (short_segments (fields_after s m) ms))
 
-pub one_written : (out : List ℕ) (s : Fields) (m : Mapping) (ms : List Mapping) → ((out ++ 44 ∷ []) ++ short_segment s m) ++ after_commas (short_segments (after s m) ms) ≡ out ++ after_commas (short_segments s (m ∷ ms))
+pub one_written : (out : List ℕ) (s : Fields) (m : Mapping) (ms : List Mapping) → ((out ++ 44 ∷ []) ++ short_segment s m) ++ after_commas (short_segments (fields_after s m) ms) ≡ out ++ after_commas (short_segments s (m ∷ ms))
 one_written out s m ms = simp append_assoc

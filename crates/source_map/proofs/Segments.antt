@@ -6,7 +6,7 @@ use Rattle.source_map.specs.declared.mapping.Original.{Original}
 use Rattle.source_map.specs.declared.mapping.Mapping.{Mapping}
 use Rattle.source_map.specs.declared.fields.Fields.{Fields}
 use Rattle.source_map.specs.Vlq.{IsField}
-use Rattle.source_map.specs.Spelling.{after, IsName, IsOriginal, IsOriginalOrNone, IsSegment, AreSegments}
+use Rattle.source_map.specs.Spelling.{fields_after, IsName, IsOriginal, IsOriginalOrNone, IsSegment, AreSegments}
 use Rattle.source_map.specs.Reading.{◌>>=◌, field_at, column_at, last_field, name_at, original_at, original_or_none_at, segment_at, segments_at}
 use Rattle.source_map.proofs.Steps.{bind_ok, ok_is}
 use Rattle.source_map.proofs.FieldLaws.{field_taken, field_again, field_lacks, column_taken, column_again}
@@ -145,13 +145,13 @@ pub segments_taken : (s : Fields) (ts : List (List ℕ)) (ms : List Mapping) →
 unfolding segments_at
 segments_taken s [] ms e = subst (λ (x : List Mapping). AreSegments s x []) (ok_is [] ms e) tt
 segments_taken s (t ∷ ts) ms e =
-    let a = bind_ok (segment_at s t) (λ m. segments_at (after s m) ts >>= λ ms. Ok (m ∷ ms)) ms e in
-    let b = bind_ok (segments_at (after s a.0) ts) (λ ms. Ok (a.0 ∷ ms)) ms a.2 in
-    subst (λ (x : List Mapping). AreSegments s x (t ∷ ts)) (ok_is (a.0 ∷ b.0) ms b.2) (segment_taken s t a.0 a.1, segments_taken (after s a.0) ts b.0 b.1)
+    let a = bind_ok (segment_at s t) (λ m. segments_at (fields_after s m) ts >>= λ ms. Ok (m ∷ ms)) ms e in
+    let b = bind_ok (segments_at (fields_after s a.0) ts) (λ ms. Ok (a.0 ∷ ms)) ms a.2 in
+    subst (λ (x : List Mapping). AreSegments s x (t ∷ ts)) (ok_is (a.0 ∷ b.0) ms b.2) (segment_taken s t a.0 a.1, segments_taken (fields_after s a.0) ts b.0 b.1)
 
 pub segments_again : (s : Fields) (ms : List Mapping) (ts : List (List ℕ)) → AreSegments s ms ts → segments_at s ts ≡ Ok ms
 unfolding segments_at
 segments_again s [] [] h = refl
 segments_again s [] (t ∷ ts) h = absurd h
 segments_again s (m ∷ ms) [] h = absurd h
-segments_again s (m ∷ ms) (t ∷ ts) h = rw (segment_again s m t h.0, segments_again (after s m) ms ts h.1) refl
+segments_again s (m ∷ ms) (t ∷ ts) h = rw (segment_again s m t h.0, segments_again (fields_after s m) ms ts h.1) refl

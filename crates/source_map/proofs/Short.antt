@@ -9,16 +9,16 @@ use Rattle.std.proofs.lemmas.Nat.{pow-add}
 use Rattle.source_map.specs.declared.mapping.Original.{Original}
 use Rattle.source_map.specs.declared.mapping.Mapping.{Mapping}
 use Rattle.source_map.specs.declared.fields.Fields.{Fields}
-use Rattle.source_map.specs.Vlq.{digit_value, IsNumber, moved_by, IsField}
-use Rattle.source_map.specs.Spelling.{start, after_original, after, IsName, IsOriginalOrNone, IsSegment, AreSegments, Spells, AscendFrom, FitsOriginal, Fits}
-use Rattle.source_map.specs.Shortest.{digit, short_number, difference, short_field, short_name, short_original, short_segment, short_segments, spelling}
+use Rattle.source_map.specs.Vlq.{digit_value, IsVlqNumber, moved_by, IsField}
+use Rattle.source_map.specs.Spelling.{no_fields, after_original, fields_after, IsName, IsOriginalOrNone, IsSegment, AreSegments, SpellsMappings, AscendFrom, FitsOriginal, FitsMapping}
+use Rattle.source_map.specs.Shortest.{digit, short_number, field_difference, short_field, short_name, short_original, short_segment, short_segments, spelling}
 use Rattle.source_map.proofs.Steps.{test_false}
 use Rattle.source_map.proofs.Digits.{longer}
 
 digit_is : (n : ℕ) → n < 64 → digit_value (digit n) ≡ Some n
 digit_is n h = grind (arith, nat_tests)
 
-short_is : (more n : ℕ) → n < 2 ^ (5 * suc more) → IsNumber (suc more) n (short_number more n)
+short_is : (more n : ℕ) → n < 2 ^ (5 * suc more) → IsVlqNumber (suc more) n (short_number more n)
 unfolding short_number
 short_is zero n h =
     let below : n < 32 = h in
@@ -32,10 +32,10 @@ short_is (suc more) n h =
           let power : 2 ^ (5 * suc (suc more)) ≡ 32 * 2 ^ (5 * suc more) = ap (λ (x : ℕ). 2 ^ x) k ∙ pow-add 2 5 (5 * suc more) in
           let high : n / 32 < 2 ^ (5 * suc more) = omega arith in
           let one : suc more ≡ suc (suc more) - 1 = omega arith in
-          let rest = subst (λ (x : ℕ). IsNumber x (n / 32) (short_number more (n / 32))) one (short_is more (n / 32) high) in
+          let rest = subst (λ (x : ℕ). IsVlqNumber x (n / 32) (short_number more (n / 32))) one (short_is more (n / 32) high) in
           let whole : n % 32 + 32 * (n / 32) ≡ n = omega arith in
           let spelt = longer (suc (suc more)) (digit (n % 32 + 32)) (n % 32) (n / 32) (short_number more (n / 32)) (omega arith) (omega arith) (digit_is (n % 32 + 32) (omega arith)) rest in
-          rw (le-ltb n 32 le) (subst (λ (x : ℕ). IsNumber (suc (suc more)) x (digit (n % 32 + 32) ∷ short_number more (n / 32))) whole spelt)
+          rw (le-ltb n 32 le) (subst (λ (x : ℕ). IsVlqNumber (suc (suc more)) x (digit (n % 32 + 32) ∷ short_number more (n / 32))) whole spelt)
     ]
 
 -- ---- fields
@@ -53,7 +53,7 @@ moved_up k before high =
     let half : (2 * k) / 2 ≡ k = omega arith in
     rw (is_even, half, lt-ltb (before + k) (2 ^ 32) high) refl
 
-moves : (before v : ℕ) → before < 2 ^ 32 → v < 2 ^ 32 → (moved_by (difference before v) before ≡ Some v) × (difference before v < 2 ^ 35)
+moves : (before v : ℕ) → before < 2 ^ 32 → v < 2 ^ 32 → (moved_by (field_difference before v) before ≡ Some v) × (field_difference before v < 2 ^ 35)
 moves before v p q =
     elim (cases_lt v before) [
       | inl lt ↦
@@ -65,7 +65,7 @@ moves before v p q =
     ]
 
 field_is : (before v : ℕ) → before < 2 ^ 32 → v < 2 ^ 32 → IsField before v (short_field before v)
-field_is before v p q = let m = moves before v p q in (difference before v, m.0, short_is 6 (difference before v) m.1)
+field_is before v p q = let m = moves before v p q in (field_difference before v, m.0, short_is 6 (field_difference before v) m.1)
 
 name_is : (before : ℕ) (o : Option ℕ) → before < 2 ^ 32 → IfSome o (λ n. n < 2 ^ 32) → IsName before o (short_name before o)
 name_is before None p q = refl {a = []}
@@ -94,7 +94,7 @@ original_is s (Some o) p q = record {
   is_name = name_is s.name o.name p.name q.name;
 }
 
-segment_is : (s : Fields) (m : Mapping) → FitsFields s → Fits m → s.generated ≤ m.generated → IsSegment s m (short_segment s m)
+segment_is : (s : Fields) (m : Mapping) → FitsFields s → FitsMapping m → s.generated ≤ m.generated → IsSegment s m (short_segment s m)
 segment_is s m p q up = record {
   generated = short_field s.generated m.generated;
   original = short_original s m.original;
@@ -116,12 +116,12 @@ after_generated : (s : Fields) (g : ℕ) (o : Option Original) → g ≡ (after_
 after_generated s g None = refl
 after_generated s g (Some o) = refl
 
-are_short : (s : Fields) (ms : List Mapping) → FitsFields s → AllByRecursion Fits ms → AscendFrom s.generated ms → AreSegments s ms (short_segments s ms)
+are_short : (s : Fields) (ms : List Mapping) → FitsFields s → AllByRecursion FitsMapping ms → AscendFrom s.generated ms → AreSegments s ms (short_segments s ms)
 are_short s [] p q up = tt
 are_short s (m ∷ ms) p q up =
-    (segment_is s m p q.0 up.0, are_short (after s m) ms (after_fits s m.generated m.original p q.0.0 q.0.1) q.1 (subst (λ (x : ℕ). AscendFrom x ms) (after_generated s m.generated m.original) up.1))
+    (segment_is s m p q.0 up.0, are_short (fields_after s m) ms (after_fits s m.generated m.original p q.0.0 q.0.1) q.1 (subst (λ (x : ℕ). AscendFrom x ms) (after_generated s m.generated m.original) up.1))
 
-pub is_spelt : (ms : List Mapping) → AllByRecursion Fits ms → AscendFrom 0 ms → Spells ms (spelling ms)
+pub is_spelt : (ms : List Mapping) → AllByRecursion FitsMapping ms → AscendFrom 0 ms → SpellsMappings ms (spelling ms)
 is_spelt ms fits up =
-    let zeros : FitsFields start = record { generated = omega arith; source = omega arith; line = omega arith; column = omega arith; name = omega arith } in
-    (short_segments start ms, refl, are_short start ms zeros fits up)
+    let zeros : FitsFields no_fields = record { generated = omega arith; source = omega arith; line = omega arith; column = omega arith; name = omega arith } in
+    (short_segments no_fields ms, refl, are_short no_fields ms zeros fits up)

@@ -9,7 +9,7 @@ use Rattle.source_map.specs.declared.fault.MappingsFault.TheVariants.{BadDigit, 
 use Rattle.source_map.specs.declared.fault.MappingsError.{MappingsError}
 use Rattle.source_map.specs.declared.fault.MappingsError.TheVariants as errors
 use Rattle.source_map.specs.Vlq.{digit_value, max_digits, within, moved_by}
-use Rattle.source_map.specs.Spelling.{start, after}
+use Rattle.source_map.specs.Spelling.{no_fields, fields_after}
 
 infixl 10 ◌>>=◌
 abbrev pub ◌>>=◌ : {A B : Type 0} → Result A MappingsFault → (A → Result B MappingsFault) → Result B MappingsFault
@@ -30,9 +30,9 @@ abbrev pub Fails : {Y : Type 0} → MappingsError → Result Y MappingsFault →
 Fails errors.Memory read = Unit {0}
 Fails (errors.Fault f) read = read ≡ Err f
 
-abbrev pub GivesOrMemory : {X Y : Type 0} → (X → Y) → Result X MappingsError → Result Y MappingsFault → Type 0
-GivesOrMemory view (Ok x) read = read ≡ Ok (view x)
-GivesOrMemory view (Err e) read = Fails e read
+abbrev pub ReadsOrMemory : {X Y : Type 0} → (X → Y) → Result X MappingsError → Result Y MappingsFault → Type 0
+ReadsOrMemory view (Ok x) read = read ≡ Ok (view x)
+ReadsOrMemory view (Err e) read = Fails e read
 
 -- ---- numbers and fields
 
@@ -92,12 +92,12 @@ segment_at s text = do
 
 unfoldable pub segments_at : Fields → List (List ℕ) → Result (List Mapping) MappingsFault
 segments_at s [] = Ok []
-segments_at s (t ∷ ts) = segment_at s t >>= λ m. segments_at (after s m) ts >>= λ ms. Ok (m ∷ ms)
+segments_at s (t ∷ ts) = segment_at s t >>= λ m. segments_at (fields_after s m) ts >>= λ ms. Ok (m ∷ ms)
 
 -- the parts of a text between commas
-abbrev pub parts_of : Option (List ℕ) → List (List ℕ)
-parts_of None = []
-parts_of (Some text) = slice_split (λ b. b == 44) text
+abbrev pub comma_parts : Option (List ℕ) → List (List ℕ)
+comma_parts None = []
+comma_parts (Some text) = slice_split (λ b. b == 44) text
 
 -- an empty text has none
 abbrev pub some_text : List ℕ → Option (List ℕ)
@@ -105,4 +105,4 @@ some_text [] = None
 some_text (c ∷ cs) = Some (c ∷ cs)
 
 unfoldable pub mappings_at : List ℕ → Result (List Mapping) MappingsFault
-mappings_at text = segments_at start (parts_of (some_text text))
+mappings_at text = segments_at no_fields (comma_parts (some_text text))

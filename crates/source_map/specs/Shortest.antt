@@ -4,7 +4,7 @@ use Rattle.std.specs.List.{join_with_byte}
 use Rattle.source_map.specs.declared.mapping.Original.{Original}
 use Rattle.source_map.specs.declared.mapping.Mapping.{Mapping}
 use Rattle.source_map.specs.declared.fields.Fields.{Fields}
-use Rattle.source_map.specs.Spelling.{start, after}
+use Rattle.source_map.specs.Spelling.{no_fields, fields_after}
 
 -- the digit of base64 with this value
 abbrev pub digit : ℕ → ℕ
@@ -16,11 +16,11 @@ short_number zero n = digit (n % 32) ∷ []
 short_number (suc more) n = if nat_lt n 32 then digit n ∷ [] else digit (n % 32 + 32) ∷ short_number more (n / 32)
 
 -- the number that moves one field to another; never 1, which also moves a field, down by 2^31
-abbrev pub difference : (before field : ℕ) → ℕ
-difference before field = if nat_lt field before then 2 * (before - field) + 1 else 2 * (field - before)
+abbrev pub field_difference : (before field : ℕ) → ℕ
+field_difference before field = if nat_lt field before then 2 * (before - field) + 1 else 2 * (field - before)
 
 abbrev pub short_field : (before field : ℕ) → List ℕ
-short_field before field = short_number 6 (difference before field)
+short_field before field = short_number 6 (field_difference before field)
 
 abbrev pub short_name : (before : ℕ) → Option ℕ → List ℕ
 short_name before None = []
@@ -35,7 +35,7 @@ short_segment s m = short_field s.generated m.generated ++ short_original s m.or
 
 abbrev pub short_segments : Fields → List Mapping → List (List ℕ)
 short_segments s [] = []
-short_segments s (m ∷ ms) = short_segment s m ∷ short_segments (after s m) ms
+short_segments s (m ∷ ms) = short_segment s m ∷ short_segments (fields_after s m) ms
 
 abbrev pub spelling : List Mapping → List ℕ
-spelling ms = join_with_byte 44 (short_segments start ms)
+spelling ms = join_with_byte 44 (short_segments no_fields ms)

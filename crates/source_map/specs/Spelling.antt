@@ -9,16 +9,16 @@ use Rattle.source_map.specs.declared.fields.Fields.{Fields}
 use Rattle.source_map.specs.Vlq.{IsField}
 
 -- the fields before the first mapping
-abbrev pub start : Fields
-start = record { generated = 0; source = 0; line = 0; column = 0; name = 0 }
+abbrev pub no_fields : Fields
+no_fields = record { generated = 0; source = 0; line = 0; column = 0; name = 0 }
 
 -- the fields after a mapping: those that it doesn't have are unchanged
 abbrev pub after_original : Fields → (generated : ℕ) → Option Original → Fields
 after_original s g None = record s { generated = g }
 after_original s g (Some o) = record { generated = g; source = o.source; line = o.line; column = o.column; name = unwrap_or o.name s.name }
 
-abbrev pub after : Fields → Mapping → Fields
-after s m = after_original s m.generated m.original
+abbrev pub fields_after : Fields → Mapping → Fields
+fields_after s m = after_original s m.generated m.original
 
 -- ---- one segment
 
@@ -54,12 +54,12 @@ pub record IsSegment (s : Fields) (m : Mapping) (text : List ℕ) : Type 0 where
 
 abbrev pub AreSegments : Fields → List Mapping → (segments : List (List ℕ)) → Type 0
 AreSegments s [] [] = Unit {0}
-AreSegments s (m ∷ ms) (t ∷ ts) = IsSegment s m t × AreSegments (after s m) ms ts
+AreSegments s (m ∷ ms) (t ∷ ts) = IsSegment s m t × AreSegments (fields_after s m) ms ts
 AreSegments s _ _ = ⊥
 
 -- the text encodes these mappings
-abbrev pub Spells : List Mapping → (text : List ℕ) → Type 0
-Spells ms text = (segments : List (List ℕ)) × (text ≡ join_with_byte 44 segments) × AreSegments start ms segments
+abbrev pub SpellsMappings : List Mapping → (text : List ℕ) → Type 0
+SpellsMappings ms text = (segments : List (List ℕ)) × (text ≡ join_with_byte 44 segments) × AreSegments no_fields ms segments
 
 -- the columns of mappings don't descend, and none is less than this one
 abbrev pub AscendFrom : ℕ → List Mapping → Type 0
@@ -73,5 +73,5 @@ pub record FitsOriginal (o : Original) : Type 0 where
   pub column : o.column < 2 ^ 32
   pub name : IfSome o.name (λ n. n < 2 ^ 32)
 
-abbrev pub Fits : Mapping → Type 0
-Fits m = (m.generated < 2 ^ 32) × IfSome m.original FitsOriginal
+abbrev pub FitsMapping : Mapping → Type 0
+FitsMapping m = (m.generated < 2 ^ 32) × IfSome m.original FitsOriginal

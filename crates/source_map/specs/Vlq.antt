@@ -14,11 +14,11 @@ digit_value c =
 
 -- The text encodes a number with at most `most` digits. Bit 5 of a digit says that another follows; the five bits below it are
 -- those of the number.
-abbrev pub IsNumber : (most n : ℕ) → List ℕ → Type 0
-IsNumber most n [] = ⊥
-IsNumber most n (c ∷ []) = (n < 32) × (digit_value c ≡ Some n)
-IsNumber most n (c ∷ d ∷ cs) =
-    (1 < most) × (low high : ℕ) × (low < 32) × (digit_value c ≡ Some (low + 32)) × (n ≡ low + 32 * high) × IsNumber (most - 1) high (d ∷ cs)
+abbrev pub IsVlqNumber : (most n : ℕ) → List ℕ → Type 0
+IsVlqNumber most n [] = ⊥
+IsVlqNumber most n (c ∷ []) = (n < 32) × (digit_value c ≡ Some n)
+IsVlqNumber most n (c ∷ d ∷ cs) =
+    (1 < most) × (low high : ℕ) × (low < 32) × (digit_value c ≡ Some (low + 32)) × (n ≡ low + 32 * high) × IsVlqNumber (most - 1) high (d ∷ cs)
 
 -- how many digits a number has at most: seven are enough for the distance between any two fields of 32 bits, and its sign
 abbrev pub max_digits : ℕ
@@ -41,4 +41,4 @@ moved_by n before =
 
 -- the text encodes how the field after another differs from it
 abbrev pub IsField : (before field : ℕ) → List ℕ → Type 0
-IsField before field text = (n : ℕ) × (moved_by n before ≡ Some field) × IsNumber max_digits n text
+IsField before field text = (n : ℕ) × (moved_by n before ≡ Some field) × IsVlqNumber max_digits n text

@@ -1,7 +1,7 @@
 //! The fields that the next mapping is relative to.
 
 ghost use Rattle.std.specs.Prelude.{◌≡◌};
-ghost use Rattle.source_map.specs.Spelling.{start, after as fields_after};
+ghost use Rattle.source_map.specs.Spelling.{no_fields, fields_after as fields_after};
 
 use crate::mapping::Mapping;
 
@@ -23,7 +23,7 @@ pub(crate) struct Fields {
 impl Fields {
     /// The fields before the first mapping.
     pub fn start() -> Fields
-        ensures { result ≡ start }
+        ensures { result ≡ no_fields }
     {
         Fields {
             generated: 0,

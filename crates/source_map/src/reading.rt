@@ -2,8 +2,8 @@
 
 ghost use Rattle.std.specs.Prelude.{◌≡◌, ◌==◌, ◌∷◌, ◌<◌, List, length, IfOk, IfSome, Ok, option_map};
 ghost use Rattle.std.specs.List.{slice_split};
-ghost use Rattle.source_map.specs.Spelling.{Spells};
-ghost use Rattle.source_map.specs.Reading.{Gives, GivesOrMemory, name_at, original_at, original_or_none_at, segment_at, parts_of, mappings_at};
+ghost use Rattle.source_map.specs.Spelling.{SpellsMappings};
+ghost use Rattle.source_map.specs.Reading.{Gives, ReadsOrMemory, name_at, original_at, original_or_none_at, segment_at, comma_parts, mappings_at};
 ghost use Rattle.source_map.specs.declared.mapping.Mapping.{Mapping as AMapping};
 
 use crate::fault::{MappingsError, MappingsFault};
@@ -76,7 +76,7 @@ fn read_segment(fields: Fields, text: &[u8]) -> Result<Mapping, MappingsFault>
 /// The text up to the first comma, and the text after the comma.
 fn first_segment(text: &[u8]) -> (&[u8], Option<&[u8]>)
     ensures parts { slice_split (λ b. b == 44) text.now
-        ≡ result.0.now ∷ parts_of (option_map (λ x. x.now) result.1) }
+        ≡ result.0.now ∷ comma_parts (option_map (λ x. x.now) result.1) }
     ensures shorter { IfSome result.1 (λ following. length following.now < length text.now) }
 {
     for (at, byte) in text.iter().enumerate() {
@@ -90,7 +90,7 @@ fn first_segment(text: &[u8]) -> (&[u8], Option<&[u8]>)
 /// The mappings of all segments.
 #[tactic(auto, unfolding(crate::specs::Reading::mappings_at))]
 fn read_all(alloc: Global, text: &[u8]) -> Result<Vec<Mapping>, MappingsError>
-    ensures { GivesOrMemory (λ v. v.items) result (mappings_at text.now) }
+    ensures { ReadsOrMemory (λ v. v.items) result (mappings_at text.now) }
 {
     let mut mappings = Vec::new(alloc);
     let mut fields = Fields::start();
@@ -111,10 +111,10 @@ fn read_all(alloc: Global, text: &[u8]) -> Result<Vec<Mapping>, MappingsError>
 ///
 /// The first fault, from left to right; or `Memory`.
 pub fn decode(alloc: Global, text: &[u8]) -> Result<Vec<Mapping>, MappingsError>
-    ensures read { IfOk result (λ v. Spells v.items text.now) }
-    ensures each { (ms : List AMapping) → Spells ms text.now
-        → GivesOrMemory (λ v. v.items) result (Ok ms) }
-    ensures exact { GivesOrMemory (λ v. v.items) result (mappings_at text.now) }
+    ensures read { IfOk result (λ v. SpellsMappings v.items text.now) }
+    ensures each { (ms : List AMapping) → SpellsMappings ms text.now
+        → ReadsOrMemory (λ v. v.items) result (Ok ms) }
+    ensures exact { ReadsOrMemory (λ v. v.items) result (mappings_at text.now) }
 {
     read_all(alloc, text)
 }

@@ -3,7 +3,7 @@
 ghost use Rattle.std.specs.Prelude.{◌≡◌, List, ℕ, Some, IfOk};
 ghost use Rattle.serde_json.specs.View.{view};
 ghost use Rattle.serde_json.specs.Read.{read as read_text};
-ghost use Rattle.source_map.specs.Spelling.{Spells};
+ghost use Rattle.source_map.specs.Spelling.{SpellsMappings};
 ghost use Rattle.source_map_json.specs.SourceMaps.{IsSourceMap, data_of, mappings_of};
 
 use crate::fault::{SourceMapError, SourceMapFault};
@@ -22,7 +22,7 @@ pub struct SourceMap {
 /// The mappings of a source map.
 fn read_mappings(alloc: Global, value: &Value) -> Result<Vec<Mapping>, SourceMapError>
     ensures { IfOk result (λ v. (text : List ℕ) × IsSourceMap (view value.now) text
-        × Spells v.items text) }
+        × SpellsMappings v.items text) }
 {
     if !value.is_object() {
         return Err(SourceMapError::Fault(SourceMapFault::NotASourceMap));
@@ -48,7 +48,7 @@ impl SourceMap {
     /// What is wrong with it; or `Memory`.
     pub fn read(alloc: Global, bytes: &[u8]) -> Result<SourceMap, SourceMapError>
         ensures { IfOk result (λ map. (text : List ℕ) × (read_text bytes.now ≡ Some (data_of map))
-            × IsSourceMap (data_of map) text × Spells (mappings_of map) text) }
+            × IsSourceMap (data_of map) text × SpellsMappings (mappings_of map) text) }
     {
         let value = match Value::from_slice(alloc, bytes) {
             Ok(value) => value,

@@ -19,7 +19,7 @@ use Rattle.std.specs.FinMap.{empty, get, from_entries, get-empty}
 use Rattle.wasm_operators.specs.declared.types.Space.{Space}
 use Rattle.walrus_maps.specs.declared.ids_to_indices.IdsToIndices.{IdsToIndices}
 use Rattle.walrus_maps.specs.IndexMaps.{numbers_in}
-use Rattle.walrus_numbering.specs.NumberMaps.{fitting, numbers_by}
+use Rattle.walrus_numbering.specs.NumberMaps.{fitting_number, numbers_by}
 use Rattle.wasm_body.specs.Naming.{Environment, Occurrence}
 use Rattle.wasm_body.specs.FunctionTree.{FunctionTree}
 use Rattle.wasm_body.specs.TreeOfFunction.{HasTree}
@@ -168,8 +168,8 @@ module _ (m : Module) (from again : IndicesToIds) (id type : ℕ) (to : Numbers)
 pub none_undone : (types : List ModuleType) (out : IdsToIndices) (locals : List (ℕ × ℕ)) (again : Environment) → ((space : Space) → numbers_in out space ≡ empty) → locals ≡ [] → IsInverse (numbers_by types out locals) again
 none_undone types out locals again none no_locals = record {
   indices = λ space id n h. absurd (not_both ((numbers_by types out locals).number_of space id) n (Index (Unnumbered space)) h
-      (ap (λ m. with_fault Index (some_or (get m id) (Unnumbered space) >>= fitting (Unnumbered space))) (none space)
-      ∙ ap (λ o. with_fault Index (some_or o (Unnumbered space) >>= fitting (Unnumbered space))) (get-empty nat_cmp id)));
+      (ap (λ m. with_fault Index (some_or (get m id) (Unnumbered space) >>= fitting_number (Unnumbered space))) (none space)
+      ∙ ap (λ o. with_fault Index (some_or o (Unnumbered space) >>= fitting_number (Unnumbered space))) (get-empty nat_cmp id)));
   locals = λ id n h. absurd (not_both ((numbers_by types out locals).local_number id) n UnnumberedLocal h
       (ap (λ l. some_or (get (from_entries {R = nat_cmp} l) id) UnnumberedLocal) no_locals ∙ ap (λ o. some_or o UnnumberedLocal) (get-empty nat_cmp id)));
 }

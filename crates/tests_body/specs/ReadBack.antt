@@ -58,7 +58,7 @@ IsRefusedAs env to ops (Walk w) = ⊥
 IsRefusedAs env to ops (Emit e) = IsNotWrittenAs env to ops e
 
 -- Whatever the locations, the operators are accepted as a body, and this is the first fault of writing its normal form.
-pub record HasNoBytes (env : Environment) (to : Numbers) (ops : List ℕ) (fault : EmitError) : Type 0 where
+pub record HasNoNormalBytes (env : Environment) (to : Numbers) (ops : List ℕ) (fault : EmitError) : Type 0 where
   pub body : (locate : ℕ → ℕ) → Body Occurrence
   pub accepted : (locate : ℕ → ℕ) → Accepted (reading_by env locate) ops (body locate)
   pub fault_is : (locate : ℕ → ℕ) (b : Body Occurrence) → Accepted (reading_by env locate) ops b → tree_bytes to (body_tree env b) ≡ Err fault
@@ -67,4 +67,4 @@ pub record HasNoBytes (env : Environment) (to : Numbers) (ops : List ℕ) (fault
 abbrev pub HasFault : Environment → Numbers → List ℕ → RewriteError → Type 0
 HasFault env to ops (Parse f) = (locate : ℕ → ℕ) × FirstFault (reading_by env locate) ops f
 HasFault env to ops (Walk w) = ⊥
-HasFault env to ops (Emit e) = HasNoBytes env to ops e
+HasFault env to ops (Emit e) = HasNoNormalBytes env to ops e

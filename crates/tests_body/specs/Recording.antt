@@ -31,19 +31,19 @@ note_of (NameLocal l) = record { word = word.Local; number = l }
 note_of (NameData d) = record { word = word.Data; number = d }
 
 -- one more note, and one call less remaining
-pub record Adds (s : Recorder) (note : Note) (t : Recorder) : Type 0 where
+pub record AddsNote (s : Recorder) (note : Note) (t : Recorder) : Type 0 where
   pub noted : t.noted.items ≡ s.noted.items ++ note ∷ []
   pub calls_left : s.calls_left ≡ t.calls_left + 1
 
 abbrev pub Notes : Recorder → WalkEvent → Recorder → Type 0
-Notes s e t = Adds s (note_of e) t
+Notes s e t = AddsNote s (note_of e) t
 
 -- no calls remain, or memory ran out
 abbrev pub IsUnable : Recorder → WalkError → Type 0
 IsUnable s f = ((f ≡ TooLarge) × (s.calls_left ≡ 0)) ⊎ ((f ≡ Memory) × (0 < s.calls_left))
 
-abbrev pub Declines : Recorder → WalkEvent → WalkError → Type 0
-Declines s e f = IsUnable s f
+abbrev pub DeclinesNote : Recorder → WalkEvent → WalkError → Type 0
+DeclinesNote s e f = IsUnable s f
 
 pub record HasSameNotes (s t : Recorder) : Type 0 where
   pub noted : s.noted.items ≡ t.noted.items
@@ -61,7 +61,7 @@ note_alike s s' t t' e from to step = record {
   calls_left = sym from.calls_left ∙ (step.calls_left ∙ ap (λ n. n + 1) to.calls_left);
 }
 
-pub decline_alike : AreRefusalsAlike HasSameNotes Declines
+pub decline_alike : AreRefusalsAlike HasSameNotes DeclinesNote
 decline_alike s s' e f from h =
     let P : ℕ → Type 0 = λ n. ((f ≡ TooLarge) × (n ≡ 0)) ⊎ ((f ≡ Memory) × (0 < n)) in
     subst P from.calls_left h

@@ -1,6 +1,6 @@
 //! A visitor that records events.
 ghost use Rattle.std.specs.Prelude.{◌≡◌, [], OnOk, OnErr, IfErr};
-ghost use Rattle.tests_body.specs.Recording.{Adds, IsUnable, HasSameNotes, word_of};
+ghost use Rattle.tests_body.specs.Recording.{AddsNote, IsUnable, HasSameNotes, word_of};
 
 use std::alloc::{AllocError, Global};
 use std::fmt;
@@ -92,7 +92,7 @@ impl Recorder {
 
     fn note(&mut self, word: Word, number: usize) -> Result<(), WalkError>
         ensures ok { OnOk result
-            (Adds self.old (record { word = word; number = number }) self.new) }
+            (AddsNote self.old (record { word = word; number = number }) self.new) }
         ensures err { IfErr result (IsUnable self.old) }
         ensures unchanged { OnErr result (HasSameNotes self.old self.new) }
     {
@@ -123,12 +123,12 @@ impl Visitor for Recorder {
     type Fault = WalkError;
 
     ghost use Rattle.std.proofs.Common.{refl};
-    ghost use Rattle.tests_body.specs.Recording.{Notes, Declines, HasSameNotes, same_notes_back};
+    ghost use Rattle.tests_body.specs.Recording.{Notes, DeclinesNote, HasSameNotes, same_notes_back};
     ghost use Rattle.tests_body.specs.Recording.{same_notes_through, note_alike, decline_alike};
 
     ghost steps = { Notes };
 
-    ghost refuses = { Declines };
+    ghost refuses = { DeclinesNote };
 
     ghost same = { HasSameNotes };
 

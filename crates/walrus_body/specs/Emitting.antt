@@ -16,14 +16,14 @@ pub record IsUnchanged (old new : EmitContext) : Type 0 where
   pub code_transform : new.code_transform.items ≡ old.code_transform.items
 
 -- The data was appended to the context, whose module is the same.
-pub record Appends (written : Written) (old new : EmitContext) : Type 0 where
+pub record AppendsData (written : Written) (old new : EmitContext) : Type 0 where
   pub «module» : new.module.now ≡ old.module.now
   pub bytes : new.bytes.items ≡ old.bytes.items ++ written.bytes
   pub code_transform : new.code_transform.items ≡ old.code_transform.items ++ written.code_transform
 
 -- Some data of this kind was appended.
 abbrev pub AppendsSome : (Written → Type 0) → (old new : EmitContext) → Type 0
-AppendsSome Is old new = (written : Written) × Is written × Appends written old new
+AppendsSome Is old new = (written : Written) × Is written × AppendsData written old new
 
 -- Apart from the appended data nothing changes.
 pub record ChangesNothingElse (old new : EmitContext) : Type 0 where

@@ -6,7 +6,7 @@ use Rattle.std.proofs.Common.{append_assoc, reverse, refl, ap, sym, subst, ◌�
 use Rattle.walrus_ir.specs.Unfolding.{LocatedInstr}
 use Rattle.walrus_context.specs.declared.frame.ControlFrame.{ControlFrame}
 use Rattle.walrus_context.specs.OpenFrames.{OpenFrame, AreShown, ChangesAt, frame_with, changed_at, with_instr, InnerAreEmpty}
-use Rattle.walrus_context.specs.FrameStacks.{part, begin_of, frames_in, StartFrom, moved, moved_from}
+use Rattle.walrus_context.specs.FrameStacks.{part, begin_of, frames_in, StartFrom, moved_frame, moved_from}
 
 -- ---- parts of lists
 
@@ -255,9 +255,9 @@ moved_none [] i e = refl
 moved_none (f ∷ fs) zero e = absurd (omega arith)
 moved_none (f ∷ fs) (suc i) e = ap (λ l. f ∷ l) (moved_none fs i (omega arith))
 
-moved_here : (cs : List ControlFrame) (i : ℕ) (f : ControlFrame) → slice_get (moved_from (suc i) cs) i ≡ Some f → slice_set (moved_from (suc i) cs) i (moved f) ≡ moved_from i cs
+moved_here : (cs : List ControlFrame) (i : ℕ) (f : ControlFrame) → slice_get (moved_from (suc i) cs) i ≡ Some f → slice_set (moved_from (suc i) cs) i (moved_frame f) ≡ moved_from i cs
 moved_here [] i f e = refl
-moved_here (g ∷ cs) zero f e = let same : g ≡ f = cc in ap (λ h. moved h ∷ moved_from 0 cs) (sym same)
+moved_here (g ∷ cs) zero f e = let same : g ≡ f = cc in ap (λ h. moved_frame h ∷ moved_from 0 cs) (sym same)
 moved_here (g ∷ cs) (suc i) f e = ap (λ l. g ∷ l) (moved_here cs i f e)
 
 moved_bound : (cs : List ControlFrame) (i low end : ℕ) (f : ControlFrame) → StartFrom low cs end → slice_get (moved_from (suc i) cs) i ≡ Some f → f.start ≤ end
@@ -285,22 +285,22 @@ module _ (xs cs : List ControlFrame) (k i : ℕ) (moving : cs ≡ moved_from k x
     there : slice_get (moved_from (suc i) xs) i ≡ Some f
     there = ap (λ l. slice_get l i) (sym moving_on) ∙ at
 
-    pub one_moved : slice_set cs i (moved f) ≡ moved_from i xs
-    one_moved = ap (λ l. slice_set l i (moved f)) moving_on ∙ moved_here xs i f there
+    pub one_moved : slice_set cs i (moved_frame f) ≡ moved_from i xs
+    one_moved = ap (λ l. slice_set l i (moved_frame f)) moving_on ∙ moved_here xs i f there
 
     pub fits_moved : (end : ℕ) → StartFrom 0 xs end → f.start ≤ end
     fits_moved end h = moved_bound xs i 0 end f h there
 
 -- ---- an instruction for one frame
 
--- It is dropped if the frame is dead.
+-- It is dropped if the frame is unreachable.
 pub dropped_at : (all : List LocatedInstr) (cs : List ControlFrame) (i n : ℕ) (f : ControlFrame) (x : LocatedInstr) → n + i + 1 ≡ length cs → slice_get cs i ≡ Some f → f.unreachable ≡ true →
     ChangesAt n (with_instr x) (frames_in all [] cs) (frames_in all [] cs)
-dropped_at all cs i n f x is at dead =
+dropped_at all cs i n f x is at unreachable =
     let long = count all [] cs in
     let found = get all [] cs i n f is at in
     let frame = frame_with f found.0 in
-    (omega arith, sym (unchanged_at (with_instr x) (frames_in all [] cs) n frame found.1 (ap (λ d. record frame { instrs = cond d found.0 (found.0 ++ x ∷ []) }) dead)))
+    (omega arith, sym (unchanged_at (with_instr x) (frames_in all [] cs) n frame found.1 (ap (λ d. record frame { instrs = cond d found.0 (found.0 ++ x ∷ []) }) unreachable)))
 
 none_inside : (fs : List OpenFrame) → InnerAreEmpty 0 fs
 none_inside [] = tt

@@ -72,16 +72,16 @@ module _ (c : LegacyCatch) where
   in_frame : (f : ControlFrame) (xs : List LocatedInstr) → f.unreachable ≡ false → with_clause c (frame_with f xs) ≡ option_map (λ ys. frame_with f ys) (with_last_clause c xs)
   in_frame f xs alive = ap (λ d. cond d (Some (frame_with f xs)) (option_map (λ ys. record (frame_with f xs) { instrs = ys }) (with_last_clause c xs))) alive
 
-  in_dead : (f : ControlFrame) (xs : List LocatedInstr) → f.unreachable ≡ true → with_clause c (frame_with f xs) ≡ Some (frame_with f xs)
-  in_dead f xs dead = ap (λ d. cond d (Some (frame_with f xs)) (option_map (λ ys. record (frame_with f xs) { instrs = ys }) (with_last_clause c xs))) dead
+  in_unreachable : (f : ControlFrame) (xs : List LocatedInstr) → f.unreachable ≡ true → with_clause c (frame_with f xs) ≡ Some (frame_with f xs)
+  in_unreachable f xs unreachable = ap (λ d. cond d (Some (frame_with f xs)) (option_map (λ ys. record (frame_with f xs) { instrs = ys }) (with_last_clause c xs))) unreachable
 
-  -- a dead frame is unchanged
+  -- an unreachable frame is unchanged
   pub passes : (all : List LocatedInstr) (cs : List ControlFrame) (i : ℕ) (f : ControlFrame) → 1 + i + 1 ≡ length cs → slice_get cs i ≡ Some f → f.unreachable ≡ true →
       with_clause_around c (frames_in all [] cs) ≡ Ok (frames_in all [] cs)
-  passes all cs i f is at dead =
+  passes all cs i f is at unreachable =
       let found = get all [] cs i 1 f is at in
       let frame = frame_with f found.0 in
-      around (frames_in all [] cs) frame frame found.1 (in_dead f found.0 dead) ∙ ap Ok (unchanged_at (λ g. frame) (frames_in all [] cs) 1 frame found.1 refl)
+      around (frames_in all [] cs) frame frame found.1 (in_unreachable f found.0 unreachable) ∙ ap Ok (unchanged_at (λ g. frame) (frames_in all [] cs) 1 frame found.1 refl)
 
   -- the two innermost frames, the innermost after the other
   module _ (all : List LocatedInstr) (cs : List ControlFrame) (i : ℕ) (f h : ControlFrame) (rise : StartFrom 0 cs (length all)) (is : i + 2 ≡ length cs) (at : slice_get cs i ≡ Some f) (following : slice_get cs (i + 1) ≡ Some h) where
@@ -160,12 +160,12 @@ module _ (c : LegacyCatch) where
 -- ---- frames that are in an arena
 
 pub clause_kept : (c : LegacyCatch) (f h : OpenFrame) → with_clause c f ≡ Some h → h.sequence ≡ f.sequence
-clause_kept c f h is = by_dead f.dead (with_last_clause c f.instrs) is
+clause_kept c f h is = by_unreachable f.unreachable (with_last_clause c f.instrs) is
   where
-    by_dead : (d : Bool) (o : Option (List LocatedInstr)) → cond d (Some f) (option_map (λ xs. record f { instrs = xs }) o) ≡ Some h → h.sequence ≡ f.sequence
-    by_dead true o e = let same : f ≡ h = cc in ap (λ (g : OpenFrame). g.sequence) (sym same)
-    by_dead false (Some xs) e = let same : record f { instrs = xs } ≡ h = cc in ap (λ (g : OpenFrame). g.sequence) (sym same)
-    by_dead false None e = absurd cc
+    by_unreachable : (d : Bool) (o : Option (List LocatedInstr)) → cond d (Some f) (option_map (λ xs. record f { instrs = xs }) o) ≡ Some h → h.sequence ≡ f.sequence
+    by_unreachable true o e = let same : f ≡ h = cc in ap (λ (g : OpenFrame). g.sequence) (sym same)
+    by_unreachable false (Some xs) e = let same : record f { instrs = xs } ≡ h = cc in ap (λ (g : OpenFrame). g.sequence) (sym same)
+    by_unreachable false None e = absurd cc
 
 pub in_arena_with_clause : {E : Type 0} (arena : List InstrSeq) (c : LegacyCatch) (old new : List OpenFrame) (r : Result (Unit {0}) E) → OnOk r (with_clause_around c old ≡ Ok new) → OnErr r (new ≡ old) → AreInArena arena old → AreInArena arena new
 in_arena_with_clause arena c old new (Err e) ok err h = subst (AreInArena arena) (sym err) h

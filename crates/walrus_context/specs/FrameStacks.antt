@@ -24,11 +24,11 @@ StartFrom low [] end = low ≤ end
 StartFrom low (f ∷ fs) end = (low ≤ f.start) × StartFrom f.start fs end
 
 -- a frame that begins one instruction later
-abbrev pub moved : ControlFrame → ControlFrame
-moved f = record f { start = f.start + 1 }
+abbrev pub moved_frame : ControlFrame → ControlFrame
+moved_frame f = record f { start = f.start + 1 }
 
 -- every frame from the n-th on begins one instruction later
 abbrev pub moved_from : (n : ℕ) → List ControlFrame → List ControlFrame
 moved_from n [] = []
-moved_from zero (f ∷ fs) = moved f ∷ moved_from zero fs
+moved_from zero (f ∷ fs) = moved_frame f ∷ moved_from zero fs
 moved_from (suc n) (f ∷ fs) = f ∷ moved_from n fs

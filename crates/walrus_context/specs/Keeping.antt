@@ -9,14 +9,14 @@ use Rattle.walrus_ir.specs.declared.val_type.InstrSeqType.{InstrSeqType}
 use Rattle.wasm_types.specs.declared.val_type.ValType.{ValType}
 use Rattle.walrus_ir.specs.Tree.{Items, Sequences}
 use Rattle.walrus_ir.specs.Types.{pick}
-use Rattle.walrus_ir.specs.Unfolding.{SequenceAt, LocatedInstr, slots_in, AreItems, AreSequences}
+use Rattle.walrus_ir.specs.Unfolding.{SequenceAt, LocatedInstr, slots_in, AreTreeItems, AreSequences}
 use Rattle.walrus_ir.specs.Locations.{default_location}
 use Rattle.wasm_operators.specs.declared.types.Opcode.TheVariants.{Byte}
 use Rattle.wasm_operators.specs.Operations.{block, operation}
 use Rattle.wasm_body.specs.SourceTree.{Sequence, map_sequence}
 use Rattle.wasm_body.specs.Naming.{Occurrence, Environment, block_signature}
 use Rattle.wasm_body.specs.NormalForm.{typing_of, kept_operation, instruction, normal, name_at}
-use Rattle.wasm_body.specs.Keeping.{is_dead}
+use Rattle.wasm_body.specs.Keeping.{is_unreachable_after}
 use Rattle.wasm_body.specs.TreeOfFunction.{instruction_in, items_in, sequences_in}
 use Rattle.wasm_body.specs.Intervals.{RiseIn, AllRiseIn}
 use Rattle.wasm_body.specs.Parsing.Progress.{OpenConstruct, InWrapper, InThen, InElse, Layer}
@@ -29,12 +29,12 @@ slots fs = map (λ (f : OpenFrame). f.sequence) fs
 
 -- The frame's instructions are the normal form of the sequence so far. The sequences inside have slots after the frame's own,
 -- in rising order and below `high`.
-pub record IsKept (env : Environment) (arena : List InstrSeq) (high : ℕ) (f : OpenFrame) (around : List ℕ) (s : Sequence Occurrence) : Type 0 where
+pub record IsKeptFrame (env : Environment) (arena : List InstrSeq) (high : ℕ) (f : OpenFrame) (around : List ℕ) (s : Sequence Occurrence) : Type 0 where
   pub items : Items SequenceAt LocatedInstr
-  pub are_items : AreItems arena f.instrs items
+  pub are_items : AreTreeItems arena f.instrs items
   pub rise : RiseIn (suc f.sequence) items high
   pub is_normal : items_in (f.sequence ∷ around) items ≡ normal (typing_of env) (map_sequence name_at s)
-  pub is_dead : f.dead ≡ is_dead s
+  pub is_unreachable : f.unreachable ≡ is_unreachable_after s
 
 -- the slot has a sequence of this type whose end has no location yet
 pub record IsReserved (arena : List InstrSeq) (slot : ℕ) (type : InstrSeqType) : Type 0 where
@@ -62,7 +62,7 @@ pub record Encloses (env : Environment) (arena : List InstrSeq) (low : ℕ) (f :
   pub takes : TakesParameters env p f.start_types
   pub gives : f.end_types ≡ (block_signature (opener_in p).named).results
 
--- The construct's instruction is appended to those of the frame around, unless that is dead; without it the frames are `fs'`.
+-- The construct's instruction is appended to those of the frame around, unless that is unreachable; without it the frames are `fs'`.
 pub record IsAppended (around before : List ℕ) (slot : ℕ) (p : OpenConstruct Occurrence) (IsOpener : Instr → Type 0) (fs fs' : List OpenFrame) : Type 0 where
   pub opener : LocatedInstr
   pub places : slots_in opener.0 ≡ before ++ slot ∷ []
@@ -106,7 +106,7 @@ OpensWith around before slot p fs fs' ifs ifs' = IsAppended around before slot p
 
 -- The outermost frame is the function's own sequence, in the first slot.
 pub record IsOutermost (env : Environment) (arena : List InstrSeq) (high : ℕ) (frame : OpenFrame) (around : List OpenFrame) (ifs : List IfElseState) (s : Sequence Occurrence) : Type 0 where
-  pub kept : IsKept env arena high frame (slots around) s
+  pub kept : IsKeptFrame env arena high frame (slots around) s
   pub alone : around ≡ []
   pub reserved : IsReserved arena 0 (typing_of env).entry
   pub first : frame.sequence ≡ 0
@@ -114,9 +114,9 @@ pub record IsOutermost (env : Environment) (arena : List InstrSeq) (high : ℕ) 
   pub no_if : ifs ≡ []
 
 -- The innermost frame is that of an open construct, inside frames for which `Outer` holds.
-pub record IsWithin (env : Environment) (arena : List InstrSeq) (high : ℕ) (frame : OpenFrame) (around : List OpenFrame) (ifs : List IfElseState) (p : OpenConstruct Occurrence) (s : Sequence Occurrence)
+pub record IsWithinFrames (env : Environment) (arena : List InstrSeq) (high : ℕ) (frame : OpenFrame) (around : List OpenFrame) (ifs : List IfElseState) (p : OpenConstruct Occurrence) (s : Sequence Occurrence)
     (Outer : ℕ → List OpenFrame → List IfElseState → Type 0) : Type 0 where
-  pub kept : IsKept env arena high frame (slots around) s
+  pub kept : IsKeptFrame env arena high frame (slots around) s
   pub low : ℕ
   pub before : List ℕ
   pub encloses : Encloses env arena low frame (slots around) p before
@@ -130,4 +130,4 @@ abbrev pub Holds : Environment → List InstrSeq → List (Layer Occurrence) →
 Holds env arena [] s high [] ifs = ⊥
 Holds env arena [] s high (f ∷ fs) ifs = IsOutermost env arena high f fs ifs s
 Holds env arena (l ∷ ls) s high [] ifs = ⊥
-Holds env arena (l ∷ ls) s high (f ∷ fs) ifs = IsWithin env arena high f fs ifs l.construct s (Holds env arena ls l.before)
+Holds env arena (l ∷ ls) s high (f ∷ fs) ifs = IsWithinFrames env arena high f fs ifs l.construct s (Holds env arena ls l.before)

@@ -11,19 +11,19 @@ use Rattle.wasm_body.specs.declared.error.ParseError.{ParseError}
 use Rattle.wasm_body.specs.declared.error.ParseError.TheVariants.{NoFrame, NoSuchLabel, NoTry}
 use Rattle.walrus_context.specs.declared.frame.ControlFrame.{ControlFrame}
 
--- An open frame: its kind, the types of its parameters and results, its sequence, whether it is dead (the instructions that
+-- An open frame: its kind, the types of its parameters and results, its sequence, whether it is unreachable (the instructions that
 -- follow in it are dropped), and its instructions.
 pub record OpenFrame : Type 0 where
   pub kind : BlockKind
   pub start_types : List (ValType ℕ)
   pub end_types : List (ValType ℕ)
   pub sequence : ℕ
-  pub dead : Bool
+  pub unreachable : Bool
   pub instrs : List LocatedInstr
 
 -- the open frame that a frame of the code shows, with these instructions
 abbrev pub frame_with : ControlFrame → List LocatedInstr → OpenFrame
-frame_with f instrs = record { kind = f.kind; start_types = f.start_types.items; end_types = f.end_types.items; sequence = f.block; dead = f.unreachable; instrs = instrs }
+frame_with f instrs = record { kind = f.kind; start_types = f.start_types.items; end_types = f.end_types.items; sequence = f.block; unreachable = f.unreachable; instrs = instrs }
 
 -- the frame of the code shows the open frame, whatever its instructions
 pub record Shows (f : ControlFrame) (frame : OpenFrame) : Type 0 where
@@ -40,7 +40,7 @@ AreShown (c ∷ cs) [] = ⊥
 AreShown (c ∷ cs) (f ∷ fs) = Shows c f × AreShown cs fs
 
 abbrev pub new_frame : BlockKind → (takes gives : List (ValType ℕ)) → (sequence : ℕ) → OpenFrame
-new_frame kind takes gives sequence = record { kind = kind; start_types = takes; end_types = gives; sequence = sequence; dead = false; instrs = [] }
+new_frame kind takes gives sequence = record { kind = kind; start_types = takes; end_types = gives; sequence = sequence; unreachable = false; instrs = [] }
 
 -- the n-th frame is changed, and every other is unchanged
 abbrev pub changed_at : ℕ → (OpenFrame → OpenFrame) → List OpenFrame → List OpenFrame
@@ -48,12 +48,12 @@ changed_at n change [] = []
 changed_at zero change (f ∷ fs) = change f ∷ fs
 changed_at (suc n) change (f ∷ fs) = f ∷ changed_at n change fs
 
-abbrev pub marked_dead : OpenFrame → OpenFrame
-marked_dead f = record f { dead = true }
+abbrev pub marked_unreachable : OpenFrame → OpenFrame
+marked_unreachable f = record f { unreachable = true }
 
--- one more instruction, or no change if the frame is dead
+-- one more instruction, or no change if the frame is unreachable
 abbrev pub with_instr : LocatedInstr → OpenFrame → OpenFrame
-with_instr x f = record f { instrs = cond f.dead f.instrs (f.instrs ++ x ∷ []) }
+with_instr x f = record f { instrs = cond f.unreachable f.instrs (f.instrs ++ x ∷ []) }
 
 -- the n-th frame is changed in this way, and every other is unchanged
 abbrev pub ChangesAt : ℕ → (OpenFrame → OpenFrame) → (old new : List OpenFrame) → Type 0
@@ -86,9 +86,9 @@ with_last_clause c [] = None
 with_last_clause c (x ∷ []) = option_map (λ y. y ∷ []) (with_clause_in c x)
 with_last_clause c (x ∷ y ∷ xs) = option_map (λ ys. x ∷ ys) (with_last_clause c (y ∷ xs))
 
--- the same in a frame, or no change if it is dead
+-- the same in a frame, or no change if it is unreachable
 abbrev pub with_clause : LegacyCatch → OpenFrame → Option OpenFrame
-with_clause c f = cond f.dead (Some f) (option_map (λ xs. record f { instrs = xs }) (with_last_clause c f.instrs))
+with_clause c f = cond f.unreachable (Some f) (option_map (λ xs. record f { instrs = xs }) (with_last_clause c f.instrs))
 
 -- the same in the frame around the innermost
 abbrev pub with_clause_around : LegacyCatch → List OpenFrame → Result (List OpenFrame) ParseError

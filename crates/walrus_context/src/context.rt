@@ -3,7 +3,7 @@ ghost use Rattle.std.specs.Prelude.{reverse, ◌≡◌, ◌⊎◌, ◌≤◌, �
 ghost use Rattle.walrus_ir.specs.Types.{existing, signature_of};
 ghost use Rattle.walrus_ir.specs.declared.val_type.InstrSeqType.TheVariants.{MultiValue, Simple};
 ghost use Rattle.wasm_body.specs.declared.error.ParseError.{ParseError as Fault};
-ghost use Rattle.walrus_context.specs.OpenFrames.{AreShown, ShowsAt, marked_dead, with_instr, HasNoFrame, HasNoFrameAt, InnerAreEmpty, with_clause_around};
+ghost use Rattle.walrus_context.specs.OpenFrames.{AreShown, ShowsAt, marked_unreachable, with_instr, HasNoFrame, HasNoFrameAt, InnerAreEmpty, with_clause_around};
 ghost use Rattle.wasm_operators.specs.declared.types.BlockType.TheVariants.{Value, FuncType};
 ghost use Rattle.wasm_numbers.specs.Results.{with_fault};
 ghost use Rattle.wasm_body.specs.declared.error.ParseError.TheVariants.{Index};
@@ -383,14 +383,14 @@ impl<'a> ValidationContext<'a> {
         }
     }
 
-    /// Marks the innermost frame as dead: the instructions that follow in it are dropped. The error
+    /// Marks the innermost frame as unreachable: the instructions that follow in it are dropped. The error
     /// is `NoFrame` if no frame is open; nothing is changed.
     pub fn unreachable(&mut self) -> Result<(), ParseError>
-        ensures ok { OnOk result (ChangesFrame 0 marked_dead self.old self.new) }
+        ensures ok { OnOk result (ChangesFrame 0 marked_unreachable self.old self.new) }
         ensures err { IfErr result (HasNoFrame self.old.frames) }
         ensures same { OnErr result (self.new ≡ self.old) }
     {
-        self.stack.mark_dead()
+        self.stack.mark_unreachable()
     }
 
     /// The n-th frame. Frames count from the innermost, which is 0. The error is `NoSuchLabel` if
@@ -426,17 +426,17 @@ impl<'a> ValidationContext<'a> {
         }
     }
 
-    /// Marks the innermost frame as dead: the instructions that follow in it are dropped. Requires
+    /// Marks the innermost frame as unreachable: the instructions that follow in it are dropped. Requires
     /// that a frame is open.
     #[inline(always)]
-    pub fn kill_innermost(&mut self)
+    pub fn mark_innermost_unreachable(&mut self)
         requires { 0 < length self.old.frames }
-        ensures { ChangesFrame 0 marked_dead self.old self.new }
+        ensures { ChangesFrame 0 marked_unreachable self.old self.new }
     {
-        self.stack.kill_innermost();
+        self.stack.mark_innermost_unreachable();
     }
 
-    /// Appends an instruction to the innermost frame, or drops it if that frame is dead, and returns
+    /// Appends an instruction to the innermost frame, or drops it if that frame is unreachable, and returns
     /// whether it could. If no frame is open or memory runs out nothing is changed.
     #[inline(always)]
     pub fn append_innermost(&mut self, instr: Instr, loc: InstrLocId) -> bool
@@ -447,7 +447,7 @@ impl<'a> ValidationContext<'a> {
         self.stack.append_innermost(instr, loc)
     }
 
-    /// Appends an instruction to the n-th frame, or drops it if that frame is dead. Frames count
+    /// Appends an instruction to the n-th frame, or drops it if that frame is unreachable. Frames count
     /// from the innermost, which is 0. Requires that the frames inside the n-th have no
     /// instructions.
     ///
@@ -469,7 +469,7 @@ impl<'a> ValidationContext<'a> {
         self.stack.append(n, instr, loc)
     }
 
-    /// Appends an instruction to the innermost frame, or drops it if that frame is dead.
+    /// Appends an instruction to the innermost frame, or drops it if that frame is unreachable.
     ///
     /// # Errors
     ///
@@ -489,7 +489,7 @@ impl<'a> ValidationContext<'a> {
     }
 
     /// Adds a clause to the legacy `try` at the end of the frame around the innermost, or drops it
-    /// if that frame is dead. The innermost frame is the body of the `try` for a `delegate`, and
+    /// if that frame is unreachable. The innermost frame is the body of the `try` for a `delegate`, and
     /// the clause's own handler for a `catch` or `catch_all`.
     ///
     /// # Errors

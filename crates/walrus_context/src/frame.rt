@@ -9,7 +9,7 @@ pub struct ControlFrame {
     pub start_types: Vec<ValType>,
     /// The types of its results.
     pub end_types: Vec<ValType>,
-    /// Whether it is dead: the instructions that follow in it are dropped.
+    /// Whether it is unreachable: the instructions that follow in it are dropped.
     pub unreachable: bool,
     /// Its sequence.
     pub block: InstrSeqId,

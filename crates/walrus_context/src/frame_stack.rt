@@ -1,7 +1,7 @@
 //! The open frames, with the instructions of all of them in one list.
 ghost use Rattle.std.specs.Prelude.{reverse, ◌≡◌, ◌⊎◌, ◌≤◌, ◌<◌, ◌+◌, ◌^◌, ℕ, ◌∷◌, ◌++◌, [], List, length, take, drop, MatchOption, IfOk, IfErr, OnOk, OnErr, None, Some, Ok, Err, true, false};
 ghost use Rattle.wasm_body.specs.declared.error.ParseError.{ParseError as Fault};
-ghost use Rattle.walrus_context.specs.OpenFrames.{OpenFrame, AreShown, ShowsAt, frame_with, new_frame, marked_dead, with_instr, ChangesAt, HasNoFrame, HasNoFrameAt, InnerAreEmpty, with_clause_in, with_clause_around};
+ghost use Rattle.walrus_context.specs.OpenFrames.{OpenFrame, AreShown, ShowsAt, frame_with, new_frame, marked_unreachable, with_instr, ChangesAt, HasNoFrame, HasNoFrameAt, InnerAreEmpty, with_clause_in, with_clause_around};
 ghost use Rattle.walrus_context.specs.FrameStacks.{moved_from, StartFrom};
 
 use crate::frame::{ControlFrame, ControlStack};
@@ -208,9 +208,9 @@ impl FrameStack {
         self.instrs.truncate(frame.start);
     }
 
-    /// Marks the innermost frame as dead: the instructions that follow in it are dropped.
-    pub fn mark_dead(&mut self) -> Result<(), ParseError>
-        ensures ok { OnOk result (ChangesAt 0 marked_dead self.old self.new) }
+    /// Marks the innermost frame as unreachable: the instructions that follow in it are dropped.
+    pub fn mark_unreachable(&mut self) -> Result<(), ParseError>
+        ensures ok { OnOk result (ChangesAt 0 marked_unreachable self.old self.new) }
         ensures err { IfErr result (HasNoFrame self.old) }
         ensures same { OnErr result (self.new ≡ self.old) }
     {
@@ -218,22 +218,22 @@ impl FrameStack {
         if open == 0 {
             return Err(ParseError::NoFrame);
         }
-        self.kill_innermost();
+        self.mark_innermost_unreachable();
         Ok(())
     }
 
     /// The same for a frame that is open.
     #[inline(always)]
-    pub fn kill_innermost(&mut self)
+    pub fn mark_innermost_unreachable(&mut self)
         requires { 0 < length self.old }
-        ensures { ChangesAt 0 marked_dead self.old self.new }
+        ensures { ChangesAt 0 marked_unreachable self.old self.new }
     {
         let index = self.controls.len() - 1;
         self.controls[index].unreachable = true;
     }
 
     /// Appends an instruction to the n-th frame from the innermost, or drops it if that frame is
-    /// dead. Requires that the frames inside the n-th have no instructions.
+    /// unreachable. Requires that the frames inside the n-th have no instructions.
     #[inline(always)]
     pub fn append(&mut self, n: usize, instr: Instr, location: InstrLocId) -> Result<(), ParseError>
         requires { InnerAreEmpty n self.old }
@@ -257,7 +257,7 @@ impl FrameStack {
         }
     }
 
-    /// Appends an instruction to the innermost frame, or drops it if that frame is dead, and returns
+    /// Appends an instruction to the innermost frame, or drops it if that frame is unreachable, and returns
     /// whether it could. If no frame is open or memory runs out nothing is changed.
     #[inline(always)]
     pub fn append_innermost(&mut self, instr: Instr, location: InstrLocId) -> bool
@@ -275,7 +275,7 @@ impl FrameStack {
     }
 
     /// Adds a clause to the `try` at the end of the frame around the innermost, or drops it if that
-    /// frame is dead.
+    /// frame is unreachable.
     pub fn add_clause(&mut self, catch: LegacyCatch) -> Result<(), ParseError>
         ensures ok { OnOk result (with_clause_around catch self.old ≡ Ok self.new) }
         ensures err { IfErr result (λ e. (e ≡ Fault.Memory)

@@ -17,7 +17,7 @@ use Rattle.wasm_body.specs.Translation.{Located, at_location}
 use Rattle.wasm_body.specs.InstructionTable.{legacy_clause}
 use Rattle.wasm_body.specs.TreeOfFunction.{instruction_in}
 use Rattle.wasm_body.specs.FunctionTree.{last_location}
-use Rattle.wasm_body.specs.FlatText.{TextOperation, then_by, try_closers, opened, written}
+use Rattle.wasm_body.specs.FlatText.{TextOperation, then_by, try_closers, opener_text, written}
 use Rattle.wasm_body.specs.Bytes.{Numbers, numbering, bytes_of}
 use Rattle.wasm_body.specs.Pairs.{pairs_from}
 
@@ -112,7 +112,7 @@ with_closer s (Some c) = written (then_by (numbering s.numbers)) c.op c.location
 abbrev pub with_instruction : Emitter → LocatedInstr → Result Emitter EmitError
 with_instruction s x =
     first_type_at s.sequences (slots_in x.0) >>= λ type.
-    opened (then_by (numbering s.numbers)) (instruction_in (slots_of s.open_scopes) x) type >>= λ op.
+    opener_text (then_by (numbering s.numbers)) (instruction_in (slots_of s.open_scopes) x) type >>= λ op.
     scopes_inside s.numbers.balanced s.sequences x.0 >>= λ scopes.
     Ok (with_operator (record s { coming = scopes ++ s.coming }) op)
 

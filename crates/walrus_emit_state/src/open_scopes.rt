@@ -3,7 +3,7 @@ ghost use Rattle.std.specs.Prelude.{◌≡◌, ◌<◌, ◌⊎◌, ◌∷◌, �
 ghost use Rattle.wasm_body.specs.declared.error.EmitError.TheVariants as emit;
 ghost use Rattle.wasm_body.specs.Bytes.{in_32_bits};
 ghost use Rattle.walrus_emit_state.specs.TreeWriting.Closers.{places_of};
-ghost use Rattle.walrus_emit_state.specs.TreeWriting.ScopeLists.{with_more, Begins, ending};
+ghost use Rattle.walrus_emit_state.specs.TreeWriting.ScopeLists.{with_more, BeginsScope, ending};
 
 use crate::closing::{Closer, SequenceScope};
 use std::alloc::{AllocError, Global};
@@ -37,7 +37,7 @@ impl Model for Scopes {
 
     ghost Value = { ScopeLists };
 
-    ghost use Rattle.walrus_emit_state.specs.TreeWriting.ScopeTables.{opened_in, IsTable};
+    ghost use Rattle.walrus_emit_state.specs.TreeWriting.ScopeTables.{opened_in, IsScopeTable};
 
     ghost view = { λ s. record {
       count = length s.levels.items;
@@ -45,7 +45,7 @@ impl Model for Scopes {
       open_scopes = opened_in s.entered.items;
     } };
 
-    ghost invariant = { λ s. IsTable s.levels.items s.coming.items s.entered.items };
+    ghost invariant = { λ s. IsScopeTable s.levels.items s.coming.items s.entered.items };
 }
 
 /// A depth or a number of labels, as it is written. The error is `TooLarge` if it doesn't fit 32
@@ -141,7 +141,7 @@ impl Scopes {
     ///
     /// `UnknownSequence` if none is to come, and `Memory`. Nothing is changed then.
     pub fn begin(&mut self) -> Result<(), EmitError>
-        ensures ok { OnOk result (Begins self.old self.new) }
+        ensures ok { OnOk result (BeginsScope self.old self.new) }
         ensures err { IfErr result (λ e. (e ≡ emit.Memory)
             ⊎ ((e ≡ emit.UnknownSequence) × (self.old.coming ≡ []))) }
         ensures unchanged { OnErr result (self.new ≡ self.old) }

@@ -16,7 +16,7 @@ use Rattle.walrus_ir.specs.Unfolding.{SequenceAt, LocatedInstr, among}
 use Rattle.walrus_ir.specs.Events.{WalkEvent, StartSequence, EndSequence, VisitInstruction, NameData, names, item_events, sequence_events, events, Folds, through, after, Stops, refused, later}
 use Rattle.walrus_ir.specs.Walk.{Finishes, IsRefused, IsNotWalked, HasNoWalk}
 use Rattle.walrus_facts.specs.Facts.{instructions, instructions_inside, segment_of, segments, TreeHas}
-use Rattle.walrus_facts.specs.Segments.{holds, named, Collects, IsOutOfMemory, HoldsSame}
+use Rattle.walrus_facts.specs.Segments.{holds, named, Collects, IsOutOfMemoryAt, HoldsSame}
 use Rattle.walrus_facts.specs.declared.segments.DataSegmentsVisitor.{DataSegmentsVisitor}
 use Rattle.walrus_maps.proofs.EntryMaps.{same_id}
 
@@ -106,7 +106,7 @@ adding_members d = record {
 folds_named : {v w : DataSegmentsVisitor} {es : List WalkEvent} → Folds Collects v es w → (d : ℕ) → holds w d ≡ among d (flat_map named es) || holds v d
 folds_named h d = folded (λ v. holds v d) (adding_members d) (λ v w e s. s d) h
 
-stops_for_memory : {v w : DataSegmentsVisitor} {es : List WalkEvent} {f : WalkError} → Stops Collects IsOutOfMemory HoldsSame v es w f → f ≡ Memory
+stops_for_memory : {v w : DataSegmentsVisitor} {es : List WalkEvent} {f : WalkError} → Stops Collects IsOutOfMemoryAt HoldsSame v es w f → f ≡ Memory
 stops_for_memory (refused {e = NameData d} r s) = r
 stops_for_memory (refused r s) = absurd r
 stops_for_memory (later s f) = stops_for_memory f
@@ -126,6 +126,6 @@ pub no_walk : {V : Type 0} {b : List InstrSeq} {start : ℕ} {v w : V} {f : Walk
 no_walk {b = b} {start = start} u = let P : WalkError → Type 0 = λ e. HasNoWalk b start e in subst P (sym u.is_fault) u.why
 
 pub not_collected : {b : List InstrSeq} {start : ℕ} {v w : DataSegmentsVisitor} {f : WalkError}
-    → IsRefused b start Collects IsOutOfMemory HoldsSame v w f ⊎ IsNotWalked b start (λ e f. f ≡ e) v w f → HasNoWalk b start f
+    → IsRefused b start Collects IsOutOfMemoryAt HoldsSame v w f ⊎ IsNotWalked b start (λ e f. f ≡ e) v w f → HasNoWalk b start f
 not_collected (inl r) = inl (stops_for_memory r.stops)
 not_collected (inr u) = no_walk u

@@ -22,7 +22,7 @@ use Rattle.wasm_operators.specs.VectorAccessOpcodes.{vector_access_operation}
 use Rattle.walrus_ir.specs.Tree.{Items, no_items, item, Sequences, no_sequences, sequence, Tree}
 use Rattle.walrus_ir.specs.Unfolding.{SequenceAt, LocatedInstr}
 use Rattle.wasm_body.specs.InstructionTable.{PlacedOperation, operation_of, const_operation, select_operation, access_at}
-use Rattle.wasm_body.specs.LocalNumbers.{locals_among, locals_in, locals_inside, locals_of}
+use Rattle.wasm_body.specs.LocalNumbers.{locals_among, locals_in_items, locals_inside, locals_of}
 use Rattle.wasm_body.specs.Translation.{translate_immediates}
 use Rattle.wasm_body.specs.TreeOfFunction.{to_targets, with_targets, items_in, sequences_in, tree_of}
 use Rattle.wasm_body.proofs.Translation.LocalsKept.{locals_kept}
@@ -74,11 +74,11 @@ abbrev local_at : LocatedInstr → List ℕ
 local_at x = local_of_instr x.0
 
 mutual
-  of_items : (around : List ℕ) (is : Items SequenceAt LocatedInstr) → locals_in (items_in around is) ≡ flat_map local_at (instructions is)
+  of_items : (around : List ℕ) (is : Items SequenceAt LocatedInstr) → locals_in_items (items_in around is) ≡ flat_map local_at (instructions is)
   of_items around no_items = refl
   of_items around (item x inside rest) =
-      ap (λ l. l ++ (locals_inside (sequences_in around inside) ++ locals_in (items_in around rest))) (targets_alike around x.0)
-      ∙ (ap (λ l. local_at x ++ (l ++ locals_in (items_in around rest))) (of_sequences around inside)
+      ap (λ l. l ++ (locals_inside (sequences_in around inside) ++ locals_in_items (items_in around rest))) (targets_alike around x.0)
+      ∙ (ap (λ l. local_at x ++ (l ++ locals_in_items (items_in around rest))) (of_sequences around inside)
       ∙ (ap (λ l. local_at x ++ (flat_map local_at (instructions_inside inside) ++ l)) (of_items around rest)
       ∙ ap (λ l. local_at x ++ l) (sym (flat_map-append local_at (instructions_inside inside) (instructions rest)))))
 

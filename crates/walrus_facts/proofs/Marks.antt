@@ -8,7 +8,7 @@ use Rattle.walrus_ir.specs.Events.{WalkEvent, NameLocal, VisitsOne}
 use Rattle.walrus_ir.specs.Unfolding.{among}
 use Rattle.walrus_facts.specs.declared.facts.EmitFacts.{EmitFacts}
 use Rattle.walrus_facts.specs.declared.facts.FactsVisitor.{FactsVisitor}
-use Rattle.walrus_facts.specs.Gathering.{has_used_local, local_at, Adds, Gathers, Declines, HaveSameFacts, HoldsSameFacts}
+use Rattle.walrus_facts.specs.Gathering.{has_used_local, local_at, AddsFacts, Gathers, Declines, HaveSameFacts, HoldsSameFacts}
 use Rattle.walrus_facts.specs.Marking.{is_marked, AreUsed}
 
 -- ---- marks
@@ -51,7 +51,7 @@ used_or true b h = refl
 used_or false b h = h
 
 -- what was used is used after an event
-pub still_used : (s t : EmitFacts) (e : WalkEvent) (marks : List Bool) → Adds s e t → AreUsed marks s → AreUsed marks t
+pub still_used : (s t : EmitFacts) (e : WalkEvent) (marks : List Bool) → AddsFacts s e t → AreUsed marks s → AreUsed marks t
 still_used s t e marks step used id marked = step.used_locals id ∙ used_or (among id (local_at e)) (has_used_local s id) (used id marked)
 
 pub same_used : (s t : EmitFacts) (marks : List Bool) → HaveSameFacts s t → AreUsed marks s → AreUsed marks t
@@ -63,11 +63,11 @@ pub heard_used : {U : Type 0} (s t : FactsVisitor) (e : WalkEvent) (r : Result U
 heard_used s t e (Ok x) marks h used = still_used s.facts t.facts e marks h used
 heard_used s t e (Err f) marks h used = same_used s.facts t.facts marks h.1 used
 
-named_used : (s t : EmitFacts) (id : ℕ) → Adds s (NameLocal id) t → has_used_local t id ≡ true
+named_used : (s t : EmitFacts) (id : ℕ) → AddsFacts s (NameLocal id) t → has_used_local t id ≡ true
 named_used s t id step = step.used_locals id ∙ ap (λ b. (b || false) || has_used_local s id) (eq-eqb id id refl)
 
 -- a local is used and marked
-pub marked_used : (s t : EmitFacts) (id : ℕ) (old new : List Bool) → Adds s (NameLocal id) t → AreUsed old s
+pub marked_used : (s t : EmitFacts) (id : ℕ) (old new : List Bool) → AddsFacts s (NameLocal id) t → AreUsed old s
     → (b : Bool) → OnTrue b ((other : ℕ) → is_marked new other ≡ ((other == id) || is_marked old other)) → OnFalse b ((other : ℕ) → is_marked new other ≡ is_marked old other)
     → AreUsed new t
 marked_used s t id old new step used true puts same other marked =

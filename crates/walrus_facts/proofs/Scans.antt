@@ -16,7 +16,7 @@ use Rattle.walrus_ir.specs.declared.seq.InstrSeq.{InstrSeq}
 use Rattle.walrus_ir.specs.declared.instr.Instr.{Instr}
 use Rattle.walrus_ir.specs.declared.control.LegacyCatch.{LegacyCatch}
 use Rattle.walrus_ir.specs.Tree.{Items, no_items, item, Sequences, Tree, alone}
-use Rattle.walrus_ir.specs.Unfolding.{SequenceAt, LocatedInstr, handler_of, handlers, slots_in, slots_in_all, AreItems, are_no_items, are_items, AreSequences, are_no_sequences, are_sequences, slots_reached, slots_reached_each, among, IsTree}
+use Rattle.walrus_ir.specs.Unfolding.{SequenceAt, LocatedInstr, handler_of, handlers, slots_in, slots_in_all, AreTreeItems, are_no_items, are_items, AreSequences, are_no_sequences, are_sequences, slots_reached, slots_reached_each, among, IsTree}
 use Rattle.walrus_ir.specs.Faults.{Walks, onward}
 use Rattle.walrus_ir.proofs.WalkLaws.{walk_makes_tree}
 use Rattle.walrus_ir.proofs.Marks.{marked, unreached, unreached-set}
@@ -24,7 +24,7 @@ use Rattle.walrus_facts.specs.declared.scanning.Scan.{Scan}
 use Rattle.walrus_facts.specs.declared.facts.EmitFacts.{EmitFacts}
 use Rattle.walrus_facts.specs.Marking.{is_marked}
 use Rattle.walrus_facts.specs.Facts.{instructions, instructions_inside, segment_of, function_of, referred, local_of_instr, are_some, AreFacts, TreeHas}
-use Rattle.walrus_facts.specs.Scanning.{locals_named, segments_named, functions_named, GoesOn, MarksOne, AddsOne, AddsAll, Enters, HasFound, instrs_of, instrs_at, IsScanning}
+use Rattle.walrus_facts.specs.Scanning.{locals_named, segments_named, functions_named, GoesOn, MarksOne, AddsOne, AddsAll, EntersSequence, HasFound, instrs_of, instrs_at, IsScanning}
 
 -- ---- what is said of lists of instructions in any order
 
@@ -36,7 +36,7 @@ module _ {M : Type 0} (h : List LocatedInstr → M) (op : M → M → M) (both :
   inner (item x inside rest) = instructions_inside inside ++ inner rest
 
   -- a sequence's own instructions, and those inside of it
-  parts : {b : List InstrSeq} {xs : List LocatedInstr} {is : Items SequenceAt LocatedInstr} → AreItems b xs is → h (instructions is) ≡ op (h xs) (h (inner is))
+  parts : {b : List InstrSeq} {xs : List LocatedInstr} {is : Items SequenceAt LocatedInstr} → AreTreeItems b xs is → h (instructions is) ≡ op (h xs) (h (inner is))
   parts are_no_items = both [] []
   parts (are_items {x = x} {xs = xs} {inside = inside} {rest = rest} a r) =
       let own = h (x ∷ []) in let ins = h (instructions_inside inside) in let more = h xs in let deep = h (inner rest) in
@@ -47,7 +47,7 @@ module _ {M : Type 0} (h : List LocatedInstr → M) (op : M → M → M) (both :
       ∙ ap (λ m. op (h (x ∷ xs)) m) (sym (both (instructions_inside inside) (inner rest)))
 
   mutual
-    of_items : {b : List InstrSeq} {xs : List LocatedInstr} {is : Items SequenceAt LocatedInstr} (seen : List ℕ) → AreItems b xs is
+    of_items : {b : List InstrSeq} {xs : List LocatedInstr} {is : Items SequenceAt LocatedInstr} (seen : List ℕ) → AreTreeItems b xs is
         → h (instrs_at b (slots_reached is seen)) ≡ op (h (inner is)) (h (instrs_at b seen))
     of_items {b = b} seen are_no_items = both [] (instrs_at b seen)
     of_items {b = b} seen (are_items {inside = inside} {rest = rest} a r) =
@@ -158,7 +158,7 @@ some_more f xs ys new old adds was = adds ∙ (ap (λ b. are_some (flat_map f xs
 pub entered : {b : List InstrSeq} {start : ℕ} (slot : ℕ) (old popped new : Scan) → IsScanning b start old
     → old.coming.items ≡ popped.coming.items ++ slot ∷ [] → popped.reached.items ≡ old.reached.items → popped.size ≡ old.size
     → popped.uses_data_segments ≡ old.uses_data_segments → popped.refers ≡ old.refers → popped.marks.items ≡ old.marks.items
-    → Enters b slot popped new → IsScanning b start new
+    → EntersSequence b slot popped new → IsScanning b start new
 entered {b = b} {start = start} slot old popped new h taken same_reached same_size same_uses same_refers same_marks e =
     let seq = e.seq in
     let next : reverse old.coming.items ≡ slot ∷ reverse popped.coming.items = ap reverse taken ∙ reverse-append popped.coming.items (slot ∷ []) in
@@ -184,7 +184,7 @@ entered {b = b} {start = start} slot old popped new h taken same_reached same_si
 
 -- each sequence that is reached lowers the bound
 pub fewer_unreached : {b : List InstrSeq} {start : ℕ} (slot : ℕ) (old popped new : Scan) → IsScanning b start old → popped.reached.items ≡ old.reached.items
-    → Enters b slot popped new → unreached new.reached.items b < unreached old.reached.items b
+    → EntersSequence b slot popped new → unreached new.reached.items b < unreached old.reached.items b
 fewer_unreached {b = b} slot old popped new h same_reached e =
     let marks = old.reached.items in
     let fresh : get_or marks slot false ≡ false = ap (λ (ms : List Bool). get_or ms slot false) (sym same_reached) ∙ e.is_reached.fresh in

@@ -28,14 +28,14 @@ local_at (NameLocal l) = l ∷ []
 local_at _ = []
 
 -- An event adds its instruction, and the item that it names, to these facts.
-pub record Adds (s : EmitFacts) (e : WalkEvent) (t : EmitFacts) : Type 0 where
+pub record AddsFacts (s : EmitFacts) (e : WalkEvent) (t : EmitFacts) : Type 0 where
   pub size : t.size ≡ s.size + length (visited e)
   pub uses_data_segments : t.uses_data_segments ≡ (are_some (named e) || s.uses_data_segments)
   pub ref_funcs : t.ref_funcs.items ≡ s.ref_funcs.items ++ function_at e
   pub used_locals : (l : ℕ) → has_used_local t l ≡ (among l (local_at e) || has_used_local s l)
 
 abbrev pub Gathers : FactsVisitor → WalkEvent → FactsVisitor → Type 0
-Gathers s e t = Adds s.facts e t.facts
+Gathers s e t = AddsFacts s.facts e t.facts
 
 -- the count would not fit 64 bits, or memory ran out for the function or the local that is named
 abbrev pub Declines : FactsVisitor → WalkEvent → WalkError → Type 0

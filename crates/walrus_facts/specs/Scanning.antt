@@ -58,7 +58,7 @@ pub record AddsAll (xs : List LocatedInstr) (old new : Scan) : Type 0 where
   pub reached : new.reached.items ≡ old.reached.items
 
 -- The sequence in this slot is reached, and it has found what its instructions name.
-pub record Enters (b : List InstrSeq) (slot : ℕ) (old new : Scan) : Type 0 where
+pub record EntersSequence (b : List InstrSeq) (slot : ℕ) (old new : Scan) : Type 0 where
   pub seq : InstrSeq
   pub is_reached : IsReached b slot seq old.reached.items new.reached.items
   pub coming : reverse new.coming.items ≡ slots_in_all seq.instrs ++ reverse old.coming.items

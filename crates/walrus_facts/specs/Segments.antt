@@ -22,9 +22,9 @@ abbrev pub Collects : DataSegmentsVisitor → WalkEvent → DataSegmentsVisitor 
 Collects s e t = (d : ℕ) → holds t d ≡ (among d (named e) || holds s d)
 
 -- memory ran out for the data segment that is named
-abbrev pub IsOutOfMemory : DataSegmentsVisitor → WalkEvent → WalkError → Type 0
-IsOutOfMemory s (NameData d) f = f ≡ Memory
-IsOutOfMemory s _ f = ⊥
+abbrev pub IsOutOfMemoryAt : DataSegmentsVisitor → WalkEvent → WalkError → Type 0
+IsOutOfMemoryAt s (NameData d) f = f ≡ Memory
+IsOutOfMemoryAt s _ f = ⊥
 
 -- both contain the same data segments
 abbrev pub HoldsSame : DataSegmentsVisitor → DataSegmentsVisitor → Type 0
@@ -35,7 +35,7 @@ pub collect_alike : AreStepsAlike HoldsSame Collects
 collect_alike s s' t t' e from to step d = to d ∙ (step d ∙ ap (λ b. among d (named e) || b) (sym (from d)))
 
 -- whether memory runs out doesn't depend on the segments that they contain
-pub memory_alike : AreRefusalsAlike HoldsSame IsOutOfMemory
+pub memory_alike : AreRefusalsAlike HoldsSame IsOutOfMemoryAt
 memory_alike s s' (StartSequence seq) f from h = h
 memory_alike s s' (EndSequence seq) f from h = h
 memory_alike s s' (VisitInstruction i location) f from h = h

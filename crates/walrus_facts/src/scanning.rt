@@ -7,7 +7,7 @@ ghost use Rattle.walrus_ir.specs.Unfolding.{handler_of, handlers};
 ghost use Rattle.walrus_ir.specs.Planning.{IsReached};
 ghost use Rattle.walrus_facts.specs.Facts.{AreFacts, TreeHas};
 ghost use Rattle.walrus_facts.specs.Marking.{is_marked};
-ghost use Rattle.walrus_facts.specs.Scanning.{GoesOn, AddsOne, AddsAll, Enters, HasFound, IsScanning, MarksOne};
+ghost use Rattle.walrus_facts.specs.Scanning.{GoesOn, AddsOne, AddsAll, EntersSequence, HasFound, IsScanning, MarksOne};
 
 use crate::facts::EmitFacts;
 use crate::marking::{is_marked, mark};
@@ -184,7 +184,7 @@ impl Scan {
     /// whether it could: not if there is no such sequence or it was reached before, either.
     fn enter(&mut self, builder: &FunctionBuilder, slot: InstrSeqId) -> bool
         requires { vec_len self.old.reached ≡ length builder.now.sequences }
-        ensures { OnTrue result (Enters builder.now.sequences slot self.old self.new) }
+        ensures { OnTrue result (EntersSequence builder.now.sequences slot self.old self.new) }
     {
         let Some(seq) = reach(&mut self.reached, builder, slot) else {
             return false;

@@ -33,11 +33,11 @@ impl DataSegmentsVisitor {
 impl Visitor for DataSegmentsVisitor {
     type Fault = WalkError;
 
-    ghost use Rattle.walrus_facts.specs.Segments.{Collects, IsOutOfMemory, HoldsSame};
+    ghost use Rattle.walrus_facts.specs.Segments.{Collects, IsOutOfMemoryAt, HoldsSame};
 
     ghost steps = { Collects };
 
-    ghost refuses = { IsOutOfMemory };
+    ghost refuses = { IsOutOfMemoryAt };
 
     ghost same = { HoldsSame };
 

@@ -16,10 +16,10 @@ use Rattle.wasm_body.specs.Parsing.Progress.{Layer, Progress, Within, Whole, NoB
 use Rattle.wasm_body.proofs.Structure.ReadFrames.{progress_frames, further_frames, may_move}
 use Rattle.wasm_body.proofs.Parsing.NamingLemmas.{named_is_allowed}
 use Rattle.walrus_parser.specs.Advancing.{occurrence}
-use Rattle.wasm_flat.specs.Flat.{Named, Deadness, first_deadness, deadness_after, live_locals, locals_read, deadness_behind}
-use Rattle.wasm_flat.proofs.Fronts.{locals-append, deadness-append}
+use Rattle.wasm_flat.specs.Flat.{Named, Unreachability, first_unreachability, unreachability_after, live_locals, locals_read, unreachability_behind}
+use Rattle.wasm_flat.proofs.Fronts.{locals-append, unreachability-append}
 use Rattle.walrus_flat.specs.declared.open_sequence.OpenSequence.{OpenSequence}
-use Rattle.walrus_flat.specs.Checked.{AreFrames, CheckState, deadness_of, marks, Passes}
+use Rattle.walrus_flat.specs.Checked.{AreFrames, CheckState, unreachability_of, marks, Passes}
 use Rattle.walrus_flat.proofs.CheckedFronts.{ReadsSo, goes_over}
 
 swap : (a b c : Bool) → (a || (b || c)) ≡ ((b || a) || c)
@@ -31,7 +31,7 @@ swap false false c = refl
 module _ {V : Type 0} (given : Setting V) (bytes : List ℕ) (before : ℕ → Bool) where
   -- the locals that live operators named, and those before
   abbrev pub names_so : List Occurrence → ℕ → Bool
-  names_so operators x = among x (locals_read first_deadness (marks operators)) || before x
+  names_so operators x = among x (locals_read first_unreachability (marks operators)) || before x
 
   -- These operators were read, and sequences are open.
   pub record ChecksSo (s : CheckState) (v : V) (place : ℕ) (rest : List ℕ) : Type 0 where
@@ -40,7 +40,7 @@ module _ {V : Type 0} (given : Setting V) (bytes : List ℕ) (before : ℕ → B
     pub sequence : Sequence Occurrence
     pub reads : ReadsSo given bytes (Within layers sequence) v place rest operators
     pub frames : AreFrames given.environment.types s.frames (frames_of layers)
-    pub dead : deadness_of s ≡ deadness_behind first_deadness (marks operators)
+    pub unreachable : unreachability_of s ≡ unreachability_behind first_unreachability (marks operators)
     pub used : (x : ℕ) → s.used x ≡ names_so operators x
 
   -- These operators were read, and are a body.
@@ -61,25 +61,25 @@ module _ {V : Type 0} (given : Setting V) (bytes : List ℕ) (before : ℕ → B
     abbrev one : Marked Named
     one = mark_named (name_at this)
 
-    dead_more : deadness_of new ≡ deadness_behind first_deadness (marks (so.operators ++ this ∷ []))
-    dead_more =
-        passes.dead
-        ∙ (ap (λ d. deadness_after d (control_of passes.named)) so.dead
-        ∙ (sym (deadness-append (marks so.operators) (one ∷ []) first_deadness) ∙ ap (deadness_behind first_deadness) (sym (marks_more so.operators this))))
+    unreachable_more : unreachability_of new ≡ unreachability_behind first_unreachability (marks (so.operators ++ this ∷ []))
+    unreachable_more =
+        passes.unreachable
+        ∙ (ap (λ d. unreachability_after d (control_of passes.named)) so.unreachable
+        ∙ (sym (unreachability-append (marks so.operators) (one ∷ []) first_unreachability) ∙ ap (unreachability_behind first_unreachability) (sym (marks_more so.operators this))))
 
     used_more : (x : ℕ) → new.used x ≡ names_so (so.operators ++ this ∷ []) x
     used_more x =
-        let d = deadness_behind first_deadness (marks so.operators) in
-        let here : live_locals s.dead one ≡ live_locals d.dead one = ap (λ (k : Deadness). live_locals k.dead one) so.dead in
-        let all : locals_read first_deadness (marks (so.operators ++ this ∷ [])) ≡ locals_read first_deadness (marks so.operators) ++ live_locals d.dead one =
-        ap (locals_read first_deadness) (marks_more so.operators this)
-        ∙ (locals-append (marks so.operators) (one ∷ []) first_deadness ∙ ap (λ l. locals_read first_deadness (marks so.operators) ++ l) (append-nil (live_locals d.dead one))) in
-        let parts : among x (locals_read first_deadness (marks (so.operators ++ this ∷ []))) ≡ (among x (locals_read first_deadness (marks so.operators)) || among x (live_locals d.dead one)) =
-        ap (among x) all ∙ list_any-append _ (locals_read first_deadness (marks so.operators)) (live_locals d.dead one) in
+        let d = unreachability_behind first_unreachability (marks so.operators) in
+        let here : live_locals s.unreachable one ≡ live_locals d.unreachable one = ap (λ (k : Unreachability). live_locals k.unreachable one) so.unreachable in
+        let all : locals_read first_unreachability (marks (so.operators ++ this ∷ [])) ≡ locals_read first_unreachability (marks so.operators) ++ live_locals d.unreachable one =
+        ap (locals_read first_unreachability) (marks_more so.operators this)
+        ∙ (locals-append (marks so.operators) (one ∷ []) first_unreachability ∙ ap (λ l. locals_read first_unreachability (marks so.operators) ++ l) (append-nil (live_locals d.unreachable one))) in
+        let parts : among x (locals_read first_unreachability (marks (so.operators ++ this ∷ []))) ≡ (among x (locals_read first_unreachability (marks so.operators)) || among x (live_locals d.unreachable one)) =
+        ap (among x) all ∙ list_any-append _ (locals_read first_unreachability (marks so.operators)) (live_locals d.unreachable one) in
         passes.used this.location x
         ∙ (ap (λ l. among x l || s.used x) here
-        ∙ (ap (λ b. among x (live_locals d.dead one) || b) (so.used x)
-        ∙ (swap (among x (live_locals d.dead one)) (among x (locals_read first_deadness (marks so.operators))) (before x) ∙ ap (λ b. b || before x) (sym parts))))
+        ∙ (ap (λ b. among x (live_locals d.unreachable one) || b) (so.used x)
+        ∙ (swap (among x (live_locals d.unreachable one)) (among x (locals_read first_unreachability (marks so.operators))) (before x) ∙ ap (λ b. b || before x) (sym parts))))
 
     frames_more : progress_frames (further (Within so.layers so.sequence) (mark this)) ≡ moves (control_of passes.named) this (frames_of so.layers)
     frames_more = further_frames (Within so.layers so.sequence) (mark this)
@@ -103,7 +103,7 @@ module _ {V : Type 0} (given : Setting V) (bytes : List ℕ) (before : ℕ → B
               sequence = t;
               reads = subst (λ p. ReadsSo given bytes p w next after (so.operators ++ this ∷ [])) e reads;
               frames = passes.frames this refl (frames_of ls) (sym frames_more ∙ ap progress_frames e);
-              dead = dead_more;
+              unreachable = unreachable_more;
               used = used_more;
             })
         by_progress (Whole b) e =

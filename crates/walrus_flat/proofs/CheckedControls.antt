@@ -16,8 +16,8 @@ use Rattle.walrus_flat.specs.declared.open_sequence.OpenSequence.{OpenSequence}
 use Rattle.walrus_flat.specs.declared.control.Control.{Control}
 use Rattle.walrus_flat.specs.declared.control.Control.TheVariants as control
 use Rattle.walrus_flat.specs.Controls.{control_listed}
-use Rattle.walrus_flat.specs.Checked.{env_of, StaysSame, ChecksAtOnce}
-use Rattle.walrus_flat.specs.Checkers.{ClosesInner, Opens, BeginsConstruct}
+use Rattle.walrus_flat.specs.Checked.{env_of_checker, StaysSame, ChecksAtOnce}
+use Rattle.walrus_flat.specs.Checkers.{ClosesInner, OpensSequence, BeginsConstruct}
 use Rattle.walrus_flat.proofs.NoParts.{at_opener}
 use Rattle.walrus_flat.proofs.CheckerOperators.{at_block, at_loop, at_if, at_end, same_opening, same_end}
 
@@ -35,20 +35,20 @@ some_around old new top was two none =
 
 module _ (old new : Checker) where
   -- an opener with the empty block type
-  empty_signature : (s : Signature) → name_block (env_of old) Empty ≡ Ok s → signature [] [] ≡ s
+  empty_signature : (s : Signature) → name_block (env_of_checker old) Empty ≡ Ok s → signature [] [] ≡ s
   empty_signature s named = cc named
 
-  begins : (o : Listed) (byte : ℕ) → meaning o ≡ operation (Byte byte) (block Empty ∷ []) → (k : BlockKind) → Opens old new k (Simple None) → BeginsConstruct old new (meaning o) k Empty
+  begins : (o : Listed) (byte : ℕ) → meaning o ≡ operation (Byte byte) (block Empty ∷ []) → (k : BlockKind) → OpensSequence old new k (Simple None) → BeginsConstruct old new (meaning o) k Empty
   begins o byte is k opens = record {
     parts = at_opener o byte Empty is true (λ env. refl) old;
     type = Simple None;
     has_type = λ s named. ap (λ (t : Signature). Some t) (empty_signature s named);
-    picks = λ s named. subst (λ (t : Signature). has_pick (env_of old) t ≡ Ok tt) (empty_signature s named) refl;
+    picks = λ s named. subst (λ (t : Signature). has_pick (env_of_checker old) t ≡ Ok tt) (empty_signature s named) refl;
     opens = opens;
   }
 
-  opened_inside : (k : BlockKind) → Opens old new k (Simple None) → new.«open».items ≢ []
-  opened_inside k opens none = some_with old.«open».items (record { kind = k; ty = Simple None; before = old.dead }) (sym opens.opens ∙ none)
+  opened_inside : (k : BlockKind) → OpensSequence old new k (Simple None) → new.«open».items ≢ []
+  opened_inside k opens none = some_with old.«open».items (record { kind = k; ty = Simple None; before = old.unreachable }) (sym opens.opens ∙ none)
 
   module _ (some : old.«open».items ≢ []) (c : Control) (b : Bool) where
     abbrev Steps : Control → Type 0
@@ -57,28 +57,28 @@ module _ (old new : Checker) where
     abbrev Inside : Type 0
     Inside = OnTrue b (new.«open».items ≢ [])
 
-    pub block_at_once : c ≡ control.Block → OnTrue b (Opens old new kind.Block (Simple None)) → OnFalse b (StaysSame old new) → Steps c
+    pub block_at_once : c ≡ control.Block → OnTrue b (OpensSequence old new kind.Block (Simple None)) → OnFalse b (StaysSame old new) → Steps c
     block_at_once is done same = subst Steps (sym is) (by_result b done same)
       where
-        by_result : (r : Bool) → OnTrue r (Opens old new kind.Block (Simple None)) → OnFalse r (StaysSame old new) → ChecksAtOnce old new (meaning (op.Block Empty)) r
+        by_result : (r : Bool) → OnTrue r (OpensSequence old new kind.Block (Simple None)) → OnFalse r (StaysSame old new) → ChecksAtOnce old new (meaning (op.Block Empty)) r
         by_result true opens same =
             let h = begins (op.Block Empty) 0x02 refl kind.Block opens in
             (at_block old new some (op.Block Empty) (Ok tt) Empty refl h tt, same_opening old new (meaning (op.Block Empty)) kind.Block Empty (Ok tt) h)
         by_result false opens same = same
 
-    pub loop_at_once : c ≡ control.Loop → OnTrue b (Opens old new kind.Loop (Simple None)) → OnFalse b (StaysSame old new) → Steps c
+    pub loop_at_once : c ≡ control.Loop → OnTrue b (OpensSequence old new kind.Loop (Simple None)) → OnFalse b (StaysSame old new) → Steps c
     loop_at_once is done same = subst Steps (sym is) (by_result b done same)
       where
-        by_result : (r : Bool) → OnTrue r (Opens old new kind.Loop (Simple None)) → OnFalse r (StaysSame old new) → ChecksAtOnce old new (meaning (op.Loop Empty)) r
+        by_result : (r : Bool) → OnTrue r (OpensSequence old new kind.Loop (Simple None)) → OnFalse r (StaysSame old new) → ChecksAtOnce old new (meaning (op.Loop Empty)) r
         by_result true opens same =
             let h = begins (op.Loop Empty) 0x03 refl kind.Loop opens in
             (at_loop old new some (op.Loop Empty) (Ok tt) Empty refl h tt, same_opening old new (meaning (op.Loop Empty)) kind.Loop Empty (Ok tt) h)
         by_result false opens same = same
 
-    pub if_at_once : c ≡ control.If → OnTrue b (Opens old new kind.If (Simple None)) → OnFalse b (StaysSame old new) → Steps c
+    pub if_at_once : c ≡ control.If → OnTrue b (OpensSequence old new kind.If (Simple None)) → OnFalse b (StaysSame old new) → Steps c
     if_at_once is done same = subst Steps (sym is) (by_result b done same)
       where
-        by_result : (r : Bool) → OnTrue r (Opens old new kind.If (Simple None)) → OnFalse r (StaysSame old new) → ChecksAtOnce old new (meaning (op.If Empty)) r
+        by_result : (r : Bool) → OnTrue r (OpensSequence old new kind.If (Simple None)) → OnFalse r (StaysSame old new) → ChecksAtOnce old new (meaning (op.If Empty)) r
         by_result true opens same =
             let h = begins (op.If Empty) 0x04 refl kind.If opens in
             (at_if old new some (op.If Empty) (Ok tt) Empty refl h tt, same_opening old new (meaning (op.If Empty)) kind.If Empty (Ok tt) h)
@@ -91,10 +91,10 @@ module _ (old new : Checker) where
         by_result true closes same = (at_end old new some op.End refl (Some closes.0) closes.1, same_end old new some (Some closes.0) closes.1)
         by_result false closes same = same
 
-    pub opens_inside : (k : BlockKind) → OnTrue b (Opens old new k (Simple None)) → Inside
+    pub opens_inside : (k : BlockKind) → OnTrue b (OpensSequence old new k (Simple None)) → Inside
     opens_inside k done = by_result b done
       where
-        by_result : (r : Bool) → OnTrue r (Opens old new k (Simple None)) → OnTrue r (new.«open».items ≢ [])
+        by_result : (r : Bool) → OnTrue r (OpensSequence old new k (Simple None)) → OnTrue r (new.«open».items ≢ [])
         by_result true opens = opened_inside k opens
         by_result false opens = tt
 

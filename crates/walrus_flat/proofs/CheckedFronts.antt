@@ -8,7 +8,7 @@ use Rattle.wasm_body.specs.declared.error.ParseError.{ParseError}
 use Rattle.wasm_body.specs.declared.error.ParseError.TheVariants.{Read, PlaceTooGreat, Checked, Trailing, MissingEnd}
 use Rattle.wasm_body.specs.declared.error.ParseFailure.{ParseFailure}
 use Rattle.wasm_body.specs.SourceTree.{Sequence, Body}
-use Rattle.wasm_body.specs.Frames.{Frame}
+use Rattle.wasm_body.specs.Frames.{SequenceFrame}
 use Rattle.wasm_body.specs.Naming.{NamedOperation, Occurrence, named_in}
 use Rattle.wasm_body.specs.Parsing.Accepted.{mark, location_at, has_location, Setting, Handled, handled}
 use Rattle.wasm_body.specs.Parsing.Lists.{failure, continue_from, parsed_from}
@@ -20,7 +20,7 @@ use Rattle.walrus_parser.proofs.ParsedSoFar.{progress-append}
 module _ {V : Type 0} (given : Setting V) where
   -- ---- the next operator, by the conditions that are tried in turn
 
-  module _ (v : V) (fs : List (Frame Occurrence)) (place : ℕ) (bytes : List ℕ) where
+  module _ (v : V) (fs : List (SequenceFrame Occurrence)) (place : ℕ) (bytes : List ℕ) where
     abbrev next : Result (Handled V) ParseError
     next = handled given v fs place bytes
 

@@ -10,23 +10,23 @@ use Rattle.wasm_body.specs.declared.error.ParseError.{ParseError}
 use Rattle.wasm_body.specs.declared.error.ParseError.TheVariants.{Memory, Read, Trailing, MissingEnd}
 use Rattle.wasm_body.specs.declared.error.ParseFailure.{ParseFailure}
 use Rattle.wasm_body.specs.SourceTree.{Empty}
-use Rattle.wasm_body.specs.Frames.{Frame, OfFunction, moves}
+use Rattle.wasm_body.specs.Frames.{SequenceFrame, OfFunction, moves}
 use Rattle.wasm_body.specs.Naming.{Occurrence, named_in}
 use Rattle.wasm_body.specs.Parsing.Progress.{Layer, frames_of}
 use Rattle.walrus_ir.specs.Types.{ModuleType}
 use Rattle.std.proofs.lemmas.List.{reverse-reverse}
-use Rattle.wasm_flat.specs.Flat.{deadness}
+use Rattle.wasm_flat.specs.Flat.{unreachability}
 use Rattle.walrus_flat.specs.declared.open_sequence.OpenSequence.{OpenSequence}
 use Rattle.wasm_body.specs.Parsing.Accepted.{Setting, has_location}
 use Rattle.wasm_body.specs.Parsing.Lists.{failure}
 use Rattle.walrus_instructions.specs.OperatorKinds.{is_instruction}
-use Rattle.walrus_parser.specs.OperatorKinds.{is_diverging}
+use Rattle.walrus_parser.specs.OperatorKinds.{makes_unreachable}
 use Rattle.walrus_parser.specs.Advancing.{occurrence}
 use Rattle.walrus_parser.proofs.Roles.{fate_of_operator}
 use Rattle.walrus_flat.specs.declared.checker.Checker.{Checker}
-use Rattle.walrus_flat.specs.Checked.{env_of, AreFrames, state_of, Passes, StaysSame}
+use Rattle.walrus_flat.specs.Checked.{env_of_checker, AreFrames, check_state_of, Passes, StaysSame}
 use Rattle.walrus_flat.specs.Checkers.{used_in}
-use Rattle.walrus_flat.specs.CheckedBody.{HasLimit, fits_limit, BeginsBody, setting_at, parsed_here, ChecksBody, RefusesTaking, IsTaken, ChecksNext, ChecksNextAtOnce}
+use Rattle.walrus_flat.specs.CheckedBody.{HasLimit, fits_limit, BeginsBody, setting_at, parsed_here, ChecksBody, RefusesTaking, IsValidated, ChecksNext, ChecksNextAtOnce}
 use Rattle.walrus_flat.proofs.CheckedFronts.{begins, unread, too_great, refused, unnamed, named, stops, missing, trailing, complete}
 use Rattle.walrus_flat.proofs.CheckedBodies.{ChecksSo, ChecksWhole, continues}
 use Rattle.walrus_flat.proofs.CheckedSteps.{alone_named, does}
@@ -48,7 +48,7 @@ some_locations true = (None, tt)
 some_locations false = (Some (λ place. place), tt)
 
 -- a frame is open
-some_frame : (ls : List (Layer Occurrence)) → (g : Frame Occurrence) × (gs : List (Frame Occurrence)) × (frames_of ls ≡ g ∷ gs)
+some_frame : (ls : List (Layer Occurrence)) → (g : SequenceFrame Occurrence) × (gs : List (SequenceFrame Occurrence)) × (frames_of ls ≡ g ∷ gs)
 some_frame [] = (_, _, refl)
 some_frame (l ∷ ls) = (_, _, refl)
 
@@ -58,12 +58,12 @@ is_memory _ = inr (λ h. cc)
 
 module _ {V : Type 0} (start : ℕ) (check : V → Placed → Result V ℕ) (v0 : V) (limit : Bool) (bytes : List ℕ) (first : Checker) where
   abbrev given : Option (ℕ → ℕ) → Setting V
-  given = setting_at (env_of first) start check v0
+  given = setting_at (env_of_checker first) start check v0
 
   pub record SoFar (c : Checker) (v : V) (place : ℕ) (rest : List ℕ) : Type 0 where
-    pub env : env_of c ≡ env_of first
+    pub env : env_of_checker c ≡ env_of_checker first
     pub inside : c.«open».items ≢ []
-    pub checks : (locations : Option (ℕ → ℕ)) → HasLimit limit locations → ChecksSo (given locations) bytes (used_in first) (state_of c) v place rest
+    pub checks : (locations : Option (ℕ → ℕ)) → HasLimit limit locations → ChecksSo (given locations) bytes (used_in first) (check_state_of c) v place rest
 
   pub begins_loop : BeginsBody first → SoFar first v0 start bytes
   begins_loop b = record {
@@ -74,8 +74,8 @@ module _ {V : Type 0} (start : ℕ) (check : V → Placed → Result V ℕ) (v0 
       layers = [];
       sequence = Empty;
       reads = begins (given locations) bytes;
-      frames = subst (λ l. AreFrames (env_of first).types (reverse l) (OfFunction ∷ [])) (sym b.opens) (b.kind_is, tt);
-      dead = (λ i. deadness (b.dead i) (map (λ (f : OpenSequence). f.before) (reverse (b.opens i)))) ∙ ap (λ d. deadness false (d ∷ [])) b.before;
+      frames = subst (λ l. AreFrames (env_of_checker first).types (reverse l) (OfFunction ∷ [])) (sym b.opens) (b.kind_is, tt);
+      unreachable = (λ i. unreachability (b.unreachable i) (map (λ (f : OpenSequence). f.before) (reverse (b.opens i)))) ∙ ap (λ d. unreachability false (d ∷ [])) b.before;
       used = λ x. refl;
     };
   }
@@ -83,32 +83,32 @@ module _ {V : Type 0} (start : ℕ) (check : V → Placed → Result V ℕ) (v0 
   -- nothing changed but memory
   pub still : (c mid : Checker) (v w : V) (place : ℕ) (rest : List ℕ) → StaysSame c mid → w ≡ v → SoFar c v place rest → SoFar mid w place rest
   still c mid v w place rest same state so = record {
-    env = ap env_of same.is ∙ so.env;
+    env = ap env_of_checker same.is ∙ so.env;
     inside = still_some c mid same so.inside;
-    checks = λ locations h. subst (λ k. ChecksSo (given locations) bytes (used_in first) (state_of mid) k place rest) (sym state)
+    checks = λ locations h. subst (λ k. ChecksSo (given locations) bytes (used_in first) (check_state_of mid) k place rest) (sym state)
         (subst (λ s. ChecksSo (given locations) bytes (used_in first) s v place rest) (sym (same_state c mid same)) (so.checks locations h));
   }
 
-  module _ (c new : Checker) (v w : V) (place next : ℕ) (rest after : List ℕ) (o : RawOperation) (so : SoFar c v place rest) (read : read_operation rest ≡ Ok (o, after)) (taken : IsTaken check v w o limit place) where
+  module _ (c new : Checker) (v w : V) (place next : ℕ) (rest after : List ℕ) (o : RawOperation) (so : SoFar c v place rest) (read : read_operation rest ≡ Ok (o, after)) (taken : IsValidated check v w o limit place) where
     -- the frames of the open sequences
-    frames_at : (locations : Option (ℕ → ℕ)) (h : HasLimit limit locations) → AreFrames (env_of c).types (state_of c).frames (frames_of (so.checks locations h).layers)
-    frames_at locations h = subst (λ e. AreFrames e.types (state_of c).frames (frames_of (so.checks locations h).layers)) (sym so.env) (so.checks locations h).frames
+    frames_at : (locations : Option (ℕ → ℕ)) (h : HasLimit limit locations) → AreFrames (env_of_checker c).types (check_state_of c).frames (frames_of (so.checks locations h).layers)
+    frames_at locations h = subst (λ e. AreFrames e.types (check_state_of c).frames (frames_of (so.checks locations h).layers)) (sym so.env) (so.checks locations h).frames
 
     fits : (locations : Option (ℕ → ℕ)) → HasLimit limit locations → has_location locations place ≡ true
     fits locations h = has_fit limit locations place h ∙ taken.fits
 
-    module _ (passes : (fs : List (Frame Occurrence)) → AreFrames (env_of c).types (state_of c).frames fs → Passes (env_of c) (state_of c) (state_of new) fs o)
+    module _ (passes : (fs : List (SequenceFrame Occurrence)) → AreFrames (env_of_checker c).types (check_state_of c).frames fs → Passes (env_of_checker c) (check_state_of c) (check_state_of new) fs o)
         (moved : next + length after ≡ place + length rest) (shorter : length after < length rest) where
       step_on : (locations : Option (ℕ → ℕ)) → HasLimit limit locations →
-          ChecksSo (given locations) bytes (used_in first) (state_of new) w next after ⊎ ChecksWhole (given locations) bytes (used_in first) (state_of new) w next after
+          ChecksSo (given locations) bytes (used_in first) (check_state_of new) w next after ⊎ ChecksWhole (given locations) bytes (used_in first) (check_state_of new) w next after
       step_on locations h =
           let s = so.checks locations h in
-          let p = subst (λ e. Passes e (state_of c) (state_of new) (frames_of s.layers) o) so.env (passes (frames_of s.layers) (frames_at locations h)) in
-          continues (given locations) bytes (used_in first) (state_of c) (state_of new) v w place next rest after s o p
+          let p = subst (λ e. Passes e (check_state_of c) (check_state_of new) (frames_of s.layers) o) so.env (passes (frames_of s.layers) (frames_at locations h)) in
+          continues (given locations) bytes (used_in first) (check_state_of c) (check_state_of new) v w place next rest after s o p
           (named (given locations) v (frames_of s.layers) place rest o after read (fits locations h) w p.named taken.accepts p.is_named) moved shorter
 
       -- sequences are open
-      pub stays : env_of new ≡ env_of c → new.«open».items ≢ [] → SoFar new w next after
+      pub stays : env_of_checker new ≡ env_of_checker c → new.«open».items ≢ [] → SoFar new w next after
       stays same inside = record {
         env = same ∙ so.env;
         inside = inside;
@@ -119,9 +119,9 @@ module _ {V : Type 0} (start : ℕ) (check : V → Placed → Result V ℕ) (v0 
       }
 
       -- the body is complete
-      whole_at : new.«open».items ≡ [] → (locations : Option (ℕ → ℕ)) → HasLimit limit locations → ChecksWhole (given locations) bytes (used_in first) (state_of new) w next after
+      whole_at : new.«open».items ≡ [] → (locations : Option (ℕ → ℕ)) → HasLimit limit locations → ChecksWhole (given locations) bytes (used_in first) (check_state_of new) w next after
       whole_at none locations h = elim (step_on locations h) [
-        | inl more ↦ absurd (no_frames (env_of first).types more.layers (subst (λ l. AreFrames (env_of first).types (reverse l) (frames_of more.layers)) none more.frames))
+        | inl more ↦ absurd (no_frames (env_of_checker first).types more.layers (subst (λ l. AreFrames (env_of_checker first).types (reverse l) (frames_of more.layers)) none more.frames))
         | inr whole ↦ whole
       ]
 
@@ -134,7 +134,7 @@ module _ {V : Type 0} (start : ℕ) (check : V → Placed → Result V ℕ) (v0 
       goes_past none more locations h = let k = whole_at none locations h in trailing (given locations) bytes k.body w next after k.operators k.reads more
 
     -- the operator breaks a rule
-    pub breaks : (e : ParseError) (some : 0 < length rest) → ((fs : List (Frame Occurrence)) → AreFrames (env_of c).types (state_of c).frames fs → (e ≡ Memory) ⊎ (named_in (env_of c) fs o ≡ Err e)) →
+    pub breaks : (e : ParseError) (some : 0 < length rest) → ((fs : List (SequenceFrame Occurrence)) → AreFrames (env_of_checker c).types (check_state_of c).frames fs → (e ≡ Memory) ⊎ (named_in (env_of_checker c) fs o ≡ Err e)) →
         (f : ParseFailure) → f ≡ failure e place → (f.error ≡ Memory) ⊎ ((locations : Option (ℕ → ℕ)) → HasLimit limit locations → parsed_here (given locations) bytes ≡ Err f)
     breaks e some refuses f is = elim (is_memory e) [
       | inl memory ↦ inl (ap (λ (g : ParseFailure). g.error) is ∙ memory)
@@ -188,16 +188,16 @@ module _ {V : Type 0} (start : ℕ) (check : V → Placed → Result V ℕ) (v0 
 
     module _ (new : Checker) (x : Listed) (kind : is_instruction x ≡ true) where
       -- sequences stay open
-      stays_inside : ((fs : List (Frame Occurrence)) → AreFrames (env_of c).types (state_of c).frames fs → Passes (env_of c) (state_of c) (state_of new) fs (meaning x)) → new.«open».items ≢ []
+      stays_inside : ((fs : List (SequenceFrame Occurrence)) → AreFrames (env_of_checker c).types (check_state_of c).frames fs → Passes (env_of_checker c) (check_state_of c) (check_state_of new) fs (meaning x)) → new.«open».items ≢ []
       stays_inside passes none =
-          let env = env_of c in
+          let env = env_of_checker c in
           let some = some_locations limit in
           let s = so.checks some.0 some.1 in
           let f = some_frame s.layers in
-          let are : AreFrames env.types (state_of c).frames (f.0 ∷ f.1) = subst (AreFrames env.types (state_of c).frames) f.2 (subst (λ e. AreFrames e.types (state_of c).frames (frames_of s.layers)) (sym so.env) s.frames) in
+          let are : AreFrames env.types (check_state_of c).frames (f.0 ∷ f.1) = subst (AreFrames env.types (check_state_of c).frames) f.2 (subst (λ e. AreFrames e.types (check_state_of c).frames (frames_of s.layers)) (sym so.env) s.frames) in
           let p = passes (f.0 ∷ f.1) are in
           let role = fate_of_operator x kind in
-          let d = does env f.0 f.1 (meaning x) (is_diverging x) role p.named (sym (alone_named env f.0 f.1 (meaning x) (is_diverging x) role) ∙ p.is_named) in
+          let d = does env f.0 f.1 (meaning x) (makes_unreachable x) role p.named (sym (alone_named env f.0 f.1 (meaning x) (makes_unreachable x) role) ∙ p.is_named) in
           let this = occurrence (meaning x) place 0 p.named in
           subst (λ l. AreFrames env.types (reverse l) (f.0 ∷ f.1)) none (p.frames this refl (f.0 ∷ f.1) (ap (λ k. moves k this (f.0 ∷ f.1)) d.does))
 

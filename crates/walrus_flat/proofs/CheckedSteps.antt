@@ -12,7 +12,7 @@ use Rattle.wasm_operators.specs.declared.types.BlockType.{BlockType}
 use Rattle.wasm_operators.specs.Operations.{Immediate, RawImmediate, local, block, operation, RawOperation}
 use Rattle.wasm_body.specs.declared.error.ParseError.{ParseError}
 use Rattle.wasm_body.specs.Control.{Construct, Block, Loop, TryTable, If, Try, Control, Does, Opens, role_of, control_of}
-use Rattle.wasm_body.specs.Frames.{Frame, frame_opened, moves}
+use Rattle.wasm_body.specs.Frames.{SequenceFrame, frame_opened, moves}
 use Rattle.wasm_body.specs.Translation.{Translation, translate, translate_immediate, translate_immediates, at_location}
 use Rattle.wasm_body.specs.Naming.{Environment, NamedOperation, Occurrence, naming, name_block, block_signature, has_pick, named_in}
 use Rattle.wasm_body.specs.NormalForm.{Fate, fate}
@@ -23,9 +23,9 @@ use Rattle.wasm_body.proofs.Translation.Kinds.{kind_in, kind_kept, through, at_o
 use Rattle.wasm_body.proofs.Translation.LocalsKept.{before, first_local, IsNoLocal, no_local}
 use Rattle.walrus_parser.proofs.Roles.{DoesAs, does_as, fate_by, fate_of_role}
 use Rattle.walrus_parser.proofs.Rules.{named_alone}
-use Rattle.wasm_flat.specs.Flat.{deadness, deadness_after, plain_deadness, unless_dropped, own_locals, live_locals}
+use Rattle.wasm_flat.specs.Flat.{unreachability, unreachability_after, plain_unreachability, unless_dropped, own_locals, live_locals}
 use Rattle.walrus_flat.specs.declared.open_sequence.OpenSequence.{OpenSequence}
-use Rattle.walrus_flat.specs.Checked.{IsWrapper, IsFrame, AreFrames, CheckState, deadness_of, Passes}
+use Rattle.walrus_flat.specs.Checked.{IsWrapper, IsFrame, AreFrames, CheckState, unreachability_of, Passes}
 
 -- ---- locals
 
@@ -45,13 +45,13 @@ module _ {L B M C E : Type 0} (t : Translation L B M C E) where
 
 -- ---- deadness
 
-plain_is : (d cut : Bool) → (cut || d) ≡ plain_deadness d (fate_by cut)
+plain_is : (d unreachable_after : Bool) → (unreachable_after || d) ≡ plain_unreachability d (fate_by unreachable_after)
 plain_is true true = refl
 plain_is true false = refl
 plain_is false true = refl
 plain_is false false = refl
 
-unless_kept : (cut : Bool) (f : Fate) (ls : List ℕ) → f ≡ fate_by cut → unless_dropped f ls ≡ ls
+unless_kept : (unreachable_after : Bool) (f : Fate) (ls : List ℕ) → f ≡ fate_by unreachable_after → unless_dropped f ls ≡ ls
 unless_kept true f ls e = ap (λ g. unless_dropped g ls) e
 unless_kept false f ls e = ap (λ g. unless_dropped g ls) e
 
@@ -63,11 +63,11 @@ live_is false x named location ls e = ap (among x) (sym e)
 -- an operator that names no local adds none
 pub none_live : (d : Bool) (x : ℕ) (b : Bool) (named : NamedOperation) (location : ℕ) → own_locals (control_of named) (at_location named location) ≡ [] →
     b ≡ (among x (live_locals d (mark_named (at_location named location))) || b)
-none_live d x b named location e = by_dead d
+none_live d x b named location e = by_unreachable d
   where
-    by_dead : (k : Bool) → b ≡ (among x (live_locals k (mark_named (at_location named location))) || b)
-    by_dead true = refl
-    by_dead false = ap (λ ls. among x ls || b) (sym e)
+    by_unreachable : (k : Bool) → b ≡ (among x (live_locals k (mark_named (at_location named location))) || b)
+    by_unreachable true = refl
+    by_unreachable false = ap (λ ls. among x ls || b) (sym e)
 
 -- kinds of the first sequences of constructs
 abbrev pub IsOpenedAs : BlockKind → Construct → Type 0
@@ -77,7 +77,7 @@ IsOpenedAs k (TryTable cs) = IsWrapper k
 IsOpenedAs k If = k ≡ kind.If
 IsOpenedAs k Try = k ≡ kind.Try
 
-module _ (env : Environment) (g : Frame Occurrence) (gs : List (Frame Occurrence)) where
+module _ (env : Environment) (g : SequenceFrame Occurrence) (gs : List (SequenceFrame Occurrence)) where
   -- ---- an operator by itself
 
   -- the immediates of the name
@@ -87,23 +87,23 @@ module _ (env : Environment) (g : Frame Occurrence) (gs : List (Frame Occurrence
       let b = bound (translate_immediates (naming env (g ∷ gs)) o.immediates) (λ is. Ok (operation o.opcode is)) named e in
       let made : operation o.opcode b.0 ≡ named = cc b.2 in (b.0, b.1, sym made)
 
-  module _ (o : RawOperation) (cut : Bool) (role : fate_of_role (role_of o.opcode) ≡ Some (fate_by cut)) where
-    pub does : (named : NamedOperation) → translate (naming env (g ∷ gs)) o ≡ Ok named → DoesAs (control_of named) (fate_by cut)
+  module _ (o : RawOperation) (unreachable_after : Bool) (role : fate_of_role (role_of o.opcode) ≡ Some (fate_by unreachable_after)) where
+    pub does : (named : NamedOperation) → translate (naming env (g ∷ gs)) o ≡ Ok named → DoesAs (control_of named) (fate_by unreachable_after)
     does named e =
         let m = named_immediates o named e in
-        let d = does_as (role_of o.opcode) (fate_by cut) m.0 role in
+        let d = does_as (role_of o.opcode) (fate_by unreachable_after) m.0 role in
         record { action = d.action; does = ap control_of m.2 ∙ d.does; has_fate = d.has_fate }
 
-    raw : DoesAs (control_of o) (fate_by cut)
-    raw = does_as (role_of o.opcode) (fate_by cut) o.immediates role
+    raw : DoesAs (control_of o) (fate_by unreachable_after)
+    raw = does_as (role_of o.opcode) (fate_by unreachable_after) o.immediates role
 
     pub alone_named : named_in env (g ∷ gs) o ≡ translate (naming env (g ∷ gs)) o
     alone_named = named_alone env g gs o raw.action raw.does (λ named e. let d = does named e in (d.action, d.does))
 
     pub passes_alone : (old new : CheckState) → AreFrames env.types old.frames (g ∷ gs) → (named : NamedOperation) → translate (naming env (g ∷ gs)) o ≡ Ok named →
-        new.frames ≡ old.frames → new.dead ≡ (cut || old.dead) → ((x : ℕ) → new.used x ≡ (cond old.dead false (among x (locals_among named.immediates)) || old.used x)) →
+        new.frames ≡ old.frames → new.unreachable ≡ (unreachable_after || old.unreachable) → ((x : ℕ) → new.used x ≡ (cond old.unreachable false (among x (locals_among named.immediates)) || old.used x)) →
         Passes env old new (g ∷ gs) o
-    passes_alone old new are named e frames dead used =
+    passes_alone old new are named e frames unreachable used =
         let d = does named e in
         record {
           named = named;
@@ -112,13 +112,13 @@ module _ (env : Environment) (g : Frame Occurrence) (gs : List (Frame Occurrence
               let stays : moves (Does d.action) x (g ∷ gs) ≡ Some hs = subst (λ c. moves c x (g ∷ gs) ≡ Some hs) d.does m in
               let same : g ∷ gs ≡ hs = cc stays in
               subst (AreFrames env.types new.frames) same (subst (λ fs. AreFrames env.types fs (g ∷ gs)) (sym frames) are);
-          dead =
-              (λ i. deadness ((dead ∙ (plain_is old.dead cut ∙ ap (plain_deadness old.dead) (sym d.has_fate))) i) (map (λ (f : OpenSequence). f.before) (frames i)))
-              ∙ ap (deadness_after (deadness_of old)) (sym d.does);
+          unreachable =
+              (λ i. unreachability ((unreachable ∙ (plain_is old.unreachable unreachable_after ∙ ap (plain_unreachability old.unreachable) (sym d.has_fate))) i) (map (λ (f : OpenSequence). f.before) (frames i)))
+              ∙ ap (unreachability_after (unreachability_of old)) (sym d.does);
           used = λ location x.
               let own : own_locals (control_of named) (at_location named location) ≡ locals_among named.immediates =
-              ap (λ c. own_locals c (at_location named location)) d.does ∙ unless_kept cut (fate d.action) (locals_among named.immediates) d.has_fate in
-              used x ∙ ap (λ b. b || old.used x) (live_is old.dead x named location (locals_among named.immediates) own);
+              ap (λ c. own_locals c (at_location named location)) d.does ∙ unless_kept unreachable_after (fate d.action) (locals_among named.immediates) d.has_fate in
+              used x ∙ ap (λ b. b || old.used x) (live_is old.unreachable x named location (locals_among named.immediates) own);
         }
 
   -- ---- openers
@@ -158,31 +158,31 @@ module _ (env : Environment) (g : Frame Occurrence) (gs : List (Frame Occurrence
   pub passes_opener : (old new : CheckState) (o : RawOperation) (c d : Construct) (k : BlockKind) (t : InstrSeqType) (named : NamedOperation) → AreFrames env.types old.frames (g ∷ gs) →
       control_of o ≡ Opens c → translate (naming env (g ∷ gs)) o ≡ Ok named → control_of named ≡ Opens d → has_pick env (block_signature named) ≡ Ok tt →
       signature_of_type env.types t ≡ Some (block_signature named) → IsOpenedAs k d → locals_among named.immediates ≡ [] →
-      new.frames ≡ record { kind = k; ty = t; before = old.dead } ∷ old.frames → new.dead ≡ old.dead → ((x : ℕ) → new.used x ≡ old.used x) → Passes env old new (g ∷ gs) o
-  passes_opener old new o c d k t named are raw e is picks typed opened none frames dead used =
+      new.frames ≡ record { kind = k; ty = t; before = old.unreachable } ∷ old.frames → new.unreachable ≡ old.unreachable → ((x : ℕ) → new.used x ≡ old.used x) → Passes env old new (g ∷ gs) o
+  passes_opener old new o c d k t named are raw e is picks typed opened none frames unreachable used =
       record {
         named = named;
         is_named = opener_named o c d named raw e is ∙ ap (λ r. r >>= λ _. Ok named) picks;
         frames = λ x n hs m.
             let goes : moves (Opens d) x (g ∷ gs) ≡ Some hs = subst (λ q. moves q x (g ∷ gs) ≡ Some hs) is m in
             let same : frame_opened x d ∷ g ∷ gs ≡ hs = cc goes in
-            let whole : AreFrames env.types (record { kind = k; ty = t; before = old.dead } ∷ old.frames) (frame_opened x d ∷ g ∷ gs) =
-            (opened_frame (record { kind = k; ty = t; before = old.dead }) d x opened (typed ∙ ap (λ (q : NamedOperation). Some (block_signature q)) (sym n)), are) in
+            let whole : AreFrames env.types (record { kind = k; ty = t; before = old.unreachable } ∷ old.frames) (frame_opened x d ∷ g ∷ gs) =
+            (opened_frame (record { kind = k; ty = t; before = old.unreachable }) d x opened (typed ∙ ap (λ (q : NamedOperation). Some (block_signature q)) (sym n)), are) in
             subst (AreFrames env.types new.frames) same (subst (λ fs. AreFrames env.types fs (frame_opened x d ∷ g ∷ gs)) (sym frames) whole);
-        dead = (λ i. deadness (dead i) (map (λ (f : OpenSequence). f.before) (frames i))) ∙ ap (deadness_after (deadness_of old)) (sym is);
-        used = λ location x. used x ∙ none_live old.dead x (old.used x) named location (ap (λ q. own_locals q (at_location named location)) is ∙ none);
+        unreachable = (λ i. unreachability (unreachable i) (map (λ (f : OpenSequence). f.before) (frames i))) ∙ ap (unreachability_after (unreachability_of old)) (sym is);
+        used = λ location x. used x ∙ none_live old.unreachable x (old.used x) named location (ap (λ q. own_locals q (at_location named location)) is ∙ none);
       }
 
   -- ---- operators that part or close a construct
 
   pub passes_other : (old new : CheckState) (o : RawOperation) (named : NamedOperation) (c : Control) → named_in env (g ∷ gs) o ≡ Ok named → control_of named ≡ c →
-      ((x : Occurrence) (hs : List (Frame Occurrence)) → moves c x (g ∷ gs) ≡ Some hs → AreFrames env.types new.frames hs) → deadness_of new ≡ deadness_after (deadness_of old) c →
+      ((x : Occurrence) (hs : List (SequenceFrame Occurrence)) → moves c x (g ∷ gs) ≡ Some hs → AreFrames env.types new.frames hs) → unreachability_of new ≡ unreachability_after (unreachability_of old) c →
       ((location : ℕ) → own_locals c (at_location named location) ≡ []) → ((x : ℕ) → new.used x ≡ old.used x) → Passes env old new (g ∷ gs) o
-  passes_other old new o named c is_named control frames dead none used =
+  passes_other old new o named c is_named control frames unreachable none used =
       record {
         named = named;
         is_named = is_named;
         frames = λ x n hs m. frames x hs (subst (λ q. moves q x (g ∷ gs) ≡ Some hs) control m);
-        dead = dead ∙ ap (deadness_after (deadness_of old)) (sym control);
-        used = λ location x. used x ∙ none_live old.dead x (old.used x) named location (ap (λ q. own_locals q (at_location named location)) control ∙ none location);
+        unreachable = unreachable ∙ ap (unreachability_after (unreachability_of old)) (sym control);
+        used = λ location x. used x ∙ none_live old.unreachable x (old.used x) named location (ap (λ q. own_locals q (at_location named location)) control ∙ none location);
       }

@@ -19,7 +19,7 @@ use Rattle.wasm_body.specs.Parsing.Progress.{Whole, nothing_read, progress_after
 use Rattle.wasm_body.proofs.Parsing.ParseResults.{ParseResults, parse_results}
 use Rattle.wasm_body.proofs.Structure.ReadTexts.{IsRead, read_text, text_read}
 use Rattle.walrus_parser.specs.Settings.{operators_of}
-use Rattle.wasm_flat.specs.Flat.{first_deadness, locals_read}
+use Rattle.wasm_flat.specs.Flat.{first_unreachability, locals_read}
 use Rattle.walrus_flat.specs.declared.checker.Checker.{Checker}
 use Rattle.walrus_flat.specs.Checked.{marks}
 use Rattle.walrus_flat.specs.Checkers.{used_in}
@@ -47,9 +47,9 @@ module _ {V : Type 0} (given : Option (ℕ → ℕ) → Setting V) (limit : Bool
         accepted = accepted_of (given locations) bytes id (entry locations) fits k.body k.is_parsed;
         used_is = λ x.
             k.used x
-            ∙ (ap (λ b. among x (locals_read first_deadness (marks k.operators)) || b) (none x)
-            ∙ (or-false (among x (locals_read first_deadness (marks k.operators)))
-            ∙ ap (λ xs. among x (locals_read first_deadness (marks xs))) (read_operators k.operators k.body k.are_read)));
+            ∙ (ap (λ b. among x (locals_read first_unreachability (marks k.operators)) || b) (none x)
+            ∙ (or-false (among x (locals_read first_unreachability (marks k.operators)))
+            ∙ ap (λ xs. among x (locals_read first_unreachability (marks xs))) (read_operators k.operators k.body k.are_read)));
       }
   checks_all (Err f) (inl memory) = inl memory
   checks_all (Err f) (inr h) = inr (λ locations has. fault_of (given locations) bytes id (entry locations) fits f (h locations has))

@@ -10,14 +10,14 @@ use Rattle.wasm_operators.specs.declared.operator.Op.TheVariants as op
 use Rattle.wasm_operators.specs.Meaning.{Listed, meaning}
 use Rattle.wasm_ops.specs.declared.common.CommonOperator.{CommonOperator}
 use Rattle.wasm_ops.specs.declared.common.CommonOperator.TheVariants as common
-use Rattle.wasm_ops.specs.CommonOperators.{listed}
+use Rattle.wasm_ops.specs.CommonOperators.{common_listed}
 use Rattle.walrus_maps.specs.IndexMaps.{id_of}
 use Rattle.walrus_instructions.specs.OperatorKinds.{is_instruction}
-use Rattle.walrus_parser.specs.OperatorKinds.{is_diverging}
+use Rattle.walrus_parser.specs.OperatorKinds.{makes_unreachable}
 use Rattle.walrus_flat.specs.declared.checker.Checker.{Checker}
-use Rattle.walrus_flat.specs.Checked.{env_of, state_of, StepsChecker, StaysSame, ChecksAtOnce}
+use Rattle.walrus_flat.specs.Checked.{env_of_checker, check_state_of, StepsChecker, StaysSame, ChecksAtOnce}
 use Rattle.walrus_flat.specs.UsedLocals.{is_found}
-use Rattle.walrus_flat.specs.Checkers.{parts_in, NamesLocal, Takes}
+use Rattle.walrus_flat.specs.Checkers.{parts_in, NamesLocal, TakesOperator}
 use Rattle.walrus_flat.proofs.CheckerOperators.{at_local_get, at_local_set, at_local_tee, at_other, at_drop, at_i32, at_i64, at_unary, at_binary}
 
 -- ---- results
@@ -33,7 +33,7 @@ when_false false f = f refl
 -- ---- marks of locals
 
 -- a local that is used already adds nothing
-pub used_already : (dead : Bool) (used : ℕ → Bool) (id x : ℕ) → used id ≡ true → used x ≡ (cond dead false (x == id) || used x)
+pub used_already : (unreachable : Bool) (used : ℕ → Bool) (id x : ℕ) → used id ≡ true → used x ≡ (cond unreachable false (x == id) || used x)
 used_already true used id x h = refl
 used_already false used id x h = again (x == id) (used x) (λ same. ap used (eqb-true x id same) ∙ h)
   where
@@ -43,8 +43,8 @@ used_already false used id x h = again (x == id) (used x) (λ same. ap used (eqb
 
 -- ---- what isn't taken at once
 
-pub same_state : (old mid : Checker) → StaysSame old mid → state_of mid ≡ state_of old
-same_state old mid same = λ i. record { frames = reverse (same.is i).«open».items; dead = (same.is i).dead; used = λ x. same.used x i }
+pub same_state : (old mid : Checker) → StaysSame old mid → check_state_of mid ≡ check_state_of old
+same_state old mid same = λ i. record { frames = reverse (same.is i).«open».items; unreachable = (same.is i).unreachable; used = λ x. same.used x i }
 
 pub still_some : (old mid : Checker) → StaysSame old mid → old.«open».items ≢ [] → mid.«open».items ≢ []
 still_some old mid same some none = some (sym (ap (λ (k : Checker). k.«open».items) same.is) ∙ none)
@@ -52,7 +52,7 @@ still_some old mid same some none = some (sym (ap (λ (k : Checker). k.«open».
 -- ---- common operators
 
 -- each is an operator by itself
-pub is_alone : (c : CommonOperator) → is_instruction (listed c) ≡ true
+pub is_alone : (c : CommonOperator) → is_instruction (common_listed c) ≡ true
 is_alone (common.LocalGet n) = refl
 is_alone _ = refl
 
@@ -61,21 +61,21 @@ module _ (old new : Checker) (some : old.«open».items ≢ []) (x : Listed) whe
 
   module _ (n : ℕ) where
     pub get_at_once : x ≡ op.LocalGet n → (b : Bool) → OnTrue b (NamesLocal old new n) → OnFalse b (StaysSame old new) → ChecksAtOnce old new (meaning x) b
-    get_at_once is true done same = (at_local_get old new some x (Ok tt) n is done tt, ap env_of done.is)
+    get_at_once is true done same = (at_local_get old new some x (Ok tt) n is done tt, ap env_of_checker done.is)
     get_at_once is false done same = same
 
     pub set_at_once : x ≡ op.LocalSet n → (b : Bool) → OnTrue b (NamesLocal old new n) → OnFalse b (StaysSame old new) → ChecksAtOnce old new (meaning x) b
-    set_at_once is true done same = (at_local_set old new some x (Ok tt) n is done tt, ap env_of done.is)
+    set_at_once is true done same = (at_local_set old new some x (Ok tt) n is done tt, ap env_of_checker done.is)
     set_at_once is false done same = same
 
     pub tee_at_once : x ≡ op.LocalTee n → (b : Bool) → OnTrue b (NamesLocal old new n) → OnFalse b (StaysSame old new) → ChecksAtOnce old new (meaning x) b
-    tee_at_once is true done same = (at_local_tee old new some x (Ok tt) n is done tt, ap env_of done.is)
+    tee_at_once is true done same = (at_local_tee old new some x (Ok tt) n is done tt, ap env_of_checker done.is)
     tee_at_once is false done same = same
 
   -- an operator by itself whose parts exist
   taken_at_once : is_instruction x ≡ true → ((n : ℕ) → x ≢ op.LocalGet n) → ((n : ℕ) → x ≢ op.LocalSet n) → ((n : ℕ) → x ≢ op.LocalTee n) →
-      Takes old new (meaning x) (is_diverging x) → StepsChecker old new (meaning x) (Ok tt)
-  taken_at_once i g s t takes = (at_other old new some x (Ok tt) i g s t takes tt, ap env_of takes.is)
+      TakesOperator old new (meaning x) (makes_unreachable x) → StepsChecker old new (meaning x) (Ok tt)
+  taken_at_once i g s t takes = (at_other old new some x (Ok tt) i g s t takes tt, ap env_of_checker takes.is)
 
 module _ (old : Checker) where
   pub same_checker : StaysSame old old
@@ -102,10 +102,10 @@ module _ (old : Checker) (some : old.«open».items ≢ []) (x : Listed) where
 module _ (old : Checker) (some : old.«open».items ≢ []) where
   -- ---- operators with an index or a label
 
-  by_parts : (x : Listed) (b : Bool) → is_instruction x ≡ true → ((n : ℕ) → x ≢ op.LocalGet n) → ((n : ℕ) → x ≢ op.LocalSet n) → ((n : ℕ) → x ≢ op.LocalTee n) → is_diverging x ≡ false →
+  by_parts : (x : Listed) (b : Bool) → is_instruction x ≡ true → ((n : ℕ) → x ≢ op.LocalGet n) → ((n : ℕ) → x ≢ op.LocalSet n) → ((n : ℕ) → x ≢ op.LocalTee n) → makes_unreachable x ≡ false →
       (b ≡ true → IsOk (parts_in old (meaning x))) → ChecksAtOnce old old (meaning x) b
   by_parts x true i g s t stays parts =
-      taken_at_once old old some x i g s t (record { parts = parts refl; is = ap (λ d. record old { dead = d || old.dead }) (sym stays) })
+      taken_at_once old old some x i g s t (record { parts = parts refl; is = ap (λ d. record old { unreachable = d || old.unreachable }) (sym stays) })
   by_parts x false i g s t stays parts = same_checker old
 
   found : {A E : Type 0} (r : Result A E) → is_found r ≡ true → (a : A) × (r ≡ Ok a)
@@ -142,8 +142,8 @@ module _ (old : Checker) (some : old.«open».items ≢ []) where
   pub no_br : (n : ℕ) → ChecksAtOnce old old (meaning (op.Br n)) false
   no_br n = same_checker old
 
-  pub br_at_once : (n : ℕ) → nat_lt n (length (reverse old.«open».items)) ≡ true → ChecksAtOnce old (record old { dead = true }) (meaning (op.Br n)) true
-  br_at_once n is = taken_at_once old (record old { dead = true }) some (op.Br n) refl (λ m h. cc) (λ m h. cc) (λ m h. cc) (record { parts = rw is refl; is = refl })
+  pub br_at_once : (n : ℕ) → nat_lt n (length (reverse old.«open».items)) ≡ true → ChecksAtOnce old (record old { unreachable = true }) (meaning (op.Br n)) true
+  br_at_once n is = taken_at_once old (record old { unreachable = true }) some (op.Br n) refl (λ m h. cc) (λ m h. cc) (λ m h. cc) (record { parts = rw is refl; is = refl })
 
 -- an operator that is listed in another way
 pub as_listed : (old new : Checker) (b : Bool) (x y : Listed) → x ≡ y → ChecksAtOnce old new (meaning y) b → ChecksAtOnce old new (meaning x) b

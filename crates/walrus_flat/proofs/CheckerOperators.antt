@@ -15,15 +15,15 @@ use Rattle.wasm_operators.specs.Meaning.{Listed, meaning}
 use Rattle.wasm_operators.specs.Operations.{CatchClause, RawOperation, clauses, i32, i64, operation}
 use Rattle.wasm_body.specs.declared.error.ParseError.{ParseError}
 use Rattle.wasm_body.specs.declared.error.ParseError.TheVariants.{Memory}
-use Rattle.wasm_body.specs.Control.{Block, Loop, If, Try, TryTable, catches}
+use Rattle.wasm_body.specs.Control.{Block, Loop, If, Try, TryTable, catch_list}
 use Rattle.wasm_body.specs.Naming.{naming}
 use Rattle.walrus_instructions.specs.OperatorKinds.{is_instruction}
-use Rattle.walrus_parser.specs.OperatorKinds.{is_diverging}
+use Rattle.walrus_parser.specs.OperatorKinds.{makes_unreachable}
 use Rattle.walrus_parser.proofs.Roles.{fate_of_operator}
 use Rattle.walrus_flat.specs.declared.checker.Checker.{Checker}
 use Rattle.walrus_flat.specs.declared.open_sequence.OpenSequence.{OpenSequence}
-use Rattle.walrus_flat.specs.Checked.{env_of}
-use Rattle.walrus_flat.specs.Checkers.{parts_in, Closes, BeginsConstruct, RefusesConstruct, PartsIf, RefusesElse, PartsTry, RefusesClause, ClosesTry, RefusesDelegate, NamesLocal, RefusesLocal, Takes}
+use Rattle.walrus_flat.specs.Checked.{env_of_checker}
+use Rattle.walrus_flat.specs.Checkers.{parts_in, ClosesSequence, BeginsConstruct, RefusesConstruct, PartsIf, RefusesElse, PartsTry, RefusesClause, ClosesTry, RefusesDelegate, NamesLocal, RefusesLocal, TakesOperator}
 use Rattle.walrus_flat.proofs.CheckedOperators.{none_unary, none_binary, none_of_operator, unary_same, binary_same}
 use Rattle.walrus_flat.proofs.CheckerSteps.{Steps, steps_opener, steps_alone, steps_else, steps_end, steps_delegate, steps_catch, steps_catch_all, steps_local, steps_plain, steps_nop}
 
@@ -51,7 +51,7 @@ module _ (old new : Checker) (some : old.«open».items ≢ []) (x : Listed) (r 
   pub at_try_table : (b : BlockType) (cs : List (CatchClause ℕ)) → x ≡ op.TryTable b cs → Opening kind.TryTable b x
   at_try_table b cs is =
       subst (Opening kind.TryTable b) (sym is)
-      (steps_opener old new some (meaning (op.TryTable b cs)) b (clauses cs ∷ []) kind.TryTable (TryTable (catches (meaning (op.TryTable b cs)).immediates)) (λ js. TryTable (catches js)) refl refl (λ js. refl) (λ js. tt) refl r)
+      (steps_opener old new some (meaning (op.TryTable b cs)) b (clauses cs ∷ []) kind.TryTable (TryTable (catch_list (meaning (op.TryTable b cs)).immediates)) (λ js. TryTable (catch_list js)) refl refl (λ js. refl) (λ js. tt) refl r)
 
   -- ---- operators that part or close a construct
 
@@ -82,11 +82,11 @@ module _ (old new : Checker) (some : old.«open».items ≢ []) (x : Listed) (r 
   at_local_tee n is ok err = subst Is (sym is) (steps_local old new some 0x22 n refl r ok err)
 
   pub at_other : is_instruction x ≡ true → ((n : ℕ) → x ≢ op.LocalGet n) → ((n : ℕ) → x ≢ op.LocalSet n) → ((n : ℕ) → x ≢ op.LocalTee n) →
-      OnOk r (Takes old new (meaning x) (is_diverging x)) → IfErr r (λ e. (e ≡ Memory) ⊎ (parts_in old (meaning x) ≡ Err e)) → Is x
-  at_other i g s t ok err = steps_alone old new some (meaning x) (is_diverging x) (fate_of_operator x i) (none_of_operator x g s t) r ok err
+      OnOk r (TakesOperator old new (meaning x) (makes_unreachable x)) → IfErr r (λ e. (e ≡ Memory) ⊎ (parts_in old (meaning x) ≡ Err e)) → Is x
+  at_other i g s t ok err = steps_alone old new some (meaning x) (makes_unreachable x) (fate_of_operator x i) (none_of_operator x g s t) r ok err
 
 -- an `end`
-pub at_end : (old new : Checker) (some : old.«open».items ≢ []) (x : Listed) → x ≡ op.End → (r : Option OpenSequence) → MatchOption r (old.«open».items ≡ []) (Closes old new) → Steps old new some (meaning x) (Ok tt)
+pub at_end : (old new : Checker) (some : old.«open».items ≢ []) (x : Listed) → x ≡ op.End → (r : Option OpenSequence) → MatchOption r (old.«open».items ≡ []) (ClosesSequence old new) → Steps old new some (meaning x) (Ok tt)
 at_end old new some x is (Some top) closes = subst (λ o. Steps old new some (meaning o) (Ok tt)) (sym is) (steps_end old new some top closes)
 at_end old new some x is None none = absurd (some none)
 
@@ -111,44 +111,44 @@ module _ (old : Checker) (some : old.«open».items ≢ []) (x : Listed) where
   at_unary u is =
       subst Stays (sym is)
       (steps_plain old some (meaning (op.Unop u)) (operation (unary_opcode u) (extract_lane u))
-      (λ g hs. ap (λ s. s >>= λ js. Ok (operation (unary_opcode u) js)) (unary_same (naming (env_of old) (g ∷ hs)) u)) (fate_of_operator (op.Unop u) refl) (none_unary ℕ Signature u))
+      (λ g hs. ap (λ s. s >>= λ js. Ok (operation (unary_opcode u) js)) (unary_same (naming (env_of_checker old) (g ∷ hs)) u)) (fate_of_operator (op.Unop u) refl) (none_unary ℕ Signature u))
 
   pub at_binary : (u : BinaryOp) → x ≡ op.Binop u → Stays x
   at_binary u is =
       subst Stays (sym is)
       (steps_plain old some (meaning (op.Binop u)) (operation (binary_opcode u) (replace_lane u))
-      (λ g hs. ap (λ s. s >>= λ js. Ok (operation (binary_opcode u) js)) (binary_same (naming (env_of old) (g ∷ hs)) u)) (fate_of_operator (op.Binop u) refl) (none_binary ℕ Signature u))
+      (λ g hs. ap (λ s. s >>= λ js. Ok (operation (binary_opcode u) js)) (binary_same (naming (env_of_checker old) (g ∷ hs)) u)) (fate_of_operator (op.Binop u) refl) (none_binary ℕ Signature u))
 
 -- ---- the environment stays
 
 module _ (old new : Checker) where
   abbrev IsSame : Type 0
-  IsSame = env_of new ≡ env_of old
+  IsSame = env_of_checker new ≡ env_of_checker old
 
   pub same_opening : (o : RawOperation) (k : BlockKind) (b : BlockType) (r : Result (Unit {0}) ParseError) → OnOk r (BeginsConstruct old new o k b) → OnOk r IsSame
-  same_opening o k b (Ok u) h = ap env_of h.opens.is
+  same_opening o k b (Ok u) h = ap env_of_checker h.opens.is
   same_opening o k b (Err e) h = tt
 
   pub same_else : (r : Result (Unit {0}) ParseError) → OnOk r (PartsIf old new) → OnOk r IsSame
-  same_else (Ok u) h = ap env_of h.parts.is
+  same_else (Ok u) h = ap env_of_checker h.parts.is
   same_else (Err e) h = tt
 
   pub same_clause : (tag : Option ℕ) (r : Result (Unit {0}) ParseError) → OnOk r (PartsTry old new tag) → OnOk r IsSame
-  same_clause tag (Ok u) h = ap env_of h.parts.is
+  same_clause tag (Ok u) h = ap env_of_checker h.parts.is
   same_clause tag (Err e) h = tt
 
   pub same_delegate : (o : RawOperation) (r : Result (Unit {0}) ParseError) → OnOk r (ClosesTry old new o) → OnOk r IsSame
-  same_delegate o (Ok u) h = ap env_of h.is
+  same_delegate o (Ok u) h = ap env_of_checker h.is
   same_delegate o (Err e) h = tt
 
   pub same_local : (n : ℕ) (r : Result (Unit {0}) ParseError) → OnOk r (NamesLocal old new n) → OnOk r IsSame
-  same_local n (Ok u) h = ap env_of h.is
+  same_local n (Ok u) h = ap env_of_checker h.is
   same_local n (Err e) h = tt
 
-  pub same_taken : (o : RawOperation) (cut : Bool) (r : Result (Unit {0}) ParseError) → OnOk r (Takes old new o cut) → OnOk r IsSame
-  same_taken o cut (Ok u) h = ap env_of h.is
-  same_taken o cut (Err e) h = tt
+  pub same_taken : (o : RawOperation) (unreachable_after : Bool) (r : Result (Unit {0}) ParseError) → OnOk r (TakesOperator old new o unreachable_after) → OnOk r IsSame
+  same_taken o unreachable_after (Ok u) h = ap env_of_checker h.is
+  same_taken o unreachable_after (Err e) h = tt
 
-  pub same_end : old.«open».items ≢ [] → (r : Option OpenSequence) → MatchOption r (old.«open».items ≡ []) (Closes old new) → IsSame
-  same_end some (Some top) h = ap env_of h.is
+  pub same_end : old.«open».items ≢ [] → (r : Option OpenSequence) → MatchOption r (old.«open».items ≡ []) (ClosesSequence old new) → IsSame
+  same_end some (Some top) h = ap env_of_checker h.is
   same_end some None h = absurd (some h)

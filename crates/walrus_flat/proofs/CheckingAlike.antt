@@ -11,14 +11,14 @@ use Rattle.wasm_operators.specs.declared.types.BlockType.{BlockType}
 use Rattle.wasm_operators.specs.Operations.{Immediate, operation, RawOperation}
 use Rattle.wasm_body.specs.declared.error.ParseError.{ParseError}
 use Rattle.wasm_body.specs.declared.error.ParseError.TheVariants.{Index, NoSuchLabel, RethrowOutsideHandler}
-use Rattle.wasm_body.specs.Frames.{Frame, OfFunction, OfWrapper, Consequent, Alternative, TryBody, Handler, HandlerOfAll, is_handler, handler_at, outside}
+use Rattle.wasm_body.specs.Frames.{SequenceFrame, OfFunction, OfWrapper, Consequent, Alternative, TryBody, Handler, HandlerOfAll, is_handler, handler_at, outside}
 use Rattle.wasm_body.specs.Translation.{translate, translate_immediates}
 use Rattle.wasm_body.specs.Naming.{Environment, NamedOperation, Occurrence, naming, id_at, name_block, handler_label}
 use Rattle.wasm_body.proofs.Translation.Outcomes.{outcome, Alike, AreAlike, translate_alike}
-use Rattle.wasm_translate.specs.Changes.{changing, changed}
+use Rattle.wasm_translate.specs.Changes.{changing, changed_operator}
 use Rattle.walrus_context.specs.Placing.{is_handler_kind}
 use Rattle.walrus_flat.specs.declared.open_sequence.OpenSequence.{OpenSequence}
-use Rattle.walrus_flat.specs.Checked.{IsWrapper, IsFrame, AreFrames, handler_in, checking_changes}
+use Rattle.walrus_flat.specs.Checked.{IsWrapper, IsFrame, AreFrames, open_handler, checking_changes}
 
 -- ---- frames
 
@@ -29,7 +29,7 @@ wrapper_kind kind.TryTable h = refl
 wrapper_kind _ h = absurd h
 
 module _ (types : List ModuleType) where
-  handler_kind : (f : OpenSequence) (g : Frame Occurrence) → IsFrame types f g → is_handler_kind f.kind ≡ is_handler g
+  handler_kind : (f : OpenSequence) (g : SequenceFrame Occurrence) → IsFrame types f g → is_handler_kind f.kind ≡ is_handler g
   handler_kind f OfFunction h = ap is_handler_kind h
   handler_kind f (OfWrapper a) h = wrapper_kind f.kind h.0
   handler_kind f (Consequent a) h = ap is_handler_kind h.0
@@ -38,23 +38,23 @@ module _ (types : List ModuleType) where
   handler_kind f (Handler a) h = ap is_handler_kind h.0
   handler_kind f (HandlerOfAll a) h = ap is_handler_kind h.0
 
-  pub same_length : (fs : List OpenSequence) (gs : List (Frame Occurrence)) → AreFrames types fs gs → length fs ≡ length gs
+  pub same_length : (fs : List OpenSequence) (gs : List (SequenceFrame Occurrence)) → AreFrames types fs gs → length fs ≡ length gs
   same_length [] [] h = refl
   same_length (f ∷ fs) (g ∷ gs) h = ap suc (same_length fs gs h.1)
   same_length [] (g ∷ gs) h = absurd h
   same_length (f ∷ fs) [] h = absurd h
 
-  outside_length : (fs : List OpenSequence) (gs : List (Frame Occurrence)) → AreFrames types fs gs → length (drop 1 fs) ≡ length (outside gs)
+  outside_length : (fs : List OpenSequence) (gs : List (SequenceFrame Occurrence)) → AreFrames types fs gs → length (drop 1 fs) ≡ length (outside gs)
   outside_length [] [] h = refl
   outside_length (f ∷ fs) (g ∷ gs) h = same_length fs gs h.1
   outside_length [] (g ∷ gs) h = absurd h
   outside_length (f ∷ fs) [] h = absurd h
 
   -- the sequence that a depth names
-  abbrev IsSeen : List OpenSequence → List (Frame Occurrence) → ℕ → Type 0
+  abbrev IsSeen : List OpenSequence → List (SequenceFrame Occurrence) → ℕ → Type 0
   IsSeen fs gs n = (f : OpenSequence) × (slice_get fs n ≡ Some f) × (is_handler_kind f.kind ≡ handler_at gs n)
 
-  seen_at : (fs : List OpenSequence) (gs : List (Frame Occurrence)) → AreFrames types fs gs → (n : ℕ) → n < length gs → IsSeen fs gs n
+  seen_at : (fs : List OpenSequence) (gs : List (SequenceFrame Occurrence)) → AreFrames types fs gs → (n : ℕ) → n < length gs → IsSeen fs gs n
   seen_at [] [] h n l = absurd (omega (arith, l))
   seen_at (f ∷ fs) (g ∷ gs) h zero l = (f, refl, handler_kind f g h.0)
   seen_at (f ∷ fs) (g ∷ gs) h (suc n) l = seen_at fs gs h.1 n (omega (arith, l))
@@ -63,7 +63,7 @@ module _ (types : List ModuleType) where
 
 -- ---- parts
 
-module _ (env : Environment) (fs : List OpenSequence) (gs : List (Frame Occurrence)) (are : AreFrames env.types fs gs) where
+module _ (env : Environment) (fs : List OpenSequence) (gs : List (SequenceFrame Occurrence)) (are : AreFrames env.types fs gs) where
   kept_alike : (r : Result ℕ ParseError) (n : ℕ) → Alike {B = ℕ} (let s : Result ℕ ParseError = r >>= (λ id. Ok n) in s) r
   kept_alike (Ok id) n = refl
   kept_alike (Err e) n = refl
@@ -73,17 +73,17 @@ module _ (env : Environment) (fs : List OpenSequence) (gs : List (Frame Occurren
   block_alike (Err e) b = refl
 
   handler_alike : (n : ℕ) (b : Bool) → nat_lt n (length gs) ≡ b →
-      Alike {E = ParseError} (let r : Result ℕ ParseError = handler_in fs n >>= (λ u. Ok n) in r) (handler_label gs n)
+      Alike {E = ParseError} (let r : Result ℕ ParseError = open_handler fs n >>= (λ u. Ok n) in r) (handler_label gs n)
   handler_alike n true is =
       let s = seen_at env.types fs gs are n (ltb-true n (length gs) is) in
       let named : Bool → Result ℕ ParseError = λ b. unless b RethrowOutsideHandler >>= λ u. Ok n in
-      let left : (let r : Result ℕ ParseError = handler_in fs n >>= (λ u. Ok n) in r) ≡ named (is_handler_kind s.0.kind) =
+      let left : (let r : Result ℕ ParseError = open_handler fs n >>= (λ u. Ok n) in r) ≡ named (is_handler_kind s.0.kind) =
       ap (λ (o : Option OpenSequence). (some_or o NoSuchLabel >>= λ f. unless (is_handler_kind f.kind) RethrowOutsideHandler) >>= λ u. Ok n) s.1 in
       let right : handler_label gs n ≡ named (handler_at gs n) = ap (λ b. (unless b NoSuchLabel >>= λ u. Ok n) >>= λ m. named (handler_at gs n)) is in
       ap outcome (left ∙ (ap named s.2 ∙ sym right))
   handler_alike n false is =
       let past : slice_get fs n ≡ None = slice_get_past fs n (omega (arith, ltb-false n (length gs) is, same_length env.types fs gs are)) in
-      let left : (let r : Result ℕ ParseError = handler_in fs n >>= (λ u. Ok n) in r) ≡ Err NoSuchLabel =
+      let left : (let r : Result ℕ ParseError = open_handler fs n >>= (λ u. Ok n) in r) ≡ Err NoSuchLabel =
       ap (λ (o : Option OpenSequence). (some_or o NoSuchLabel >>= λ f. unless (is_handler_kind f.kind) RethrowOutsideHandler) >>= λ u. Ok n) past in
       let right : handler_label gs n ≡ Err NoSuchLabel = ap (λ b. (unless b NoSuchLabel >>= λ u. Ok n) >>= λ m. unless (handler_at gs n) RethrowOutsideHandler >>= λ u. Ok n) is in
       ap outcome (left ∙ sym right)
@@ -103,7 +103,7 @@ module _ (env : Environment) (fs : List OpenSequence) (gs : List (Frame Occurren
   -- ---- an operator
 
   -- the parts of an operator that were checked have names
-  pub named_too : (o checked : RawOperation) → changed (checking_changes env fs) o ≡ Ok checked → (named : NamedOperation) × (translate (naming env gs) o ≡ Ok named)
+  pub named_too : (o checked : RawOperation) → changed_operator (checking_changes env fs) o ≡ Ok checked → (named : NamedOperation) × (translate (naming env gs) o ≡ Ok named)
   named_too o checked e =
       by_results (translate_immediates (changing (checking_changes env fs)) o.immediates) (translate_immediates (naming env gs) o.immediates)
       (translate_alike (changing (checking_changes env fs)) (naming env gs) checking_alike o.immediates) e
@@ -115,7 +115,7 @@ module _ (env : Environment) (fs : List OpenSequence) (gs : List (Frame Occurren
       by_results (Err f) t a e = absurd cc
 
   -- or the same fault
-  pub refused_too : (o : RawOperation) (f : ParseError) → changed (checking_changes env fs) o ≡ Err f → translate (naming env gs) o ≡ Err f
+  pub refused_too : (o : RawOperation) (f : ParseError) → changed_operator (checking_changes env fs) o ≡ Err f → translate (naming env gs) o ≡ Err f
   refused_too o f e =
       by_results (translate_immediates (changing (checking_changes env fs)) o.immediates) (translate_immediates (naming env gs) o.immediates)
       (translate_alike (changing (checking_changes env fs)) (naming env gs) checking_alike o.immediates) e

@@ -69,7 +69,7 @@ written_as_is old w new o p ty location is e same stays (Err f) ok err = inl err
 none_waiting : (n : Next) → waiting_location n ≡ None → (waiting_else n ≡ []) × (awake_next n ≡ n)
 none_waiting next.Live e = (refl, refl)
 none_waiting (next.Waits l) e = absurd cc
-none_waiting next.Dead e = (refl, refl)
+none_waiting next.Unreachable e = (refl, refl)
 
 pub nothing_waits : (w : Writer) → waiting_location w.«open».next ≡ None → w ≡ record w { draft = drafted w.draft (waiting_else w.«open».next); «open» = awake w.«open» }
 nothing_waits w e =
@@ -80,7 +80,7 @@ nothing_waits w e =
 one_waiting : (n : Next) (l : ℕ) → waiting_location n ≡ Some l → (at_location else_operation l ∷ [] ≡ waiting_else n) × (next.Live ≡ awake_next n)
 one_waiting next.Live l e = absurd cc
 one_waiting (next.Waits k) l e = let same : k ≡ l = cc e in (ap (λ m. at_location else_operation m ∷ []) (sym same), refl)
-one_waiting next.Dead l e = absurd cc
+one_waiting next.Unreachable l e = absurd cc
 
 pub else_waited : (w new : Writer) (l : ℕ) → waiting_location w.«open».next ≡ Some l → new ≡ record w { draft = with_written w.draft (at_location else_operation l); «open» = record w.«open» { next = next.Live } } →
     new ≡ record w { draft = drafted w.draft (waiting_else w.«open».next); «open» = awake w.«open» }

@@ -16,7 +16,7 @@ use Rattle.wasm_body.specs.Naming.{Occurrence, entry_type_id}
 use Rattle.wasm_body.specs.NormalForm.{typing_of, body_tree}
 use Rattle.wasm_body.specs.Bytes.{Numbers, bytes_of}
 use Rattle.wasm_body.specs.Pairs.{pairs_from}
-use Rattle.wasm_body.specs.LocalNumbers.{AreDeclared, ids_of, uses_local, with_locals}
+use Rattle.wasm_body.specs.LocalNumbers.{AreDeclared, ids_of, uses_local, numbering_locals}
 use Rattle.wasm_body.specs.LocationLaws.{BalanceAlike}
 use Rattle.wasm_body.specs.EmissionFaults.{AreIdNumbers}
 use Rattle.wasm_body.specs.Parsing.Accepted.{HasSpelling, placed, validated, Accepted}
@@ -28,7 +28,7 @@ use Rattle.walrus_parser.specs.Bodies.{ParseInput, setting_with, mapped_by, Refu
 use Rattle.walrus_parser.specs.Settings.{BothOrNone, operators_of, IsMapping}
 use Rattle.walrus_parser.proofs.Mappings.{mapped_both}
 use Rattle.walrus_emit_state.specs.TreeWriting.Drafts.{Drafted}
-use Rattle.walrus_rewrite.specs.RawBodies.{EmitInput, IsRawBody, Begins, IsNotBegun, HasNoRawBody, undeclared}
+use Rattle.walrus_rewrite.specs.RawBodies.{EmitInput, IsRawBody, BeginsRawBody, IsNotBegun, HasNoRawBody, undeclared}
 use Rattle.walrus_rewrite.specs.RewrittenBodies.{IsAcceptedAs, RefusesRewriting}
 use Rattle.walrus_rewrite.specs.declared.error.RewriteError.TheVariants.{Emit}
 use Rattle.walrus_ir.specs.declared.module.Module.{Module}
@@ -37,11 +37,11 @@ use Rattle.walrus_numbering.specs.EmittedLocals.{HasNoDeclarations}
 use Rattle.walrus_numbering.specs.NumberMaps.{numbers_by}
 use Rattle.walrus_rewrite.proofs.ParsedBodies.{are_id_numbers, no_parsed_body}
 use Rattle.walrus_rewrite.proofs.RawBodyLemmas.{same_numbers}
-use Rattle.wasm_flat.specs.Flat.{first_deadness, locals_read}
+use Rattle.wasm_flat.specs.Flat.{first_unreachability, locals_read}
 use Rattle.walrus_flat.specs.Checked.{marks}
 use Rattle.walrus_flat.specs.CheckedBody.{HasLimit, AcceptsUsing, ChecksAll}
 use Rattle.walrus_flat.specs.Laws.{written_of, reads_local}
-use Rattle.walrus_flat.specs.WrittenBody.{some_locations, IsAccepted, WritesBody, RefusesWriting}
+use Rattle.walrus_flat.specs.WrittenBody.{some_locations, IsAcceptedBody, WritesBody, RefusesWriting}
 use Rattle.walrus_flat.specs.RewrittenFlat.{read_again, begun_draft, emit_input, is_none, Composes, WritesAll, IsNotAllWritten, out_of_memory, not_begun as all_not_begun, not_written as all_not_written}
 use Rattle.walrus_flat.proofs.Accepting.{accepted_of}
 use Rattle.walrus_flat.proofs.CheckedWhole.{read_operators}
@@ -92,7 +92,7 @@ module _ {S F : Type 0} (asks : Shared F (Bor ℕ × Unit {0}) ℕ) (i : ParseIn
     abbrev with_some : AcceptsUsing (setting_with i (some_locations i.on_instr_pos)) i.bytes used
     with_some = checks (some_locations i.on_instr_pos) (limited i.on_instr_pos (some_locations i.on_instr_pos) (both_some i.on_instr_pos))
 
-    pub is_accepted : IsAccepted (read_again i)
+    pub is_accepted : IsAcceptedBody (read_again i)
     is_accepted = record { body = with_some.body; accepted = accepted_again (some_locations i.on_instr_pos) with_some.body with_some.accepted }
 
     module _ (l : Option (ℕ → ℕ)) (a : AcceptsUsing (setting_with i l) i.bytes used) where
@@ -106,7 +106,7 @@ module _ {S F : Type 0} (asks : Shared F (Bor ℕ × Unit {0}) ℕ) (i : ParseIn
       operators_are = read_operators xs a.body (ap (progress_after nothing_read) a.accepted.lawful.is_body ∙ body_read a.body)
 
       used_is : used ≡ reads_local xs
-      used_is = λ k. λ x. (a.used_is x ∙ ap (λ ys. among x (locals_read first_deadness (marks ys))) (sym operators_are)) k
+      used_is = λ k. λ x. (a.used_is x ∙ ap (λ ys. among x (locals_read first_unreachability (marks ys))) (sym operators_are)) k
 
       tree_uses : used ≡ uses_local (body_tree i.environment a.body)
       tree_uses = used_is ∙ used_are i.environment xs a.body (lawful_named i.environment xs a.body spelt a.accepted.lawful).0
@@ -132,15 +132,15 @@ module _ {S F : Type 0} (asks : Shared F (Bor ℕ × Unit {0}) ℕ) (i : ParseIn
       not_begun ids e (inr h) =
           let is = tree_uses (some_locations i.on_instr_pos) with_some in no_body ids e (undeclared (subst (λ (u : ℕ → Bool). HasNoDeclarations by.to by.types by.args u e) is h))
 
-      module _ (encoder : List ℕ) (entries : List (ℕ × ℕ)) (begins : Begins by used encoder entries) (numbers : Numbers) (numbers_are : numbers ≡ with_locals by.to by.args (ids_of begins.declares.others)) where
+      module _ (encoder : List ℕ) (entries : List (ℕ × ℕ)) (begins : BeginsRawBody by used encoder entries) (numbers : Numbers) (numbers_are : numbers ≡ numbering_locals by.to by.args (ids_of begins.declares.others)) where
         pub not_written : AreIdNumbers by.to → (e : EmitError) → RefusesWriting asks (read_again i) numbers e → RefusesRewriting asks i by (Emit e)
         not_written ids e h =
             let l = some_locations i.on_instr_pos in
             let d = begins.declares in
             let a = with_some in
             let same = same_body l a h.accepted.body h.accepted.accepted in
-            let fault : written_of i.environment (with_locals by.to by.args (ids_of d.others)) a.accepted.operators ≡ Err e =
-            ap (λ ys. written_of i.environment (with_locals by.to by.args (ids_of d.others)) ys) (operators_are l a ∙ ap operators_of (sym same))
+            let fault : written_of i.environment (numbering_locals by.to by.args (ids_of d.others)) a.accepted.operators ≡ Err e =
+            ap (λ ys. written_of i.environment (numbering_locals by.to by.args (ids_of d.others)) ys) (operators_are l a ∙ ap operators_of (sym same))
             ∙ (ap (λ (k : Numbers). written_of i.environment k (operators_of h.accepted.body)) (sym numbers_are) ∙ h.fault) in
             inr (
               a.body,
@@ -159,8 +159,8 @@ module _ {S F : Type 0} (asks : Shared F (Bor ℕ × Unit {0}) ℕ) (i : ParseIn
             let id = is_ok (entry_type_id i.environment) a.accepted.lawful.entry in
             let same = same_body l a w.body (accepted_of (setting_with (read_again i) l) i.bytes id.0 id.1 fits w.body w.is_parsed) in
             let b = begins.declares in
-            let written : written_of i.environment (with_locals by.to by.args (ids_of b.others)) a.accepted.operators ≡ Ok w.operators =
-            ap (λ ys. written_of i.environment (with_locals by.to by.args (ids_of b.others)) ys) (operators_are l a ∙ ap operators_of (sym same))
+            let written : written_of i.environment (numbering_locals by.to by.args (ids_of b.others)) a.accepted.operators ≡ Ok w.operators =
+            ap (λ ys. written_of i.environment (numbering_locals by.to by.args (ids_of b.others)) ys) (operators_are l a ∙ ap operators_of (sym same))
             ∙ (ap (λ (k : Numbers). written_of i.environment k (operators_of w.body)) (sym numbers_are) ∙ w.are_written) in
             let raw = has_raw_body i.environment a.accepted.operators a.body (spelt l a) a.accepted.lawful by alike b.others begins.declarations
             (subst (λ (u : ℕ → Bool). AreDeclared by.types by.args u b.others) (used_is l a) b.are_declared) b.declarations_are w.operators written in

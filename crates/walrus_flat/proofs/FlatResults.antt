@@ -25,26 +25,26 @@ use Rattle.walrus_rewrite.specs.declared.error.RewriteError.TheVariants.{Parse, 
 use Rattle.walrus_rewrite.specs.Errors.{IsOutOfMemory}
 use Rattle.walrus_rewrite.specs.RawBodies.{EmitInput}
 use Rattle.walrus_rewrite.specs.RewrittenBodies.{RefusesRewriting, IsOfWriting}
-use Rattle.walrus_flat.specs.Sinks.{joined, OfWhole}
+use Rattle.walrus_flat.specs.Sinks.{joined_outputs, OfWhole}
 use Rattle.walrus_flat.proofs.SinkLemmas.{all_taken}
-use Rattle.walrus_flat.specs.RewrittenFlat.{FinishesTo, IsUntouched, Finishes, FinishesBoth, Composes, RewritesFlat, RewritesTo}
+use Rattle.walrus_flat.specs.RewrittenFlat.{FinishesTo, IsUntouched, FinishesBytes, FinishesBoth, Composes, RewritesFlat, RewritesTo}
 
 -- the operators end where the body ends
 pub ends_there : (start ops : ℕ) (bytes rest : List ℕ) → ops ≤ length bytes → rest ≡ drop ops bytes → start + length bytes ≡ start + ops + length rest
 ends_there start ops bytes rest within e = omega (arith, length-drop ops bytes, ap length e)
 
 -- the result of appending
-pub finishes : (m : Result Drafted RewriteError) (p : Drafted) → m ≡ Ok p → (old new : List ℕ) (r : Result (Unit {0}) RewriteError) → OnOk r (new ≡ old ++ p.output.bytes) → IfErr r (λ e. e ≡ Emit emit.Memory) → Finishes m old new r
-finishes m p e old new (Ok u) ok err = subst (λ n. Finishes n old new (Ok u)) (sym e) ok
-finishes m p e old new (Err f) ok err = subst (λ n. Finishes n old new (Err f)) (sym e) err
+pub finishes : (m : Result Drafted RewriteError) (p : Drafted) → m ≡ Ok p → (old new : List ℕ) (r : Result (Unit {0}) RewriteError) → OnOk r (new ≡ old ++ p.output.bytes) → IfErr r (λ e. e ≡ Emit emit.Memory) → FinishesBytes m old new r
+finishes m p e old new (Ok u) ok err = subst (λ n. FinishesBytes n old new (Ok u)) (sym e) ok
+finishes m p e old new (Err f) ok err = subst (λ n. FinishesBytes n old new (Err f)) (sym e) err
 
 pub finishes_both : (m : Result Drafted RewriteError) (p : Drafted) → m ≡ Ok p → (old new : List ℕ) (ps qs : List Pair) (r : Result (Unit {0}) RewriteError) → OnOk r (new ≡ old ++ p.output.bytes) → OnOk r (qs ≡ ps ++ p.output.pairs) →
     IfErr r (λ e. e ≡ Emit emit.Memory) → FinishesBoth m old new ps qs r
 finishes_both m p e old new ps qs (Ok u) ok pairs err = subst (λ n. FinishesBoth n old new ps qs (Ok u)) (sym e) (ok, pairs)
 finishes_both m p e old new ps qs (Err f) ok pairs err = subst (λ n. FinishesBoth n old new ps qs (Err f)) (sym e) err
 
-pub finishes_not : (m : Result Drafted RewriteError) (f : RewriteError) → m ≡ Err f → (old new : List ℕ) → Finishes m old new (Err f)
-finishes_not m f e old new = subst (λ n. Finishes n old new (Err f)) (sym e) refl
+pub finishes_not : (m : Result Drafted RewriteError) (f : RewriteError) → m ≡ Err f → (old new : List ℕ) → FinishesBytes m old new (Err f)
+finishes_not m f e old new = subst (λ n. FinishesBytes n old new (Err f)) (sym e) refl
 
 pub finishes_not_both : (m : Result Drafted RewriteError) (f : RewriteError) → m ≡ Err f → (old new : List ℕ) (ps qs : List Pair) → FinishesBoth m old new ps qs (Err f)
 finishes_not_both m f e old new ps qs = subst (λ n. FinishesBoth n old new ps qs (Err f)) (sym e) refl
@@ -95,11 +95,11 @@ module _ {S F : Type 0} (asks : Shared F (Bor ℕ × Unit {0}) ℕ) (i : ParseIn
           appends_pairs = h.1 ∙ ap (λ ps. list.now.items ++ ps) (k.kept_pairs has);
         }
 
-    pub flat_without_map : (Z : Type 0) → (r : Result (Unit {0}) RewriteError) → Finishes m old new r → OnOk r (RewritesFlat asks i by {Z = Z} old new None (inl tt))
+    pub flat_without_map : (Z : Type 0) → (r : Result (Unit {0}) RewriteError) → FinishesBytes m old new r → OnOk r (RewritesFlat asks i by {Z = Z} old new None (inl tt))
     flat_without_map Z (Err e) h = tt
     flat_without_map Z (Ok u) h = by_made m ok h
       where
-        by_made : (n : Result Drafted RewriteError) → IfOk n (Composes asks i by has_map) → Finishes n old new (Ok u) → RewritesFlat asks i by {Z = Z} old new None (inl tt)
+        by_made : (n : Result Drafted RewriteError) → IfOk n (Composes asks i by has_map) → FinishesBytes n old new (Ok u) → RewritesFlat asks i by {Z = Z} old new None (inl tt)
         by_made (Err f) k h = absurd h
         by_made (Ok made) k h = record {
           mapping = k.mapping;
@@ -128,7 +128,7 @@ module _ {S F : Type 0} (asks : Shared F (Bor ℕ × Unit {0}) ℕ) (i : ParseIn
 
   -- ---- to a sink
 
-  module _ {T : Type 0} (takes : T → T → Output → Type 0) (a b c : T) (both : (first second : Output) → takes a b first → takes b c second → takes a c (joined first second)) (has_map : Bool) where
+  module _ {T : Type 0} (takes : T → T → Output → Type 0) (a b c : T) (both : (first second : Output) → takes a b first → takes b c second → takes a c (joined_outputs first second)) (has_map : Bool) where
     pub flat_to : (m : Result Drafted RewriteError) → IfOk m (OfWhole takes a b (Composes asks i by has_map)) → (r : Result (Unit {0}) RewriteError) → FinishesTo (takes b c) m r →
         OnOk r ((took : Output) × takes a c took × RewritesTo asks i by has_map took)
     flat_to (Ok made) h (Ok u) end =

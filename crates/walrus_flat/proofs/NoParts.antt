@@ -9,8 +9,8 @@ use Rattle.wasm_operators.specs.Meaning.{Listed, meaning}
 use Rattle.wasm_operators.specs.Operations.{block, operation, RawOperation}
 use Rattle.wasm_body.specs.Naming.{name_block}
 use Rattle.walrus_emitter.proofs.TreeWriting.Spelled.{on_true}
-use Rattle.walrus_flat.specs.Checked.{env_of}
-use Rattle.walrus_flat.specs.Checkers.{parts_in, HasNoParts, IsByte, NamesNoType}
+use Rattle.walrus_flat.specs.Checked.{env_of_checker}
+use Rattle.walrus_flat.specs.Checkers.{parts_in, HasNoParts, IsOneByte, NamesNoType}
 
 made : {A E : Type 0} (r : Result A E) → IsOk r → (x : A) × (r ≡ Ok x)
 made (Ok x) h = (x, refl)
@@ -19,7 +19,7 @@ made (Err e) h = absurd cc
 -- an opener whose block type names no type
 opener_alone : (byte : ℕ) (b : BlockType) → NamesNoType b → HasNoParts (operation (Byte byte) (block b ∷ []))
 opener_alone byte b none c =
-    let named = made (name_block (env_of c) b) (none (env_of c)) in
+    let named = made (name_block (env_of_checker c) b) (none (env_of_checker c)) in
     rw named.1 refl
 
 -- one of these operators is such an opener if its block type is of this kind
@@ -27,7 +27,7 @@ pub at_opener : (o : Listed) (byte : ℕ) (b : BlockType) → meaning o ≡ oper
 at_opener o byte b is r = on_true r (λ none. subst HasNoParts (sym is) (opener_alone byte b none))
 
 -- an operator that is one byte
-pub byte_alone : (o : RawOperation) (byte : ℕ) → IsByte o byte → HasNoParts o
+pub byte_alone : (o : RawOperation) (byte : ℕ) → IsOneByte o byte → HasNoParts o
 byte_alone o byte is c = subst (λ x. IsOk (parts_in c x)) (sym is) refl
 
 -- constants of floating point

@@ -7,7 +7,7 @@ use Rattle.wasm_body.specs.SourceTree.{Body}
 use Rattle.wasm_body.specs.Naming.{Environment, Occurrence}
 use Rattle.wasm_body.specs.NormalForm.{typing_of, name_at, named_body, body_tree}
 use Rattle.wasm_body.specs.Bytes.{numbered_text, bytes_of}
-use Rattle.wasm_body.specs.LocalNumbers.{AreDeclared, ids_of, uses_local, with_locals}
+use Rattle.wasm_body.specs.LocalNumbers.{AreDeclared, ids_of, uses_local, numbering_locals}
 use Rattle.wasm_body.specs.Pairs.{pairs_from, tree_pairs}
 use Rattle.wasm_body.specs.TextLaws.{IsNamedBody}
 use Rattle.wasm_body.proofs.Bytes.LawfulTyped.{lawful_named}
@@ -26,7 +26,7 @@ pub has_raw_body : HasRawBody
 has_raw_body env xs b spelt lawful by alike others ds are d ys w =
     let m = typing_of env in
     let named = lawful_named env xs b spelt lawful in
-    let to = with_locals by.to by.args (ids_of others) in
+    let to = numbering_locals by.to by.args (ids_of others) in
     let whole : numbered_text to (body_tree env b) ≡ Ok ys = flat_is_numbered m (map name_at xs) (named_body b) named.0 named.1 to ∙ w in
     let before = length (encoded.declaration_bytes ds) in
     let pairs : tree_pairs to (body_tree env b) before ≡ Ok (pairs_from before ys) = ap (λ r. r >>= λ zs. Ok (pairs_from before zs)) whole in (
@@ -47,7 +47,7 @@ pub has_no_body : HasNoBodyFor
 has_no_body env xs b spelt lawful by ids others ds are d e w =
     let m = typing_of env in
     let named = lawful_named env xs b spelt lawful in
-    let to = with_locals by.to by.args (ids_of others) in
+    let to = numbering_locals by.to by.args (ids_of others) in
     let whole : numbered_text to (body_tree env b) ≡ Err e = flat_is_numbered m (map name_at xs) (named_body b) named.0 named.1 to ∙ w in
     no_parsed_body env xs b spelt lawful by ids e
     (unwritten others ds (subst (λ used. AreDeclared by.types by.args used others) (used_are env xs b named.0) are) d (ap (λ r. r >>= λ zs. Ok (bytes_of zs)) whole))

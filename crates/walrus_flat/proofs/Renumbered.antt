@@ -21,7 +21,7 @@ use Rattle.wasm_body.specs.declared.error.EmitError.TheVariants as emit
 use Rattle.wasm_body.specs.declared.error.IndexError.{IndexError}
 use Rattle.wasm_body.specs.declared.error.ParseError.{ParseError}
 use Rattle.wasm_body.specs.declared.error.ParseError.TheVariants.{Index, NoSuchLabel, RethrowOutsideHandler}
-use Rattle.wasm_body.specs.Frames.{Frame, handler_at, outside}
+use Rattle.wasm_body.specs.Frames.{SequenceFrame, handler_at, outside}
 use Rattle.wasm_body.specs.Translation.{Translation, translate, translate_immediates}
 use Rattle.wasm_body.specs.Naming.{Environment, NamedOperation, Occurrence, naming, open_label, handler_label}
 use Rattle.wasm_body.specs.Bytes.{Numbers, in_32_bits, numbers_in_32_bits}
@@ -44,10 +44,10 @@ u32_is n text s = fits_is (nat_lt n (2 ^ 32)) n (u32_fits n text s)
 
 -- ---- labels stay
 
-open_stays : {A : Type 0} (fs : List (Frame A)) (n l : ℕ) → open_label fs n ≡ Ok l → n ≡ l
+open_stays : {A : Type 0} (fs : List (SequenceFrame A)) (n l : ℕ) → open_label fs n ≡ Ok l → n ≡ l
 open_stays fs n l e = let both = (bind_ok (unless (nat_lt n (length fs)) NoSuchLabel) (λ u. Ok n) l e).2 in cc
 
-handler_stays : {A : Type 0} (fs : List (Frame A)) (n l : ℕ) → handler_label fs n ≡ Ok l → n ≡ l
+handler_stays : {A : Type 0} (fs : List (SequenceFrame A)) (n l : ℕ) → handler_label fs n ≡ Ok l → n ≡ l
 handler_stays fs n l e =
     let opened = bind_ok (open_label fs n) (λ m. unless (handler_at fs n) RethrowOutsideHandler >>= λ u. Ok n) l e in
     let both = (bind_ok (unless (handler_at fs n) RethrowOutsideHandler) (λ u. Ok n) l opened.2).2 in cc
@@ -56,7 +56,7 @@ by_id : (give : ℕ → Result ℕ EmitError) (r : Result ℕ IndexError) (q : �
 by_id give (Ok id) q e = let same : id ≡ q = cc e in ap give (sym same)
 by_id give (Err f) q e = absurd cc
 
-module _ (env : Environment) (fs : List (Frame Occurrence)) (to : Numbers) (t : InstrSeqType) where
+module _ (env : Environment) (fs : List (SequenceFrame Occurrence)) (to : Numbers) (t : InstrSeqType) where
   abbrev names : Translation ℕ BlockType ℕ Signature ParseError
   names = naming env fs
 

@@ -10,7 +10,7 @@ use Rattle.wasm_body.specs.Naming.{Occurrence}
 use Rattle.wasm_body.specs.NormalForm.{body_tree}
 use Rattle.wasm_body.specs.FunctionTree.{FunctionTree}
 use Rattle.wasm_body.specs.Bytes.{tree_bytes}
-use Rattle.wasm_body.specs.LocalNumbers.{Local, declared, ids_of, uses_local, with_locals}
+use Rattle.wasm_body.specs.LocalNumbers.{Local, declared, ids_of, uses_local, numbering_locals}
 use Rattle.wasm_body.specs.Pairs.{Pair, tree_pairs}
 use Rattle.wasm_body.specs.Parsing.Accepted.{Accepted}
 use Rattle.wasm_body.proofs.LocalNumbers.{one_declared}
@@ -31,7 +31,7 @@ module _ (by : EmitInput) (t : FunctionTree) (b c : List ℕ) (ps qs : List Pair
   declarations = same_value h.declarations k.declarations (sym h.declarations_are ∙ (ap (declared by.to (length by.args)) others ∙ k.declarations_are))
 
   operators : h.operators ≡ k.operators
-  operators = same_value h.operators k.operators (sym h.operators_are ∙ (ap (λ (o : List Local). tree_bytes (with_locals by.to by.args (ids_of o)) t) others ∙ k.operators_are))
+  operators = same_value h.operators k.operators (sym h.operators_are ∙ (ap (λ (o : List Local). tree_bytes (numbering_locals by.to by.args (ids_of o)) t) others ∙ k.operators_are))
 
   pub one_raw_body : b ≡ c
   one_raw_body = h.bytes_are ∙ ((λ n. encoded.declaration_bytes (declarations n) ++ operators n) ∙ sym k.bytes_are)
@@ -40,7 +40,7 @@ module _ (by : EmitInput) (t : FunctionTree) (b c : List ℕ) (ps qs : List Pair
   one_list_of_pairs =
       same_value ps qs
       (sym h.pairs_are
-      ∙ ((λ n. tree_pairs (with_locals by.to by.args (ids_of (others n))) t (length (encoded.declaration_bytes (declarations n)))) ∙ k.pairs_are))
+      ∙ ((λ n. tree_pairs (numbering_locals by.to by.args (ids_of (others n))) t (length (encoded.declaration_bytes (declarations n)))) ∙ k.pairs_are))
 
 pub both_append_alike : (S F Z : Type 0) (asks : Shared F (Bor ℕ × Unit {0}) ℕ) → BothAppendAlike S F Z asks
 both_append_alike S F Z asks i by made mapping old one other entry exit flat_entry flat_exit h flat same =

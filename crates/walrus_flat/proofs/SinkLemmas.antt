@@ -6,13 +6,13 @@ use Rattle.wasm_operators.specs.Shortest.{short}
 use Rattle.wasm_body.specs.Translation.{Located}
 use Rattle.walrus_emit_state.specs.Emission.{Output, pairs_after}
 use Rattle.walrus_emit_state.specs.TreeWriting.Drafts.{Drafted, with_written}
-use Rattle.walrus_flat.specs.Sinks.{no_output, joined, with_front, IsLeft, OfWhole}
+use Rattle.walrus_flat.specs.Sinks.{no_output, joined_outputs, with_front, IsLeft, OfWhole}
 use Rattle.walrus_flat.specs.Written.{drafted}
 
 -- ---- an operator more
 
 -- the pairs after an operator, whether the front is taken or not
-pairs_join : (b : Bool) (base at : ℕ) (front o : Output) (location : ℕ) → at ≡ base + length front.bytes → pairs_after b base (joined front o) location ≡ front.pairs ++ pairs_after b at o location
+pairs_join : (b : Bool) (base at : ℕ) (front o : Output) (location : ℕ) → at ≡ base + length front.bytes → pairs_after b base (joined_outputs front o) location ≡ front.pairs ++ pairs_after b at o location
 pairs_join true base at front o location e =
     let place : base + length (front.bytes ++ o.bytes) ≡ at + length o.bytes = omega (arith, length-append front.bytes o.bytes, e) in
     ap (λ (n : ℕ). (front.pairs ++ o.pairs) ++ (location, n) ∷ []) place ∙ append_assoc front.pairs o.pairs ((location, at + length o.bytes) ∷ [])
@@ -46,20 +46,20 @@ module _ {S : Type 0} (takes : S → S → Output → Type 0) where
   pub left_as_is : (a : S) (d : Drafted) → takes a a no_output → IsLeft takes a a d d
   left_as_is a d nothing = record { taken = no_output; takes_it = nothing; whole_is = refl; goes_on = omega arith }
 
-  pub left_then : (a b c : S) (whole middle left : Drafted) → ((first second : Output) → takes a b first → takes b c second → takes a c (joined first second)) → IsLeft takes a b whole middle → IsLeft takes b c middle left →
+  pub left_then : (a b c : S) (whole middle left : Drafted) → ((first second : Output) → takes a b first → takes b c second → takes a c (joined_outputs first second)) → IsLeft takes a b whole middle → IsLeft takes b c middle left →
       IsLeft takes a c whole left
   left_then a b c whole middle left both p q =
       let bytes = sym (append_assoc p.taken.bytes q.taken.bytes left.output.bytes) in
       let pairs = sym (append_assoc p.taken.pairs q.taken.pairs left.output.pairs) in
       record {
-        taken = joined p.taken q.taken;
+        taken = joined_outputs p.taken q.taken;
         takes_it = both p.taken q.taken p.takes_it q.takes_it;
         whole_is = p.whole_is ∙ (ap (with_front whole.base p.taken) q.whole_is ∙ (λ k. record { base = whole.base; has_map = left.has_map; output = record { bytes = bytes k; pairs = pairs k } }));
         goes_on = omega (arith, p.goes_on, q.goes_on, length-append p.taken.bytes q.taken.bytes);
       }
 
   -- all that was left is taken
-  pub all_taken : (a b c : S) (whole left : Drafted) → ((first second : Output) → takes a b first → takes b c second → takes a c (joined first second)) → IsLeft takes a b whole left → takes b c left.output → takes a c whole.output
+  pub all_taken : (a b c : S) (whole left : Drafted) → ((first second : Output) → takes a b first → takes b c second → takes a c (joined_outputs first second)) → IsLeft takes a b whole left → takes b c left.output → takes a c whole.output
   all_taken a b c whole left both p q = subst (takes a c) (sym (ap (λ (d : Drafted). d.output) p.whole_is)) (both p.taken left.output p.takes_it q)
 
   -- ---- a statement of the whole

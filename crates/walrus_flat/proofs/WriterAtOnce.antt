@@ -21,17 +21,17 @@ use Rattle.wasm_operators.specs.Shortest.{short_immediate, short}
 use Rattle.wasm_body.specs.declared.error.EmitError.TheVariants.{TooLarge}
 use Rattle.wasm_body.specs.Bytes.{in_32_bits}
 use Rattle.wasm_body.specs.Translation.{at_location}
-use Rattle.wasm_flat.specs.Flat.{state, FlatState}
+use Rattle.wasm_flat.specs.Flat.{flat_state, FlatState}
 use Rattle.walrus_maps.specs.IndexMaps.{id_of, local_of, number_of}
 use Rattle.walrus_numbering.specs.EmittedLocals.{number_in}
-use Rattle.walrus_parser.specs.OperatorKinds.{is_diverging}
+use Rattle.walrus_parser.specs.OperatorKinds.{makes_unreachable}
 use Rattle.walrus_emit_state.specs.TreeWriting.Drafts.{Drafted, with_bytes}
 use Rattle.walrus_emitter.proofs.TreeWriting.Spelled.{numbered}
 use Rattle.walrus_flat.specs.declared.writer.Writer.{Writer}
 use Rattle.walrus_flat.specs.UsedLocals.{entries_of}
 use Rattle.walrus_flat.specs.declared.sequences.Next.TheVariants as next
 use Rattle.walrus_flat.specs.declared.sequences.OpenSequences.{OpenSequences}
-use Rattle.walrus_flat.specs.Written.{drafted, waiting_else, opens_of, state_of, mode_of, is_dead, mode_if}
+use Rattle.walrus_flat.specs.Written.{drafted, waiting_else, opens_of, flat_state_of, mode_of, is_unreachable_next, mode_if}
 use Rattle.walrus_flat.specs.Writers.{renumbered, WritesUnless, WritesCommon, WritesAtOnce}
 
 -- ---- operators with their numbers
@@ -119,13 +119,13 @@ as_listed old new location b x y is = subst (λ o. WritesCommon old new (meaning
 
 module _ (old : Writer) (x : Listed) (location : ℕ) where
   abbrev then : FlatState
-  then = state (mode_if (is_diverging x)) (opens_of old.«open»)
+  then = flat_state (mode_if (makes_unreachable x)) (opens_of old.«open»)
 
   module _ (live : old.«open».next ≡ next.Live) (mid : Writer) where
     -- it was written
-    goes : WritesCommon old mid (meaning x) location true → (s : OpenSequences) → state_of s ≡ then → WritesAtOnce old (record mid { «open» = s }) x location true
+    goes : WritesCommon old mid (meaning x) location true → (s : OpenSequences) → flat_state_of s ≡ then → WritesAtOnce old (record mid { «open» = s }) x location true
     goes (operator, is, same) s state_is =
-        subst (λ d. WritesUnless d old (record mid { «open» = s }) (meaning x) (Simple None) location (state_of old.«open») then (Ok tt)) (sym (ap is_dead live))
+        subst (λ d. WritesUnless d old (record mid { «open» = s }) (meaning x) (Simple None) location (flat_state_of old.«open») then (Ok tt)) (sym (ap is_unreachable_next live))
         (record {
           operator = operator;
           is_renumbered = is;
@@ -147,12 +147,12 @@ module _ (old : Writer) (x : Listed) (location : ℕ) where
     same_open (operator, is, same) = ap (λ (w : Writer). w.«open») same
 
     -- and the mode stays
-    pub stays : WritesCommon old mid (meaning x) location true → is_diverging x ≡ false → WritesAtOnce old mid x location true
+    pub stays : WritesCommon old mid (meaning x) location true → makes_unreachable x ≡ false → WritesAtOnce old mid x location true
     stays h alive =
-        goes h mid.«open» (ap state_of (same_open h) ∙ ((λ i. state (mode_of (live i)) (opens_of old.«open»)) ∙ ap (λ d. state (mode_if d) (opens_of old.«open»)) (sym alive)))
+        goes h mid.«open» (ap flat_state_of (same_open h) ∙ ((λ i. flat_state (mode_of (live i)) (opens_of old.«open»)) ∙ ap (λ d. flat_state (mode_if d) (opens_of old.«open»)) (sym alive)))
 
-    -- or code is dead
-    pub cuts : WritesCommon old mid (meaning x) location true → is_diverging x ≡ true → WritesAtOnce old (record mid { «open» = record mid.«open» { next = next.Dead } }) x location true
-    cuts h dead =
-        goes h (record mid.«open» { next = next.Dead })
-        ((λ i. state (mode_of next.Dead) (opens_of (same_open h i))) ∙ ap (λ d. state (mode_if d) (opens_of old.«open»)) (sym dead))
+    -- or code is unreachable
+    pub cuts : WritesCommon old mid (meaning x) location true → makes_unreachable x ≡ true → WritesAtOnce old (record mid { «open» = record mid.«open» { next = next.Unreachable } }) x location true
+    cuts h unreachable =
+        goes h (record mid.«open» { next = next.Unreachable })
+        ((λ i. flat_state (mode_of next.Unreachable) (opens_of (same_open h i))) ∙ ap (λ d. flat_state (mode_if d) (opens_of old.«open»)) (sym unreachable))

@@ -9,15 +9,15 @@ use Rattle.wasm_operators.specs.declared.operator.Op.TheVariants as op
 use Rattle.wasm_operators.specs.Meaning.{Listed, meaning}
 use Rattle.wasm_operators.specs.Operations.{block, operation}
 use Rattle.wasm_operators.specs.Shortest.{short_number}
-use Rattle.wasm_flat.specs.Flat.{Kept, Live, state, innermost, around}
+use Rattle.wasm_flat.specs.Flat.{Kept, Live, flat_state, innermost, around}
 use Rattle.walrus_emit_state.specs.TreeWriting.Drafts.{with_bytes}
 use Rattle.walrus_flat.specs.declared.writer.Writer.{Writer}
 use Rattle.walrus_flat.specs.declared.sequences.Next.TheVariants as next
 use Rattle.walrus_flat.specs.declared.control.Control.{Control}
 use Rattle.walrus_flat.specs.declared.control.Control.TheVariants as control
 use Rattle.walrus_flat.specs.Controls.{control_listed}
-use Rattle.walrus_flat.specs.Written.{opens_of, mode_of, is_dead, waiting_location, end_if, end_pieces, state_after_end}
-use Rattle.walrus_flat.specs.Writers.{numbers_in, IsSameWriter, IsPicked, needs_one, PutsAsIs, Goes, WritesOpener, OpensUnless, StepsWriter, OpensEmpty, ClosesShort}
+use Rattle.walrus_flat.specs.Written.{opens_of, mode_of, is_unreachable_next, waiting_location, end_if, end_pieces, state_after_end}
+use Rattle.walrus_flat.specs.Writers.{numbers_of_writer, IsSameWriter, IsPicked, needs_one, PutsAsIs, Goes, WritesOpener, OpensUnless, StepsWriter, OpensEmpty, ClosesShort}
 use Rattle.walrus_flat.proofs.Drafts.{nothing_waits}
 use Rattle.walrus_flat.proofs.TypeBytes.{without_result}
 use Rattle.walrus_flat.proofs.WriterShort.{opener_written}
@@ -49,7 +49,7 @@ module _ (old new : Writer) (location : ℕ) (live : old.«open».next ≡ next.
         let both : Some (Simple None) ≡ Some u = subst (λ t. pick old.«module».now.types t ≡ Some u) (sym is) picks in
         cc both
 
-    no_else : (is_if : Bool) → needs_one is_if ((numbers_in old).balanced (Simple None)) ≡ false
+    no_else : (is_if : Bool) → needs_one is_if ((numbers_of_writer old).balanced (Simple None)) ≡ false
     no_else true = refl
     no_else false = refl
 
@@ -63,19 +63,19 @@ module _ (old new : Writer) (location : ℕ) (live : old.«open».next ≡ next.
         goes = record {
           same = same;
           draft = ap (λ (k : Writer). k.draft) h.is ∙ put.draft;
-          state_is = (λ i. state (mode_of ((h.next ∙ live) i)) (h.opens i)) ∙ ap (λ b. state Live (Kept b ∷ opens_of old.«open»)) (sym (no_else is_if));
+          state_is = (λ i. flat_state (mode_of ((h.next ∙ live) i)) (h.opens i)) ∙ ap (λ b. flat_state Live (Kept b ∷ opens_of old.«open»)) (sym (no_else is_if));
         };
       };
     }
 
-    pub opens : (is_if : Bool) → OpensUnless (is_dead old.«open».next) old new (meaning o) Empty is_if location (Ok tt)
-    opens is_if = subst (λ d. OpensUnless d old new (meaning o) Empty is_if location (Ok tt)) (sym (ap is_dead live)) (opened is_if)
+    pub opens : (is_if : Bool) → OpensUnless (is_unreachable_next old.«open».next) old new (meaning o) Empty is_if location (Ok tt)
+    opens is_if = subst (λ d. OpensUnless d old new (meaning o) Empty is_if location (Ok tt)) (sym (ap is_unreachable_next live)) (opened is_if)
 
   -- ---- `end`
 
   closed : ClosesShort old new location → Goes old new (state_after_end (mode_of old.«open».next) (opens_of old.«open»)) (end_pieces (mode_of old.«open».next) (innermost (opens_of old.«open»)) location)
   closed h = subst (λ n. Goes old new (state_after_end (mode_of n) (opens_of old.«open»)) (end_pieces (mode_of n) (innermost (opens_of old.«open»)) location)) (sym live)
-      (subst (λ b. Goes old new (state Live (around (opens_of old.«open»))) (end_if b location)) (sym h.short)
+      (subst (λ b. Goes old new (flat_state Live (around (opens_of old.«open»))) (end_if b location)) (sym h.short)
       (record {
         same = record {
           «module» = ap (λ (k : Writer). k.«module») h.is;
@@ -86,7 +86,7 @@ module _ (old new : Writer) (location : ℕ) (live : old.«open».next ≡ next.
           locals = ap (λ (k : Writer). k.locals.numbered) h.is;
         };
         draft = ap (λ (k : Writer). k.draft) h.is;
-        state_is = λ i. state (mode_of ((h.next ∙ live) i)) (h.closes i);
+        state_is = λ i. flat_state (mode_of ((h.next ∙ live) i)) (h.closes i);
       }))
 
   -- ---- by the operator

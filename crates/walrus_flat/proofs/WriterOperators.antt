@@ -11,17 +11,17 @@ use Rattle.wasm_operators.specs.Meaning.{Listed, meaning}
 use Rattle.wasm_operators.specs.Operations.{CatchClause, Immediate, index, outer, clauses, operation}
 use Rattle.wasm_body.specs.declared.error.EmitError.{EmitError}
 use Rattle.wasm_body.specs.declared.error.EmitError.TheVariants.{Memory}
-use Rattle.wasm_body.specs.Control.{Block, Loop, If, Try, TryTable, catches, catch_opcode, delegate_operation}
+use Rattle.wasm_body.specs.Control.{Block, Loop, If, Try, TryTable, catch_list, catch_opcode, delegate_operation}
 use Rattle.wasm_body.specs.Frames.{outside}
 use Rattle.wasm_body.specs.Naming.{naming, id_at, open_label}
 use Rattle.wasm_body.specs.Translation.{translate_immediate}
 use Rattle.wasm_body.proofs.Translation.Steps.{bound}
-use Rattle.wasm_flat.specs.Flat.{Live, Dead, state, innermost, around}
+use Rattle.wasm_flat.specs.Flat.{Live, Unreachable, flat_state, innermost, around}
 use Rattle.walrus_instructions.specs.OperatorKinds.{is_instruction}
-use Rattle.walrus_parser.specs.OperatorKinds.{is_diverging}
+use Rattle.walrus_parser.specs.OperatorKinds.{makes_unreachable}
 use Rattle.walrus_parser.proofs.Roles.{fate_of_operator}
 use Rattle.walrus_flat.specs.declared.writer.Writer.{Writer}
-use Rattle.walrus_flat.specs.Written.{opens_of, state_of, mode_of, is_dead, ends_dropped, mode_if, else_pieces, end_pieces, state_after_else, state_after_end}
+use Rattle.walrus_flat.specs.Written.{opens_of, flat_state_of, mode_of, is_unreachable_next, ends_dropped, mode_if, else_pieces, end_pieces, state_after_else, state_after_end}
 use Rattle.walrus_flat.specs.Writers.{env_at, Goes, WritesUnless, OpensUnless, StepsWriter}
 use Rattle.walrus_flat.proofs.WriterSteps.{immediates, control_is, steps_plain, steps_nop, steps_opener, steps_else, steps_end, steps_catch, steps_catch_all, steps_delegate}
 
@@ -36,7 +36,7 @@ module _ (old new : Writer) (x : Listed) (location : ℕ) (r : Result (Unit {0})
   -- ---- openers
 
   abbrev Opening : BlockType → Bool → Listed → Type 0
-  Opening b is_if o = OpensUnless (is_dead old.«open».next) old new (meaning o) b is_if location r → Is o
+  Opening b is_if o = OpensUnless (is_unreachable_next old.«open».next) old new (meaning o) b is_if location r → Is o
 
   pub at_block : (b : BlockType) → x ≡ op.Block b → Opening b false x
   at_block b is =
@@ -63,7 +63,7 @@ module _ (old new : Writer) (x : Listed) (location : ℕ) (r : Result (Unit {0})
       subst (Opening b false) (sym is)
       (λ h type g gs text named spells n.
       steps_opener old new type g gs (meaning (op.TryTable b cs)) text named spells n location b (clauses cs ∷ []) refl
-      (TryTable (catches (immediates old new type g gs (meaning (op.TryTable b cs)) text named spells n location).0)) (control_is old new type g gs (meaning (op.TryTable b cs)) text named spells n location) false refl r h)
+      (TryTable (catch_list (immediates old new type g gs (meaning (op.TryTable b cs)) text named spells n location).0)) (control_is old new type g gs (meaning (op.TryTable b cs)) text named spells n location) false refl r h)
 
   -- ---- operators that part or close a construct
 
@@ -84,7 +84,7 @@ module _ (old new : Writer) (x : Listed) (location : ℕ) (r : Result (Unit {0})
   at_end is = subst Ending (sym is) (λ ok err type g gs text named spells n. steps_end old new type g gs (meaning op.End) text named spells n location refl r ok err)
 
   abbrev Catching : Listed → Type 0
-  Catching o = WritesUnless (ends_dropped (state_of old.«open»)) old new (meaning o) (Simple None) location (state_of old.«open») (state Live (opens_of old.«open»)) r → Is o
+  Catching o = WritesUnless (ends_dropped (flat_state_of old.«open»)) old new (meaning o) (Simple None) location (flat_state_of old.«open») (flat_state Live (opens_of old.«open»)) r → Is o
 
   pub at_catch : (tag : ℕ) → x ≡ op.Catch tag → Catching x
   at_catch tag is =
@@ -94,8 +94,8 @@ module _ (old new : Writer) (x : Listed) (location : ℕ) (r : Result (Unit {0})
       let one = one_immediate (translate_immediate (naming (env_at old type) (g ∷ gs)) (index Tags tag)) whole.0 whole.1 in
       let made = bound (id_at (env_at old type) Tags tag) (λ m. Ok (index Tags m)) one.0 one.1 in
       let tag_is : index Tags made.0 ≡ one.0 = cc made.2 in
-      let catches : named ≡ operation catch_opcode (index Tags made.0 ∷ []) = whole.2 ∙ (ap (operation catch_opcode) one.2 ∙ ap (λ i. operation catch_opcode (i ∷ [])) (sym tag_is)) in
-      steps_catch old new type g gs (meaning (op.Catch tag)) text named spells n location made.0 catches r h)
+      let catch_list : named ≡ operation catch_opcode (index Tags made.0 ∷ []) = whole.2 ∙ (ap (operation catch_opcode) one.2 ∙ ap (λ i. operation catch_opcode (i ∷ [])) (sym tag_is)) in
+      steps_catch old new type g gs (meaning (op.Catch tag)) text named spells n location made.0 catch_list r h)
 
   pub at_catch_all : x ≡ op.CatchAll → Catching x
   at_catch_all is =
@@ -107,7 +107,7 @@ module _ (old new : Writer) (x : Listed) (location : ℕ) (r : Result (Unit {0})
 
   abbrev Delegating : Listed → Type 0
   Delegating o =
-      WritesUnless (ends_dropped (state_of old.«open»)) old new (meaning o) (Simple None) default_location (state Dead (around (opens_of old.«open»))) (state Live (around (opens_of old.«open»))) r → Is o
+      WritesUnless (ends_dropped (flat_state_of old.«open»)) old new (meaning o) (Simple None) default_location (flat_state Unreachable (around (opens_of old.«open»))) (flat_state Live (around (opens_of old.«open»))) r → Is o
 
   pub at_delegate : (depth : ℕ) → x ≡ op.Delegate depth → Delegating x
   at_delegate depth is =
@@ -123,8 +123,8 @@ module _ (old new : Writer) (x : Listed) (location : ℕ) (r : Result (Unit {0})
   -- ---- operators by themselves
 
   pub at_other : is_instruction x ≡ true →
-      WritesUnless (is_dead old.«open».next) old new (meaning x) (Simple None) location (state_of old.«open») (state (mode_if (is_diverging x)) (opens_of old.«open»)) r → Is x
-  at_other i h = λ type g gs text named spells n. steps_plain old new type g gs (meaning x) text named spells n location (is_diverging x) (fate_of_operator x i) r h
+      WritesUnless (is_unreachable_next old.«open».next) old new (meaning x) (Simple None) location (flat_state_of old.«open») (flat_state (mode_if (makes_unreachable x)) (opens_of old.«open»)) r → Is x
+  at_other i h = λ type g gs text named spells n. steps_plain old new type g gs (meaning x) text named spells n location (makes_unreachable x) (fate_of_operator x i) r h
 
 pub at_nop : (old : Writer) (x : Listed) (location : ℕ) → x ≡ op.Nop → StepsWriter old old (meaning x) location (Ok tt)
 at_nop old x location is =

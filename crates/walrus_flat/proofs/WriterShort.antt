@@ -12,12 +12,12 @@ use Rattle.wasm_body.specs.Translation.{at_location}
 use Rattle.walrus_emit_state.specs.TreeWriting.Drafts.{with_bytes, with_written}
 use Rattle.walrus_flat.specs.declared.writer.Writer.{Writer}
 use Rattle.walrus_flat.specs.Written.{drafted, waiting_else, awake}
-use Rattle.walrus_flat.specs.Checkers.{IsByte}
-use Rattle.walrus_flat.specs.Writers.{renumbered, numbers_in, IsShortOpener, PutsAsIs}
+use Rattle.walrus_flat.specs.Checkers.{IsOneByte}
+use Rattle.walrus_flat.specs.Writers.{renumbered, numbers_of_writer, IsShortOpener, PutsAsIs}
 use Rattle.walrus_flat.proofs.Drafts.{written_as_is}
 
 -- an opener with the block type for its sequences
-opener_numbered : (w : Writer) (byte : ℕ) (type : InstrSeqType) (b c : BlockType) → numbered_block (numbers_in w) type ≡ Ok c →
+opener_numbered : (w : Writer) (byte : ℕ) (type : InstrSeqType) (b c : BlockType) → numbered_block (numbers_of_writer w) type ≡ Ok c →
     renumbered w type (operation (Byte byte) (block b ∷ [])) ≡ Ok (operation (Byte byte) (block c ∷ []))
 opener_numbered w byte type b c is = rw is refl
 
@@ -46,11 +46,11 @@ module _ (old w : Writer) (o : RawOperation) (type : InstrSeqType) (location : �
       PutsAsIs old new o type location r
   opener_written (byte, code) ((b, is_opener), (c, is_numbered, is_spelt)) r ok err =
       put_as_is (operation (Byte byte) (block c ∷ []))
-      (subst (λ x. renumbered w type x ≡ Ok (operation (Byte byte) (block c ∷ []))) (sym is_opener) (opener_numbered w byte type b c (is_numbered (numbers_in w))))
+      (subst (λ x. renumbered w type x ≡ Ok (operation (Byte byte) (block c ∷ []))) (sym is_opener) (opener_numbered w byte type b c (is_numbered (numbers_of_writer w))))
       r (subst (λ bs. OnOk r (new ≡ record w { draft = with_bytes w.draft bs location })) (sym (opener_spelt byte code c is_spelt)) ok) err
 
   -- an operator that is one byte was
-  pub plain_written : (byte : ℕ) → IsByte o byte → (r : Result (Unit {0}) EmitError) → OnOk r (new ≡ record w { draft = with_written w.draft (at_location (operation (Byte byte) []) location) }) → IfErr r (λ e. e ≡ Memory) →
+  pub plain_written : (byte : ℕ) → IsOneByte o byte → (r : Result (Unit {0}) EmitError) → OnOk r (new ≡ record w { draft = with_written w.draft (at_location (operation (Byte byte) []) location) }) → IfErr r (λ e. e ≡ Memory) →
       PutsAsIs old new o type location r
   plain_written byte is = put_as_is (operation (Byte byte) []) (ap (renumbered w type) is)
 

@@ -9,7 +9,7 @@ use Rattle.wasm_operators.proofs.ListLaws.{spelt_length}
 use Rattle.wasm_operators.proofs.ReadingBytes.{reading_agrees}
 use Rattle.wasm_body.specs.Control.{Marked, with_control, control_of}
 use Rattle.wasm_body.specs.SourceTree.{Sequence, Body}
-use Rattle.wasm_body.specs.Frames.{Frame, moves, moved}
+use Rattle.wasm_body.specs.Frames.{SequenceFrame, moves, moved}
 use Rattle.wasm_body.specs.Naming.{NamedOperation, Occurrence, named_in}
 use Rattle.wasm_body.specs.NormalForm.{name_at}
 use Rattle.wasm_body.specs.Parsing.Accepted.{mark, Setting}
@@ -29,14 +29,14 @@ use Rattle.wasm_flat.specs.Flat.{Named}
 
 -- ---- the frames of what was read, by the names of their openers
 
-abbrev pub progress_shapes : Progress Occurrence → Option (List (Frame NamedOperation))
+abbrev pub progress_shapes : Progress Occurrence → Option (List (SequenceFrame NamedOperation))
 progress_shapes p = after_frames named_of (progress_frames p)
 
-abbrev moved_shapes : Option (List (Frame NamedOperation)) → NamedOperation → Option (List (Frame NamedOperation))
+abbrev moved_shapes : Option (List (SequenceFrame NamedOperation)) → NamedOperation → Option (List (SequenceFrame NamedOperation))
 moved_shapes (Some gs) n = moves (control_of n) n gs
 moved_shapes None n = None
 
-shapes_moved : (o : Option (List (Frame Occurrence))) (x : Occurrence) → after_frames named_of (moved o (mark x)) ≡ moved_shapes (after_frames named_of o) x.named
+shapes_moved : (o : Option (List (SequenceFrame Occurrence))) (x : Occurrence) → after_frames named_of (moved o (mark x)) ≡ moved_shapes (after_frames named_of o) x.named
 shapes_moved (Some fs) x = moves_frames named_of (control_of x.named) x fs
 shapes_moved None x = refl
 

@@ -14,7 +14,7 @@ use Rattle.wasm_body.specs.declared.error.EmitError.{EmitError}
 use Rattle.wasm_body.specs.declared.error.EmitError.TheVariants.{Memory}
 use Rattle.wasm_body.specs.Bytes.{Numbers}
 use Rattle.wasm_body.specs.Control.{Marked, Control}
-use Rattle.wasm_body.specs.Frames.{Frame, function_frames}
+use Rattle.wasm_body.specs.Frames.{SequenceFrame, function_frames}
 use Rattle.wasm_body.specs.Naming.{NamedOperation, Occurrence, named_in}
 use Rattle.wasm_body.specs.NormalForm.{Typing, typing_of, construct_type, name_at}
 use Rattle.wasm_body.specs.TextLaws.{mark_named}
@@ -36,8 +36,8 @@ use Rattle.walrus_validators.specs.Locating.{MayCall, Locates, HasNoLocation}
 use Rattle.walrus_parser.specs.Settings.{operators_of}
 use Rattle.walrus_parser.proofs.Bodies.{is_whole, whole_mapping}
 use Rattle.walrus_parser.proofs.ParsedSoFar.{begins, occurrence, progress-append}
-use Rattle.wasm_flat.specs.Flat.{Named, first_state, written_at, after, flat, numbered, IsWrittenSo}
-use Rattle.wasm_flat.specs.FlatLaws.{bare}
+use Rattle.wasm_flat.specs.Flat.{Named, first_state, written_at, after, flat, numbered_at_location, IsWrittenSo}
+use Rattle.wasm_flat.specs.FlatLaws.{without_location}
 use Rattle.wasm_flat.proofs.Fronts as fronts
 use Rattle.wasm_flat.proofs.OtherLocations.{faults_anywhere}
 use Rattle.walrus_emit_state.specs.Emission.{Output}
@@ -45,10 +45,10 @@ use Rattle.walrus_emit_state.specs.TreeWriting.Drafts.{Drafted}
 use Rattle.walrus_flat.specs.declared.writer.Writer.{Writer}
 use Rattle.walrus_flat.specs.Checked.{marks}
 use Rattle.walrus_flat.specs.Laws.{written_of}
-use Rattle.walrus_flat.specs.Written.{drafted, state_of}
-use Rattle.walrus_flat.specs.Writers.{numbers_in, env_at, IsSameWriter, Takes, IsTaken, StepsWriter}
-use Rattle.walrus_flat.specs.WrittenBody.{some_locations, IsAccepted, WritesBody, RefusesWriting, WritesNumber, StopsWriting}
-use Rattle.walrus_flat.specs.Sinks.{no_output, joined, IsLeft, OfWhole}
+use Rattle.walrus_flat.specs.Written.{drafted, flat_state_of}
+use Rattle.walrus_flat.specs.Writers.{numbers_of_writer, env_at, IsSameWriter, Takes, IsTaken, StepsWriter}
+use Rattle.walrus_flat.specs.WrittenBody.{some_locations, IsAcceptedBody, WritesBody, RefusesWriting, WritesNumber, StopsWriting}
+use Rattle.walrus_flat.specs.Sinks.{no_output, joined_outputs, IsLeft, OfWhole}
 use Rattle.walrus_flat.proofs.Drafts.{drafted-append}
 use Rattle.walrus_flat.proofs.SinkLemmas.{left_as_is, left_then, left_more}
 use Rattle.walrus_flat.proofs.CheckedWhole.{read_operators}
@@ -79,11 +79,11 @@ marks-append xs ys = ap (map mark_named) (map-append name_at xs ys) ∙ map-appe
 abbrev by_name : Marked NamedOperation → NamedOperation × Control
 by_name x = (x.shown, x.control)
 
-bare_names : (xs : List (Marked Occurrence)) → map bare (map (map_mark name_at) xs) ≡ map by_name (map (map_mark named_of) xs)
+bare_names : (xs : List (Marked Occurrence)) → map without_location (map (map_mark name_at) xs) ≡ map by_name (map (map_mark named_of) xs)
 bare_names [] = refl
 bare_names (x ∷ xs) = ap (λ l. (x.shown.named, x.control) ∷ l) (bare_names xs)
 
-some_frame : (ls : List (Layer Occurrence)) → (g : Frame Occurrence) × (gs : List (Frame Occurrence)) × (frames_of ls ≡ g ∷ gs)
+some_frame : (ls : List (Layer Occurrence)) → (g : SequenceFrame Occurrence) × (gs : List (SequenceFrame Occurrence)) × (frames_of ls ≡ g ∷ gs)
 some_frame [] = (_, _, refl)
 some_frame (l ∷ ls) = (_, _, refl)
 
@@ -91,11 +91,11 @@ some_frame (l ∷ ls) = (_, _, refl)
 record Took (m : Typing) (w new : Writer) (x : Marked Named) (k : Numbers) : Type 0 where
   same : IsSameWriter w new
   operators : List (Located RawOperation)
-  are_numbered : gather (map (numbered k m) (written_at (state_of w.«open») x)) ≡ Ok operators
+  are_numbered : gather (map (numbered_at_location k m) (written_at (flat_state_of w.«open») x)) ≡ Ok operators
   draft : new.draft ≡ drafted w.draft operators
-  state_is : state_of new.«open» ≡ after (λ q. k.balanced (construct_type m q)) (state_of w.«open») x
+  state_is : flat_state_of new.«open» ≡ after (λ q. k.balanced (construct_type m q)) (flat_state_of w.«open») x
 
-took : (m : Typing) (w new : Writer) (x : Marked Named) → Takes m w new x → Took m w new x (numbers_in w)
+took : (m : Typing) (w new : Writer) (x : Marked Named) → Takes m w new x → Took m w new x (numbers_of_writer w)
 took m w new x h = record { same = h.same; operators = h.operators; are_numbered = h.are_numbered; draft = h.draft; state_is = h.state_is }
 
 -- ---- the writer of the same body
@@ -103,7 +103,7 @@ took m w new x h = record { same = h.same; operators = h.operators; are_numbered
 same_env : (first w : Writer) → IsSameWriter first w → env_at w w.ty ≡ env_at first first.ty
 same_env first w s = λ k. environment_of (s.«module» k).now (s.indices k).now (s.function k) (s.ty k)
 
-same_numbers : (first w : Writer) → IsSameWriter first w → numbers_in w ≡ numbers_in first
+same_numbers : (first w : Writer) → IsSameWriter first w → numbers_of_writer w ≡ numbers_of_writer first
 same_numbers first w s = λ k. numbers_by (s.«module» k).now.types (s.out k).now (entries_of (s.locals k).now)
 
 -- ---- the bytes of some operators
@@ -137,7 +137,7 @@ may_call_within pre (Some f) from to first last low high may = λ p least most. 
 
 module _ {F S : Type 0} (g : Shared F (Bor ℕ × Unit {0}) ℕ) (i : ParseInput (Unit {0}) F) (first : Writer) (takes : S → S → Output → Type 0) (start : S) where
   abbrev to : Numbers
-  to = numbers_in first
+  to = numbers_of_writer first
 
   abbrev typing : Typing
   typing = typing_of i.environment
@@ -151,14 +151,14 @@ module _ {F S : Type 0} (g : Shared F (Bor ℕ × Unit {0}) ℕ) (i : ParseInput
   -- The operators that were read, and what was written of them, of which the sink took the front.
   pub record WritesSoFar (w : Writer) (sink : S) (place : ℕ) (rest : List ℕ) : Type 0 where
     pub same : IsSameWriter first w
-    pub accepted : IsAccepted i
+    pub accepted : IsAcceptedBody i
     pub read : Progress Occurrence
     pub its : Progress Occurrence
     pub mapping : List (ℕ × ℕ)
     pub left : List Occurrence
     pub left_of : LeftOf g i locations accepted.body read its tt place rest mapping left
     pub written : List (Located RawOperation)
-    pub is_written : IsWrittenSo to typing balanced (read_marks read) (state_of w.«open») written
+    pub is_written : IsWrittenSo to typing balanced (read_marks read) (flat_state_of w.«open») written
     pub draft : IsLeft takes start sink (drafted first.draft written) w.draft
 
   -- nothing changed
@@ -166,7 +166,7 @@ module _ {F S : Type 0} (g : Shared F (Bor ℕ × Unit {0}) ℕ) (i : ParseInput
   still w new sink place rest same = subst (λ k. WritesSoFar k sink place rest) (sym same)
 
   -- the sink took what was there
-  pub passed : (w : Writer) (sink next : S) (place : ℕ) (rest : List ℕ) (left : Drafted) → ((a b c : S) (first second : Output) → takes a b first → takes b c second → takes a c (joined first second)) → IsLeft takes sink next w.draft left →
+  pub passed : (w : Writer) (sink next : S) (place : ℕ) (rest : List ℕ) (left : Drafted) → ((a b c : S) (first second : Output) → takes a b first → takes b c second → takes a c (joined_outputs first second)) → IsLeft takes sink next w.draft left →
       WritesSoFar w sink place rest → WritesSoFar (record w { draft = left }) next place rest
   passed w sink next place rest left both h so = record {
     same = record { «module» = so.same.«module»; indices = so.same.indices; function = so.same.function; ty = so.same.ty; out = so.same.out; locals = so.same.locals };
@@ -183,7 +183,7 @@ module _ {F S : Type 0} (g : Shared F (Bor ℕ × Unit {0}) ℕ) (i : ParseInput
 
   -- ---- before the first operator
 
-  pub begins_writing : i.check ≡ (λ v x. Ok tt) → i.first ≡ tt → IsAccepted i → state_of first.«open» ≡ first_state → takes start start no_output → WritesSoFar first start i.start i.bytes
+  pub begins_writing : i.check ≡ (λ v x. Ok tt) → i.first ≡ tt → IsAcceptedBody i → flat_state_of first.«open» ≡ first_state → takes start start no_output → WritesSoFar first start i.start i.bytes
   begins_writing accepts starts a none nothing =
       let given = setting_with i locations in
       let ok = is_ok (validated given.check given.first (map placed a.accepted.operators)) a.accepted.all.passes in
@@ -264,7 +264,7 @@ module _ {F S : Type 0} (g : Shared F (Bor ℕ × Unit {0}) ℕ) (i : ParseInput
             ap (λ e. named_in e (f.0 ∷ f.1) o) env ∙ (ap (λ fs. named_in i.environment fs o) (sym f.2) ∙ (ap (named_in i.environment (frames_of ls)) (sym spelt_is) ∙ named)) in
             subst (λ e. IsTaken (typing_of e) w new this_marked r) env (step w.ty f.0 f.1 text next_one.first.named spells there)
 
-        module _ (new : Writer) (env : env_at w w.ty ≡ i.environment) (numbers : numbers_in w ≡ to) where
+        module _ (new : Writer) (env : env_at w w.ty ≡ i.environment) (numbers : numbers_of_writer w ≡ to) where
           -- it was written
           pub goes_on : StepsWriter w new o location (Ok tt) → Locates g i.on_instr_pos place location → (next : ℕ) → next + length following ≡ place + length rest → length following < length rest → WritesSoFar new sink next following
           goes_on step located next moves shorter =
@@ -286,8 +286,8 @@ module _ {F S : Type 0} (g : Shared F (Bor ℕ × Unit {0}) ℕ) (i : ParseInput
                 written = so.written ++ t.operators;
                 is_written =
                     subst (λ s. IsWrittenSo to typing balanced (read_marks (further so.read (mark this))) s (so.written ++ t.operators)) (sym t.state_is)
-                    (subst (λ xs. IsWrittenSo to typing balanced xs (after balanced (state_of w.«open») this_marked) (so.written ++ t.operators)) (sym more)
-                    (fronts.continues balanced to typing (read_marks so.read) (state_of w.«open») so.written so.is_written this_marked t.operators t.are_numbered));
+                    (subst (λ xs. IsWrittenSo to typing balanced xs (after balanced (flat_state_of w.«open») this_marked) (so.written ++ t.operators)) (sym more)
+                    (fronts.continues balanced to typing (read_marks so.read) (flat_state_of w.«open») so.written so.is_written this_marked t.operators t.are_numbered));
                 draft =
                     subst (λ (d : Drafted). IsLeft takes start sink (drafted first.draft (so.written ++ t.operators)) d) (sym t.draft)
                     (subst (λ (d : Drafted). IsLeft takes start sink d (drafted w.draft t.operators)) (sym (drafted-append first.draft so.written t.operators))
@@ -295,23 +295,23 @@ module _ {F S : Type 0} (g : Shared F (Bor ℕ × Unit {0}) ℕ) (i : ParseInput
               }
 
           -- it has a fault, which is that of the whole
-          pub refuses : (e : EmitError) → gather (map (numbered (numbers_in w) typing) (written_at (state_of w.«open») this_marked)) ≡ Err e → RefusesWriting g i to e
+          pub refuses : (e : EmitError) → gather (map (numbered_at_location (numbers_of_writer w) typing) (written_at (flat_state_of w.«open») this_marked)) ≡ Err e → RefusesWriting g i to e
           refuses e h =
               let n = next_one in
               let l = so.left_of in
-              let fault = subst (λ (k : Numbers). gather (map (numbered k typing) (written_at (state_of w.«open») this_marked)) ≡ Err e) numbers h in
-              let broken = fronts.breaks balanced to typing (read_marks so.read) (state_of w.«open») so.written so.is_written this_marked e fault (marks n.others) in
+              let fault = subst (λ (k : Numbers). gather (map (numbered_at_location k typing) (written_at (flat_state_of w.«open») this_marked)) ≡ Err e) numbers h in
+              let broken = fronts.breaks balanced to typing (read_marks so.read) (flat_state_of w.«open») so.written so.is_written this_marked e fault (marks n.others) in
               let all = l.front ++ n.first ∷ n.others in
               let read_all : progress_after nothing_read (map mark all) ≡ Whole so.accepted.body =
               ap (progress_after nothing_read) (map-append mark l.front (n.first ∷ n.others))
               ∙ (progress-append (map mark l.front) (map mark (n.first ∷ n.others)) nothing_read
               ∙ (ap (λ p. progress_after p (map mark (n.first ∷ n.others))) l.front_read ∙ (ap (λ xs. progress_after so.its (map mark xs)) (sym n.left_is) ∙ l.over.ends))) in
-              let same_front : map bare (read_marks so.read) ≡ map bare (marks l.front) =
-              bare_names (read_text so.read []) ∙ (ap (map by_name) l.names ∙ (sym (bare_names (map mark l.front)) ∙ ap (map bare) (marks_are l.front))) in
-              let alike : map bare (read_marks so.read ++ this_marked ∷ marks n.others) ≡ map bare (marks all) =
-              map-append bare (read_marks so.read) (this_marked ∷ marks n.others)
-              ∙ (ap (λ xs. xs ++ map bare (this_marked ∷ marks n.others)) same_front
-              ∙ (sym (map-append bare (marks l.front) (marks (n.first ∷ n.others))) ∙ ap (map bare) (sym (marks-append l.front (n.first ∷ n.others))))) in
+              let same_front : map without_location (read_marks so.read) ≡ map without_location (marks l.front) =
+              bare_names (read_text so.read []) ∙ (ap (map by_name) l.names ∙ (sym (bare_names (map mark l.front)) ∙ ap (map without_location) (marks_are l.front))) in
+              let alike : map without_location (read_marks so.read ++ this_marked ∷ marks n.others) ≡ map without_location (marks all) =
+              map-append without_location (read_marks so.read) (this_marked ∷ marks n.others)
+              ∙ (ap (λ xs. xs ++ map without_location (this_marked ∷ marks n.others)) same_front
+              ∙ (sym (map-append without_location (marks l.front) (marks (n.first ∷ n.others))) ∙ ap (map without_location) (sym (marks-append l.front (n.first ∷ n.others))))) in
               record {
                 accepted = so.accepted;
                 fault =
@@ -342,7 +342,7 @@ module _ {F S : Type 0} (g : Shared F (Bor ℕ × Unit {0}) ℕ) (i : ParseInput
             is_parsed = is_whole g i fits e.0 tt place rest so.mapping reads none;
             is_mapping = whole_mapping g i fits e.0 tt place rest so.mapping reads;
             operators = so.written;
-            are_written = ap (λ xs. gather (map (numbered to typing) (flat balanced first_state xs))) marked ∙ so.is_written.written_are;
+            are_written = ap (λ xs. gather (map (numbered_at_location to typing) (flat balanced first_state xs))) marked ∙ so.is_written.written_are;
             draft = refl;
           };
         }

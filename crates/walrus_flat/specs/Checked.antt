@@ -9,12 +9,12 @@ use Rattle.wasm_body.specs.declared.error.ParseError.{ParseError}
 use Rattle.wasm_numbers.specs.Results.{◌>>=◌, some_or, unless, with_fault}
 use Rattle.wasm_body.specs.declared.error.ParseError.TheVariants.{Memory, Index, NoSuchLabel, RethrowOutsideHandler}
 use Rattle.wasm_body.specs.Control.{Marked, control_of}
-use Rattle.wasm_body.specs.Frames.{Frame, OfFunction, OfWrapper, Consequent, Alternative, TryBody, Handler, HandlerOfAll, moves}
+use Rattle.wasm_body.specs.Frames.{SequenceFrame, OfFunction, OfWrapper, Consequent, Alternative, TryBody, Handler, HandlerOfAll, moves}
 use Rattle.wasm_body.specs.Naming.{Environment, NamedOperation, Occurrence, id_at, name_block, block_signature, named_in}
 use Rattle.wasm_body.specs.NormalForm.{name_at}
 use Rattle.wasm_body.specs.TextLaws.{mark_named}
 use Rattle.wasm_body.specs.Translation.{at_location}
-use Rattle.wasm_flat.specs.Flat.{Named, Deadness, deadness, deadness_after, live_locals}
+use Rattle.wasm_flat.specs.Flat.{Named, Unreachability, unreachability, unreachability_after, live_locals}
 use Rattle.wasm_translate.specs.Changes.{Changes}
 use Rattle.walrus_context.specs.Placing.{is_handler_kind}
 use Rattle.walrus_maps.specs.Environments.{environment_of}
@@ -26,8 +26,8 @@ use Rattle.walrus_flat.specs.declared.open_sequence.OpenSequence.{OpenSequence}
 -- ---- parts of operators, which stay as they are
 
 -- whether a sequence of this kind is a handler of a legacy `try`
-abbrev pub handler_in : List OpenSequence → ℕ → Result (Unit {0}) ParseError
-handler_in fs n = some_or (slice_get fs n) NoSuchLabel >>= λ f. unless (is_handler_kind f.kind) RethrowOutsideHandler
+abbrev pub open_handler : List OpenSequence → ℕ → Result (Unit {0}) ParseError
+open_handler fs n = some_or (slice_get fs n) NoSuchLabel >>= λ f. unless (is_handler_kind f.kind) RethrowOutsideHandler
 
 -- while these sequences are open, innermost first
 abbrev pub checking_changes : Environment → List OpenSequence → Changes ParseError
@@ -35,13 +35,13 @@ checking_changes env fs = record {
   index = λ space n. id_at env space n >>= λ id. Ok n;
   local = λ n. with_fault Index (env.local_of n) >>= λ id. Ok n;
   label = λ n. unless (nat_lt n (length fs)) NoSuchLabel >>= λ u. Ok n;
-  handler = λ n. handler_in fs n >>= λ u. Ok n;
+  handler = λ n. open_handler fs n >>= λ u. Ok n;
   outer = λ n. unless (nat_lt n (length (drop 1 fs))) NoSuchLabel >>= λ u. Ok n;
   block = λ b. name_block env b >>= λ s. Ok b;
 }
 
-abbrev pub changes_of : Checking → Changes ParseError
-changes_of c = checking_changes (environment_of c.«module».now c.indices.now c.function 0) (reverse c.«open».now)
+abbrev pub changes_of_checking : Checking → Changes ParseError
+changes_of_checking c = checking_changes (environment_of c.«module».now c.indices.now c.function 0) (reverse c.«open».now)
 
 -- ---- frames
 
@@ -56,7 +56,7 @@ abbrev pub HasTypeOf : List ModuleType → OpenSequence → Occurrence → Type 
 HasTypeOf types f a = signature_of_type types f.ty ≡ Some (block_signature a.named)
 
 -- what is kept of a frame: its kind, and the parameters and results of its construct
-abbrev pub IsFrame : List ModuleType → OpenSequence → Frame Occurrence → Type 0
+abbrev pub IsFrame : List ModuleType → OpenSequence → SequenceFrame Occurrence → Type 0
 IsFrame types f OfFunction = f.kind ≡ kind.FunctionEntry
 IsFrame types f (OfWrapper a) = IsWrapper f.kind × HasTypeOf types f a
 IsFrame types f (Consequent a) = (f.kind ≡ kind.If) × HasTypeOf types f a
@@ -66,7 +66,7 @@ IsFrame types f (Handler a) = (f.kind ≡ kind.Catch) × HasTypeOf types f a
 IsFrame types f (HandlerOfAll a) = (f.kind ≡ kind.CatchAll) × HasTypeOf types f a
 
 -- both with the innermost first
-abbrev pub AreFrames : List ModuleType → List OpenSequence → List (Frame Occurrence) → Type 0
+abbrev pub AreFrames : List ModuleType → List OpenSequence → List (SequenceFrame Occurrence) → Type 0
 AreFrames types [] [] = Unit {0}
 AreFrames types (f ∷ fs) (g ∷ gs) = IsFrame types f g × AreFrames types fs gs
 AreFrames types [] (g ∷ gs) = ⊥
@@ -74,14 +74,14 @@ AreFrames types (f ∷ fs) [] = ⊥
 
 -- ---- the state between two operators
 
--- The open sequences, innermost first; whether code is dead; and which locals live operators named.
+-- The open sequences, innermost first; whether code is unreachable; and which locals live operators named.
 pub record CheckState : Type 0 where
   pub frames : List OpenSequence
-  pub dead : Bool
+  pub unreachable : Bool
   pub used : ℕ → Bool
 
-abbrev pub deadness_of : CheckState → Deadness
-deadness_of s = deadness s.dead (map (λ (f : OpenSequence). f.before) s.frames)
+abbrev pub unreachability_of : CheckState → Unreachability
+unreachability_of s = unreachability s.unreachable (map (λ (f : OpenSequence). f.before) s.frames)
 
 -- the operators of a body, with what they do to the control
 abbrev pub marks : List Occurrence → List (Marked Named)
@@ -90,37 +90,37 @@ marks xs = map mark_named (map name_at xs)
 -- ---- one operator
 
 -- The operator has a name, and this is the state after it.
-pub record Passes (env : Environment) (old new : CheckState) (fs : List (Frame Occurrence)) (o : RawOperation) : Type 0 where
+pub record Passes (env : Environment) (old new : CheckState) (fs : List (SequenceFrame Occurrence)) (o : RawOperation) : Type 0 where
   pub named : NamedOperation
   pub is_named : named_in env fs o ≡ Ok named
-  pub frames : (x : Occurrence) → x.named ≡ named → (gs : List (Frame Occurrence)) → moves (control_of named) x fs ≡ Some gs → AreFrames env.types new.frames gs
-  pub dead : deadness_of new ≡ deadness_after (deadness_of old) (control_of named)
-  pub used : (location id : ℕ) → new.used id ≡ (among id (live_locals old.dead (mark_named (at_location named location))) || old.used id)
+  pub frames : (x : Occurrence) → x.named ≡ named → (gs : List (SequenceFrame Occurrence)) → moves (control_of named) x fs ≡ Some gs → AreFrames env.types new.frames gs
+  pub unreachable : unreachability_of new ≡ unreachability_after (unreachability_of old) (control_of named)
+  pub used : (location id : ℕ) → new.used id ≡ (among id (live_locals old.unreachable (mark_named (at_location named location))) || old.used id)
 
 -- It passes, memory ran out, or this is the first rule that it breaks.
-abbrev pub IsChecked : Environment → CheckState → CheckState → List (Frame Occurrence) → RawOperation → Result (Unit {0}) ParseError → Type 0
-IsChecked env old new fs o (Ok u) = Passes env old new fs o
-IsChecked env old new fs o (Err e) = (e ≡ Memory) ⊎ (named_in env fs o ≡ Err e)
+abbrev pub IsCheckedOperator : Environment → CheckState → CheckState → List (SequenceFrame Occurrence) → RawOperation → Result (Unit {0}) ParseError → Type 0
+IsCheckedOperator env old new fs o (Ok u) = Passes env old new fs o
+IsCheckedOperator env old new fs o (Err e) = (e ≡ Memory) ⊎ (named_in env fs o ≡ Err e)
 
 -- ---- the code's state
 
-abbrev pub env_of : Checker → Environment
-env_of c = environment_of c.«module».now c.indices.ids.now c.indices.function c.ty
+abbrev pub env_of_checker : Checker → Environment
+env_of_checker c = environment_of c.«module».now c.indices.ids.now c.indices.function c.ty
 
-abbrev pub state_of : Checker → CheckState
-state_of c = record { frames = reverse c.«open».items; dead = c.dead; used = is_used c.used }
+abbrev pub check_state_of : Checker → CheckState
+check_state_of c = record { frames = reverse c.«open».items; unreachable = c.unreachable; used = is_used c.used }
 
 -- In whatever frames the open sequences are, the operator passes, memory ran out, or this is the first rule that it breaks.
 abbrev pub ChecksStep : Checker → Checker → RawOperation → Result (Unit {0}) ParseError → Type 0
-ChecksStep old new o r = (fs : List (Frame Occurrence)) → AreFrames (env_of old).types (state_of old).frames fs → IsChecked (env_of old) (state_of old) (state_of new) fs o r
+ChecksStep old new o r = (fs : List (SequenceFrame Occurrence)) → AreFrames (env_of_checker old).types (check_state_of old).frames fs → IsCheckedOperator (env_of_checker old) (check_state_of old) (check_state_of new) fs o r
 
 -- And it is still the check of the same body.
 abbrev pub StepsChecker : Checker → Checker → RawOperation → Result (Unit {0}) ParseError → Type 0
-StepsChecker old new o r = ChecksStep old new o r × OnOk r (env_of new ≡ env_of old)
+StepsChecker old new o r = ChecksStep old new o r × OnOk r (env_of_checker new ≡ env_of_checker old)
 
 -- Nothing changed but memory: the set of used locals may have room for more.
 pub record StaysSame (old new : Checker) : Type 0 where
-  pub used : (x : ℕ) → (state_of new).used x ≡ (state_of old).used x
+  pub used : (x : ℕ) → (check_state_of new).used x ≡ (check_state_of old).used x
   pub is : new ≡ record old { used = new.used }
 
 -- The operator was taken at once; or it wasn't, and nothing changed.

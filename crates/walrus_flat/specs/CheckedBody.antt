@@ -18,7 +18,7 @@ use Rattle.wasm_body.specs.Naming.{Environment, Occurrence}
 use Rattle.wasm_body.specs.Parsing.Accepted.{Setting, Accepted, FirstFault, mark}
 use Rattle.wasm_body.specs.Parsing.Lists.{parsed_from}
 use Rattle.wasm_body.specs.Parsing.Progress.{Whole, nothing_read, progress_after}
-use Rattle.wasm_flat.specs.Flat.{first_deadness, locals_read}
+use Rattle.wasm_flat.specs.Flat.{first_unreachability, locals_read}
 use Rattle.walrus_instructions.specs.OperatorKinds.{is_instruction}
 use Rattle.walrus_validators.specs.Checking.{placed_at}
 use Rattle.walrus_parser.specs.Settings.{operators_of}
@@ -38,17 +38,17 @@ fits_limit true place = nat_lt place default_location
 fits_limit false place = true
 
 -- the last place that is small enough
-abbrev pub last_place : Bool → ℕ
-last_place true = 0xffff_fffe
-last_place false = 0xffff_ffff_ffff_ffff
+abbrev pub place_limit : Bool → ℕ
+place_limit true = 0xffff_fffe
+place_limit false = 0xffff_ffff_ffff_ffff
 
--- Nothing is read yet: the function's own sequence is open, and code isn't dead.
+-- Nothing is read yet: the function's own sequence is open, and code isn't unreachable.
 pub record BeginsBody (c : Checker) : Type 0 where
   pub entry : OpenSequence
   pub opens : c.«open».items ≡ entry ∷ []
   pub kind_is : entry.kind ≡ kind.FunctionEntry
   pub before : entry.before ≡ false
-  pub dead : c.dead ≡ false
+  pub unreachable : c.unreachable ≡ false
 
 -- the setting of a body whose first operator is at this place
 abbrev pub setting_at : {V : Type 0} → Environment → (start : ℕ) → (V → Placed → Result V ℕ) → V → Option (ℕ → ℕ) → Setting V
@@ -63,7 +63,7 @@ pub record ChecksBody {V : Type 0} (given : Setting V) (bytes : List ℕ) (old n
   pub body : Body Occurrence
   pub is_parsed : parsed_here given bytes ≡ Ok body
   pub are_read : progress_after nothing_read (map mark operators) ≡ Whole body
-  pub used : (x : ℕ) → used_in new x ≡ (among x (locals_read first_deadness (marks operators)) || used_in old x)
+  pub used : (x : ℕ) → used_in new x ≡ (among x (locals_read first_unreachability (marks operators)) || used_in old x)
 
 -- This is so with each location function, or without one; or memory ran out, or this is the first fault.
 abbrev pub ChecksOperators : {V : Type 0} → (Option (ℕ → ℕ) → Setting V) → Bool → List ℕ → Checker → Checker → Result (Unit {0}) ParseFailure → Type 0
@@ -76,14 +76,14 @@ RefusesTaking check v o limit place e =
     (e ≡ Memory) ⊎ (((e ≡ PlaceTooGreat) × (fits_limit limit place ≡ false)) ⊎ ((n : ℕ) × (e ≡ Checked n) × (fits_limit limit place ≡ true) × (check v (placed_at o place) ≡ Err n)))
 
 -- It has a place, and the validator accepts it.
-pub record IsTaken {V : Type 0} (check : V → Placed → Result V ℕ) (v w : V) (o : RawOperation) (limit : Bool) (place : ℕ) : Type 0 where
+pub record IsValidated {V : Type 0} (check : V → Placed → Result V ℕ) (v w : V) (o : RawOperation) (limit : Bool) (place : ℕ) : Type 0 where
   pub fits : fits_limit limit place ≡ true
   pub accepts : check v (placed_at o place) ≡ Ok w
 
 -- An operator that was read is taken and passes; or memory ran out, or it isn't taken, or it is and breaks a rule first.
 abbrev pub ChecksNext : {V : Type 0} → (V → Placed → Result V ℕ) → (v w : V) → (limit : Bool) → (place : ℕ) → Checker → Checker → RawOperation → Result (Unit {0}) ParseError → Type 0
-ChecksNext check v w limit place old new o (Ok u) = IsTaken check v w o limit place × StepsChecker old new o (Ok tt)
-ChecksNext check v w limit place old new o (Err e) = RefusesTaking check v o limit place e ⊎ (IsTaken check v w o limit place × StepsChecker old new o (Err e))
+ChecksNext check v w limit place old new o (Ok u) = IsValidated check v w o limit place × StepsChecker old new o (Ok tt)
+ChecksNext check v w limit place old new o (Err e) = RefusesTaking check v o limit place e ⊎ (IsValidated check v w o limit place × StepsChecker old new o (Err e))
 
 -- An operator by itself, or sequences are open after it.
 abbrev pub StaysInside : Listed → Checker → Type 0
@@ -106,7 +106,7 @@ entry_in types type = some_or (signature_of types type) NotAFunctionType >>= λ 
 pub record AcceptsUsing {V : Type 0} (given : Setting V) (bytes : List ℕ) (used : ℕ → Bool) : Type 0 where
   pub body : Body Occurrence
   pub accepted : Accepted given bytes body
-  pub used_is : (x : ℕ) → used x ≡ among x (locals_read first_deadness (marks (operators_of body)))
+  pub used_is : (x : ℕ) → used x ≡ among x (locals_read first_unreachability (marks (operators_of body)))
 
 -- This is so with each location function, or without one; or memory ran out, or this is the first fault.
 abbrev pub ChecksAll : {V : Type 0} → (Option (ℕ → ℕ) → Setting V) → Bool → List ℕ → (ℕ → Bool) → Result (Unit {0}) ParseFailure → Type 0

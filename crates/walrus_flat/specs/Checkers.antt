@@ -13,18 +13,18 @@ use Rattle.wasm_operators.specs.Operations.{operation, RawOperation}
 use Rattle.wasm_body.specs.declared.error.ParseError.{ParseError}
 use Rattle.wasm_body.specs.declared.error.ParseError.TheVariants.{Memory, Index, ElseOutsideIf, CatchOutsideTry, DelegateOutsideTry}
 use Rattle.wasm_body.specs.Naming.{Environment, id_at, name_block, tag_type, has_pick}
-use Rattle.wasm_translate.specs.Changes.{changed}
+use Rattle.wasm_translate.specs.Changes.{changed_operator}
 use Rattle.walrus_flat.specs.UsedLocals.{is_used}
 use Rattle.walrus_flat.specs.declared.checker.Checker.{Checker}
 use Rattle.walrus_flat.specs.declared.open_sequence.OpenSequence.{OpenSequence}
-use Rattle.walrus_flat.specs.Checked.{env_of, checking_changes}
+use Rattle.walrus_flat.specs.Checked.{env_of_checker, checking_changes}
 use Rattle.walrus_flat.specs.SequenceKinds.{handler_kind, has_else, has_clauses, has_delegate}
 
 -- ---- parts and types
 
 -- an operator with its parts, if all of them exist
 abbrev pub parts_in : Checker → RawOperation → Result RawOperation ParseError
-parts_in c o = changed (checking_changes (env_of c) (reverse c.«open».items)) o
+parts_in c o = changed_operator (checking_changes (env_of_checker c) (reverse c.«open».items)) o
 
 -- No part of an operator is missing in any module; nor does a block type name anything that is missing.
 abbrev pub HasNoParts : RawOperation → Type 0
@@ -34,8 +34,8 @@ abbrev pub NamesNoType : BlockType → Type 0
 NamesNoType b = (env : Environment) → IsOk (name_block env b)
 
 -- The operator is this byte.
-abbrev pub IsByte : RawOperation → ℕ → Type 0
-IsByte o byte = o ≡ operation (Byte byte) []
+abbrev pub IsOneByte : RawOperation → ℕ → Type 0
+IsOneByte o byte = o ≡ operation (Byte byte) []
 
 -- The parts exist; or memory ran out, or this is the first fault among them.
 abbrev pub ChecksParts : Checker → RawOperation → Result (Unit {0}) ParseError → Type 0
@@ -59,24 +59,24 @@ abbrev pub as_kind : BlockKind → OpenSequence → OpenSequence
 as_kind k f = record f { kind = k }
 
 -- The innermost sequence is closed, and was this one.
-pub record Closes (old new : Checker) (top : OpenSequence) : Type 0 where
+pub record ClosesSequence (old new : Checker) (top : OpenSequence) : Type 0 where
   pub was : old.«open».items ≡ new.«open».items ++ top ∷ []
-  pub is : new ≡ record old { «open» = new.«open»; dead = top.before }
+  pub is : new ≡ record old { «open» = new.«open»; unreachable = top.before }
 
 -- And others are still open.
 abbrev pub ClosesInner : Checker → Checker → Type 0
-ClosesInner old new = (top : OpenSequence) × Closes old new top × (new.«open».items ≢ [])
+ClosesInner old new = (top : OpenSequence) × ClosesSequence old new top × (new.«open».items ≢ [])
 
 -- It is replaced by the next one of its construct, which has this kind.
 pub record Parts (old new : Checker) (top : OpenSequence) (k : BlockKind) : Type 0 where
   pub others : List OpenSequence
   pub was : old.«open».items ≡ others ++ top ∷ []
   pub opens : new.«open».items ≡ others ++ as_kind k top ∷ []
-  pub is : new ≡ record old { «open» = new.«open»; dead = top.before }
+  pub is : new ≡ record old { «open» = new.«open»; unreachable = top.before }
 
 -- A sequence of this type is opened within the others.
-pub record Opens (old new : Checker) (k : BlockKind) (t : InstrSeqType) : Type 0 where
-  pub opens : new.«open».items ≡ old.«open».items ++ record { kind = k; ty = t; before = old.dead } ∷ []
+pub record OpensSequence (old new : Checker) (k : BlockKind) (t : InstrSeqType) : Type 0 where
+  pub opens : new.«open».items ≡ old.«open».items ++ record { kind = k; ty = t; before = old.unreachable } ∷ []
   pub is : new ≡ record old { lists = new.lists; «open» = new.«open» }
 
 -- The innermost sequence, if there is one, isn't of a kind that passes the test.
@@ -89,13 +89,13 @@ IsNoTop c test = (others : List OpenSequence) (top : OpenSequence) → c.«open�
 pub record BeginsConstruct (old new : Checker) (o : RawOperation) (k : BlockKind) (b : BlockType) : Type 0 where
   pub parts : IsOk (parts_in old o)
   pub type : InstrSeqType
-  pub has_type : (s : Signature) → name_block (env_of old) b ≡ Ok s → signature_of_type (env_of old).types type ≡ Some s
-  pub picks : (s : Signature) → name_block (env_of old) b ≡ Ok s → has_pick (env_of old) s ≡ Ok tt
-  pub opens : Opens old new k type
+  pub has_type : (s : Signature) → name_block (env_of_checker old) b ≡ Ok s → signature_of_type (env_of_checker old).types type ≡ Some s
+  pub picks : (s : Signature) → name_block (env_of_checker old) b ≡ Ok s → has_pick (env_of_checker old) s ≡ Ok tt
+  pub opens : OpensSequence old new k type
 
 -- Otherwise memory ran out, or this is the first fault of a part, or that of the pick.
 abbrev pub RefusesPick : Checker → RawOperation → BlockType → ParseError → Type 0
-RefusesPick old o b e = IsOk (parts_in old o) × ((s : Signature) → name_block (env_of old) b ≡ Ok s → has_pick (env_of old) s ≡ Err e)
+RefusesPick old o b e = IsOk (parts_in old o) × ((s : Signature) → name_block (env_of_checker old) b ≡ Ok s → has_pick (env_of_checker old) s ≡ Err e)
 
 abbrev pub RefusesConstruct : Checker → RawOperation → BlockType → ParseError → Type 0
 RefusesConstruct old o b e = (e ≡ Memory) ⊎ ((parts_in old o ≡ Err e) ⊎ RefusesPick old o b e)
@@ -113,7 +113,7 @@ RefusesElse old e = (e ≡ Memory) ⊎ ((e ≡ ElseOutsideIf) × IsNoTop old has
 pub record PartsTry (old new : Checker) (tag : Option ℕ) : Type 0 where
   pub top : OpenSequence
   pub is_try : has_clauses top.kind ≡ true
-  pub has_type : (s : Signature) → signature_of_type (env_of old).types top.ty ≡ Some s → has_handler_type (env_of old) tag s.results ≡ Ok tt
+  pub has_type : (s : Signature) → signature_of_type (env_of_checker old).types top.ty ≡ Some s → has_handler_type (env_of_checker old) tag s.results ≡ Ok tt
   pub parts : Parts old new top (handler_kind tag)
 
 pub record RefusesHandler (old : Checker) (tag : Option ℕ) (e : ParseError) : Type 0 where
@@ -121,7 +121,7 @@ pub record RefusesHandler (old : Checker) (tag : Option ℕ) (e : ParseError) : 
   pub top : OpenSequence
   pub was : old.«open».items ≡ others ++ top ∷ []
   pub is_try : has_clauses top.kind ≡ true
-  pub has_no_type : (s : Signature) → signature_of_type (env_of old).types top.ty ≡ Some s → has_handler_type (env_of old) tag s.results ≡ Err e
+  pub has_no_type : (s : Signature) → signature_of_type (env_of_checker old).types top.ty ≡ Some s → has_handler_type (env_of_checker old) tag s.results ≡ Err e
 
 abbrev pub RefusesClause : Checker → Option ℕ → ParseError → Type 0
 RefusesClause old tag e = (e ≡ Memory) ⊎ (((e ≡ CatchOutsideTry) × IsNoTop old has_clauses) ⊎ RefusesHandler old tag e)
@@ -134,7 +134,7 @@ pub record ClosesTry (old new : Checker) (o : RawOperation) : Type 0 where
   pub others : List OpenSequence
   pub was : old.«open».items ≡ others ++ top ∷ []
   pub now : new.«open».items ≡ others
-  pub is : new ≡ record old { lists = new.lists; «open» = new.«open»; dead = top.before }
+  pub is : new ≡ record old { lists = new.lists; «open» = new.«open»; unreachable = top.before }
 
 -- The innermost sequence, if there is one, is of a kind that passes the test.
 abbrev pub IsTop : Checker → (BlockKind → Bool) → Type 0
@@ -143,20 +143,20 @@ IsTop c test = (others : List OpenSequence) (top : OpenSequence) → c.«open».
 abbrev pub RefusesDelegate : Checker → RawOperation → ParseError → Type 0
 RefusesDelegate old o e = (e ≡ Memory) ⊎ (((e ≡ DelegateOutsideTry) × IsNoTop old has_delegate) ⊎ (IsTop old has_delegate × (parts_in old o ≡ Err e)))
 
--- A local is named, which is used if code isn't dead.
+-- A local is named, which is used if code isn't unreachable.
 abbrev pub used_in : Checker → ℕ → Bool
 used_in c id = is_used c.used id
 
 pub record NamesLocal (old new : Checker) (index : ℕ) : Type 0 where
   pub id : ℕ
-  pub is_local : (env_of old).local_of index ≡ Ok id
-  pub used : (x : ℕ) → used_in new x ≡ (cond old.dead false (x == id) || used_in old x)
+  pub is_local : (env_of_checker old).local_of index ≡ Ok id
+  pub used : (x : ℕ) → used_in new x ≡ (cond old.unreachable false (x == id) || used_in old x)
   pub is : new ≡ record old { used = new.used }
 
 abbrev pub RefusesLocal : Checker → ℕ → ParseError → Type 0
-RefusesLocal old index e = (e ≡ Memory) ⊎ (with_fault Index ((env_of old).local_of index) ≡ Err e)
+RefusesLocal old index e = (e ≡ Memory) ⊎ (with_fault Index ((env_of_checker old).local_of index) ≡ Err e)
 
--- An operator by itself is checked; what follows it is dead if it cuts.
-pub record Takes (old new : Checker) (o : RawOperation) (diverges : Bool) : Type 0 where
+-- An operator by itself is checked; what follows it is unreachable if it cuts.
+pub record TakesOperator (old new : Checker) (o : RawOperation) (unreachable_after : Bool) : Type 0 where
   pub parts : IsOk (parts_in old o)
-  pub is : new ≡ record old { lists = new.lists; dead = diverges || old.dead }
+  pub is : new ≡ record old { lists = new.lists; unreachable = unreachable_after || old.unreachable }

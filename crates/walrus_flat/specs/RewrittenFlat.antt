@@ -16,7 +16,7 @@ use Rattle.walrus_parser.specs.Settings.{operators_of, IsMapping}
 use Rattle.walrus_body.specs.EmittedInstructions.{LentPairs, Left}
 use Rattle.walrus_rewrite.specs.declared.error.RewriteError.{RewriteError}
 use Rattle.walrus_rewrite.specs.declared.error.RewriteError.TheVariants.{Parse, Walk, Emit}
-use Rattle.walrus_rewrite.specs.RawBodies.{EmitInput, IsRawBody, Begins, IsNotBegun, AppendsPairs}
+use Rattle.walrus_rewrite.specs.RawBodies.{EmitInput, IsRawBody, BeginsRawBody, IsNotBegun, AppendsPairs}
 use Rattle.walrus_ir.specs.Function.{Function}
 use Rattle.walrus_rewrite.specs.RewrittenBodies.{KeepsSource, Rewrites}
 use Rattle.walrus_ir.specs.declared.module.Module.{Module}
@@ -64,8 +64,8 @@ IsUntouched old new (Walk w) = Unit {0}
 IsUntouched old new (Emit e) = Unit {0}
 
 -- They are appended.
-abbrev pub Finishes : Result Drafted RewriteError → (old new : List ℕ) → Result (Unit {0}) RewriteError → Type 0
-Finishes made old new r = FinishesTo (λ o. new ≡ old ++ o.bytes) made r
+abbrev pub FinishesBytes : Result Drafted RewriteError → (old new : List ℕ) → Result (Unit {0}) RewriteError → Type 0
+FinishesBytes made old new r = FinishesTo (λ o. new ≡ old ++ o.bytes) made r
 
 -- And the pairs are appended to their list.
 abbrev pub FinishesBoth : Result Drafted RewriteError → (old new : List ℕ) → (old_pairs new_pairs : List Pair) → Result (Unit {0}) RewriteError → Type 0
@@ -110,7 +110,7 @@ module _ {S F : Type 0} (asks : Shared F (Bor ℕ × Unit {0}) ℕ) (i : ParseIn
   pub record WritesAll (has_map : Bool) (numbers_with : List (ℕ × ℕ) → Numbers) (used : ℕ → Bool) (written : Drafted) : Type 0 where
     pub entries : List (ℕ × ℕ)
     pub declared : List ℕ
-    pub begins : Begins by used declared entries
+    pub begins : BeginsRawBody by used declared entries
     pub writes : WritesBody asks (read_again i) (numbers_with entries) (begun_draft declared has_map) written
 
   -- The locals can't be declared, or else this is the first fault of what is written of the body; or memory ran out.
@@ -118,7 +118,7 @@ module _ {S F : Type 0} (asks : Shared F (Bor ℕ × Unit {0}) ℕ) (i : ParseIn
     out_of_memory : e ≡ Memory → IsNotAllWritten numbers_with used e
     not_begun : IsNotBegun by used e → IsNotAllWritten numbers_with used e
     not_written :
-        (declared : List ℕ) (entries : List (ℕ × ℕ)) → Begins by used declared entries →
+        (declared : List ℕ) (entries : List (ℕ × ℕ)) → BeginsRawBody by used declared entries →
         RefusesWriting asks (read_again i) (numbers_with entries) e → IsNotAllWritten numbers_with used e
 
 -- ---- both ways of rewriting

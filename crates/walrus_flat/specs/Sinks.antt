@@ -8,12 +8,12 @@ abbrev pub no_output : Output
 no_output = record { bytes = []; pairs = [] }
 
 -- one output, and another after it
-abbrev pub joined : Output → Output → Output
-joined first second = record { bytes = first.bytes ++ second.bytes; pairs = first.pairs ++ second.pairs }
+abbrev pub joined_outputs : Output → Output → Output
+joined_outputs first second = record { bytes = first.bytes ++ second.bytes; pairs = first.pairs ++ second.pairs }
 
 -- a draft that begins after so many bytes, with this output before its own
 abbrev pub with_front : ℕ → Output → Drafted → Drafted
-with_front base front d = record { base = base; has_map = d.has_map; output = joined front d.output }
+with_front base front d = record { base = base; has_map = d.has_map; output = joined_outputs front d.output }
 
 -- These are the states of a sink, from one to the other of which it takes bytes and pairs.
 module _ {S : Type 0} (takes : S → S → Output → Type 0) (before after : S) where

@@ -13,7 +13,7 @@ use Rattle.wasm_body.specs.Translation.{Located, at_location}
 use Rattle.wasm_body.specs.FunctionTree.{last_location}
 use Rattle.wasm_body.specs.NormalForm.{Typing}
 use Rattle.wasm_body.specs.Bytes.{Numbers, in_32_bits, numbers_in_32_bits, numbered_block}
-use Rattle.wasm_flat.specs.Flat.{Named, Open, Dropped, Kept, Mode, Live, Waits, Dead, FlatState, state, innermost, around, needs_else, mode_of_else, parted, closed, numbered}
+use Rattle.wasm_flat.specs.Flat.{Named, Open, Dropped, Kept, Mode, Live, Waits, Unreachable, FlatState, flat_state, innermost, around, needs_else, mode_of_else, parted, closed_state, numbered_at_location}
 use Rattle.wasm_translate.specs.Changes.{Changes}
 use Rattle.walrus_maps.specs.IndexMaps.{id_of, local_of}
 use Rattle.walrus_numbering.specs.NumberMaps.{numbers_by}
@@ -39,15 +39,15 @@ writing_changes id_of local_of to type = record {
   block = λ b. numbered_block to type;
 }
 
-abbrev pub changes_of : Renumbering → Changes EmitError
-changes_of r = writing_changes (id_of r.indices.now) (local_of r.indices.now r.function) (numbers_by r.types.now r.ids.now (entries_of r.locals.now)) r.ty
+abbrev pub changes_of_renumbering : Renumbering → Changes EmitError
+changes_of_renumbering r = writing_changes (id_of r.indices.now) (local_of r.indices.now r.function) (numbers_by r.types.now r.ids.now (entries_of r.locals.now)) r.ty
 
 -- ---- the state between two operators
 
 abbrev pub mode_of : Next → Mode
 mode_of next.Live = Live
 mode_of (next.Waits location) = Waits location
-mode_of next.Dead = Dead
+mode_of next.Unreachable = Unreachable
 
 abbrev pub open_of : Written → Open
 open_of sequence.Dropped = Dropped
@@ -57,31 +57,31 @@ open_of (sequence.Kept needs_else) = Kept needs_else
 abbrev pub opens_of : OpenSequences → List Open
 opens_of s = reverse (map open_of s.sequences.items)
 
-abbrev pub state_of : OpenSequences → FlatState
-state_of s = state (mode_of s.next) (opens_of s)
+abbrev pub flat_state_of : OpenSequences → FlatState
+flat_state_of s = flat_state (mode_of s.next) (opens_of s)
 
-abbrev pub is_dead : Next → Bool
-is_dead next.Live = false
-is_dead (next.Waits location) = false
-is_dead next.Dead = true
+abbrev pub is_unreachable_next : Next → Bool
+is_unreachable_next next.Live = false
+is_unreachable_next (next.Waits location) = false
+is_unreachable_next next.Unreachable = true
 
 abbrev pub waits : Next → Bool
 waits next.Live = false
 waits (next.Waits location) = true
-waits next.Dead = false
+waits next.Unreachable = false
 
 -- the location of the `else` that waits
 abbrev pub waiting_location : Next → Option ℕ
 waiting_location next.Live = None
 waiting_location (next.Waits location) = Some location
-waiting_location next.Dead = None
+waiting_location next.Unreachable = None
 
--- whether an operator that ends the innermost sequence is in dead code
+-- whether an operator that ends the innermost sequence is in unreachable code
 abbrev pub drops_end : Mode → Open → Bool
 drops_end Live o = false
 drops_end (Waits location) o = false
-drops_end Dead Dropped = true
-drops_end Dead (Kept needed) = false
+drops_end Unreachable Dropped = true
+drops_end Unreachable (Kept needed) = false
 
 abbrev pub ends_dropped : FlatState → Bool
 ends_dropped s = drops_end s.mode (innermost s.sequences)
@@ -96,13 +96,13 @@ drafted d (z ∷ zs) = drafted (with_written d z) zs
 abbrev pub waiting_else : Next → List (Located RawOperation)
 waiting_else next.Live = []
 waiting_else (next.Waits location) = at_location else_operation location ∷ []
-waiting_else next.Dead = []
+waiting_else next.Unreachable = []
 
 -- after it was written
 abbrev pub awake_next : Next → Next
 awake_next next.Live = next.Live
 awake_next (next.Waits location) = next.Live
-awake_next next.Dead = next.Dead
+awake_next next.Unreachable = next.Unreachable
 
 abbrev pub awake : OpenSequences → OpenSequences
 awake s = record s { next = awake_next s.next }
@@ -116,8 +116,8 @@ else_if false l = []
 abbrev pub else_pieces : Mode → Open → (location : ℕ) → List (Located RawOperation)
 else_pieces Live o l = else_if (needs_else o) l
 else_pieces (Waits k) o l = at_location else_operation k ∷ []
-else_pieces Dead Dropped l = []
-else_pieces Dead (Kept needed) l = else_if needed l
+else_pieces Unreachable Dropped l = []
+else_pieces Unreachable (Kept needed) l = else_if needed l
 
 -- of an `end`
 abbrev pub end_if : (needs_else : Bool) → (location : ℕ) → List (Located RawOperation)
@@ -128,41 +128,41 @@ end_if false l = at_location end_operation l ∷ []
 abbrev pub end_location : Next → (location : ℕ) → ℕ
 end_location next.Live l = l
 end_location (next.Waits k) l = last_location k l
-end_location next.Dead l = l
+end_location next.Unreachable l = l
 
 abbrev pub end_pieces : Mode → Open → (location : ℕ) → List (Located RawOperation)
 end_pieces Live o l = end_if (needs_else o) l
 end_pieces (Waits k) o l = at_location end_operation (last_location k l) ∷ []
-end_pieces Dead Dropped l = []
-end_pieces Dead (Kept needed) l = end_if needed l
+end_pieces Unreachable Dropped l = []
+end_pieces Unreachable (Kept needed) l = end_if needed l
 
 -- the state after an `else`
 abbrev pub alternative : List Open → (location : ℕ) → FlatState
-alternative os l = state (mode_of_else (needs_else (innermost os)) l) (Kept false ∷ around os)
+alternative os l = flat_state (mode_of_else (needs_else (innermost os)) l) (Kept false ∷ around os)
 
 abbrev pub state_after_else : Mode → List Open → (location : ℕ) → FlatState
 state_after_else Live os l = alternative os l
 state_after_else (Waits k) os l = alternative os l
-state_after_else Dead os l = parted (innermost os) os (alternative os l)
+state_after_else Unreachable os l = parted (innermost os) os (alternative os l)
 
 -- after an `end`
 abbrev pub state_after_end : Mode → List Open → FlatState
-state_after_end Live os = state Live (around os)
-state_after_end (Waits k) os = state Live (around os)
-state_after_end Dead os = closed (innermost os) os (state Live (around os))
+state_after_end Live os = flat_state Live (around os)
+state_after_end (Waits k) os = flat_state Live (around os)
+state_after_end Unreachable os = closed_state (innermost os) os (flat_state Live (around os))
 
 -- after an operator by itself
-abbrev pub mode_if : (diverges : Bool) → Mode
-mode_if true = Dead
+abbrev pub mode_if : (unreachable_after : Bool) → Mode
+mode_if true = Unreachable
 mode_if false = Live
 
 -- These are the operators that are written when this one is read, in order.
 pub record Writes (to : Numbers) (m : Typing) (written : List (Marked Named)) (old new : Drafted) : Type 0 where
   pub operators : List (Located RawOperation)
-  pub are_numbered : gather (map (numbered to m) written) ≡ Ok operators
+  pub are_numbered : gather (map (numbered_at_location to m) written) ≡ Ok operators
   pub is : new ≡ drafted old operators
 
 -- They were written; or memory ran out, or this is the first fault among them.
 abbrev pub IsWritten : Numbers → Typing → List (Marked Named) → Drafted → Drafted → Result (Unit {0}) EmitError → Type 0
 IsWritten to m written old new (Ok u) = Writes to m written old new
-IsWritten to m written old new (Err e) = (e ≡ Memory) ⊎ (gather (map (numbered to m) written) ≡ Err e)
+IsWritten to m written old new (Err e) = (e ≡ Memory) ⊎ (gather (map (numbered_at_location to m) written) ≡ Err e)

@@ -35,7 +35,7 @@ some_locations None = None
 some_locations (Some f) = Some (λ place. 0)
 
 -- The bytes are accepted as a body, whatever its locations are.
-pub record IsAccepted {F : Type 0} (i : ParseInput (Unit {0}) F) : Type 0 where
+pub record IsAcceptedBody {F : Type 0} (i : ParseInput (Unit {0}) F) : Type 0 where
   pub body : Body Occurrence
   pub accepted : Accepted (setting_with i (some_locations i.on_instr_pos)) i.bytes body
 
@@ -89,7 +89,7 @@ module _ {F : Type 0} (g : Shared F (Bor ℕ × Unit {0}) ℕ) (i : ParseInput (
 
   -- This is the first fault of what is written of the body.
   pub record RefusesWriting (e : EmitError) : Type 0 where
-    pub accepted : IsAccepted i
+    pub accepted : IsAcceptedBody i
     pub fault : written_of i.environment to (operators_of accepted.body) ≡ Err e
 
   -- A sink took the front of it, from one state to the other.

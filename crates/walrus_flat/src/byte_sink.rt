@@ -2,7 +2,7 @@
 ghost use Rattle.std.specs.Prelude.{◌≡◌, []};
 ghost use Rattle.std.specs.Bool.{OnTrue};
 ghost use Rattle.walrus_emit_state.specs.Emission.{Output};
-ghost use Rattle.walrus_flat.specs.Sinks.{IsLeft, no_output, joined};
+ghost use Rattle.walrus_flat.specs.Sinks.{IsLeft, no_output, joined_outputs};
 
 use walrus_emit_state::Draft;
 use walrus_ir::InstrLocId;
@@ -29,7 +29,7 @@ pub trait ByteSink {
     ghost nothing: { (s : Self) → takes s s no_output };
 
     ghost one_by_one: { (a b c : Self) (first second : Output) → takes a b first → takes b c second
-        → takes a c (joined first second) };
+        → takes a c (joined_outputs first second) };
 }
 
 /// The sink that takes nothing: the body stays in its list.
@@ -49,7 +49,7 @@ impl ByteSink for InMemory {
 
     ghost nothing = { λ s k. no_output };
 
-    ghost one_by_one = { λ a b c first second none no_more. ap (λ (o : Output). joined o second) none ∙ no_more };
+    ghost one_by_one = { λ a b c first second none no_more. ap (λ (o : Output). joined_outputs o second) none ∙ no_more };
 }
 
 /// Lets a sink take what is written of a body, unless it takes it after all of the source is read.

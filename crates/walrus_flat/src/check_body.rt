@@ -1,11 +1,11 @@
 //! The first pass: a body is checked, and the locals that its live operators name are gathered.
 ghost use Rattle.std.specs.Prelude.{◌≢◌, ◌<◌, [], IfErr, OnOk, Ok, Err, true, false};
 ghost use Rattle.wasm_operators.specs.Meaning.{meaning};
-ghost use Rattle.wasm_ops.specs.CommonOperators.{listed};
+ghost use Rattle.wasm_ops.specs.CommonOperators.{common_listed};
 ghost use Rattle.walrus_validators.specs.Checking.{Checks, placed_at};
 ghost use Rattle.walrus_flat.specs.Controls.{control_listed};
-ghost use Rattle.walrus_flat.specs.Checked.{env_of};
-ghost use Rattle.walrus_flat.specs.CheckedBody.{BeginsBody, setting_at, ChecksOperators, ChecksNextAtOnce, RefusesTaking, IsTaken};
+ghost use Rattle.walrus_flat.specs.Checked.{env_of_checker};
+ghost use Rattle.walrus_flat.specs.CheckedBody.{BeginsBody, setting_at, ChecksOperators, ChecksNextAtOnce, RefusesTaking, IsValidated};
 
 use crate::checker::Checker;
 use crate::control::Control;
@@ -23,7 +23,7 @@ fn accepts<V: OpCheck>(
     limit: PlaceLimit,
     validator: &mut V,
 ) -> Result<(), ParseError>
-    ensures ok { OnOk result (IsTaken V.check (V.state validator.old) (V.state validator.new)
+    ensures ok { OnOk result (IsValidated V.check (V.state validator.old) (V.state validator.new)
         (meaning operator.now) limit.has_limit at) }
     ensures err { IfErr result (RefusesTaking V.check (V.state validator.old)
         (meaning operator.now) limit.has_limit at) }
@@ -45,10 +45,10 @@ fn accepts_common<V: OpCheck>(
     limit: PlaceLimit,
     validator: &mut V,
 ) -> Result<(), ParseError>
-    ensures ok { OnOk result (IsTaken V.check (V.state validator.old) (V.state validator.new)
-        (meaning (listed common)) limit.has_limit at) }
+    ensures ok { OnOk result (IsValidated V.check (V.state validator.old) (V.state validator.new)
+        (meaning (common_listed common)) limit.has_limit at) }
     ensures err { IfErr result (RefusesTaking V.check (V.state validator.old)
-        (meaning (listed common)) limit.has_limit at) }
+        (meaning (common_listed common)) limit.has_limit at) }
 {
     if !limit.fits(at) {
         return Err(ParseError::PlaceTooGreat);
@@ -86,7 +86,7 @@ fn accepts_control<V: OpCheck>(
     limit: PlaceLimit,
     validator: &mut V,
 ) -> Result<(), ParseError>
-    ensures ok { OnOk result (IsTaken V.check (V.state validator.old) (V.state validator.new)
+    ensures ok { OnOk result (IsValidated V.check (V.state validator.old) (V.state validator.new)
         (meaning (control_listed control)) limit.has_limit at) }
     ensures err { IfErr result (RefusesTaking V.check (V.state validator.old)
         (meaning (control_listed control)) limit.has_limit at) }
@@ -170,7 +170,7 @@ pub(crate) fn check_operators<V: OpCheck>(
     mut validator: V,
 ) -> Result<(), ParseFailure>
     requires { BeginsBody checker.old }
-    ensures { ChecksOperators (setting_at (env_of checker.old) reader.old.place V.check
+    ensures { ChecksOperators (setting_at (env_of_checker checker.old) reader.old.place V.check
         (V.state validator)) limit.has_limit reader.old.rest checker.old checker.new result }
 {
     let _ids = checker.indices.ids;

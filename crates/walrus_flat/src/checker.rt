@@ -5,11 +5,11 @@ ghost use Rattle.wasm_operators.specs.Meaning.{meaning};
 ghost use Rattle.wasm_encode.specs.Writable.{IsWritable};
 ghost use Rattle.wasm_body.specs.declared.error.ParseError.TheVariants.{Memory as MemoryFault};
 ghost use Rattle.wasm_body.specs.Naming.{has_pick};
-ghost use Rattle.walrus_parser.specs.OperatorKinds.{is_diverging};
-ghost use Rattle.walrus_flat.specs.Checkers.{NamesNoType, HasNoParts, IsByte};
+ghost use Rattle.walrus_parser.specs.OperatorKinds.{makes_unreachable};
+ghost use Rattle.walrus_flat.specs.Checkers.{NamesNoType, HasNoParts, IsOneByte};
 ghost use Rattle.walrus_flat.specs.SequenceKinds.{handler_kind, has_else, has_clauses, has_delegate};
 ghost use Rattle.std.specs.Bool.{OnTrue, OnFalse};
-ghost use Rattle.wasm_ops.specs.CommonOperators.{listed};
+ghost use Rattle.wasm_ops.specs.CommonOperators.{common_listed};
 ghost use Rattle.walrus_flat.specs.Controls.{control_listed};
 ghost use Rattle.walrus_ir.specs.declared.val_type.InstrSeqType.TheVariants.{Simple as SimpleType};
 
@@ -34,8 +34,8 @@ pub(crate) struct Checker<'a> {
     pub ty: TypeId,
     /// The open sequences, the innermost last.
     pub open: Vec<OpenSequence>,
-    /// Whether code is dead.
-    pub dead: bool,
+    /// Whether code is unreachable.
+    pub unreachable: bool,
     /// The locals that live operators named.
     pub used: UsedLocals,
     pub lists: Lists,
@@ -126,8 +126,8 @@ fn is_float(operator: &Operator<'_>) -> bool
 }
 
 impl Checker<'_> {
-    ghost use Rattle.walrus_flat.specs.Checked.{env_of, ChecksStep, StaysSame, ChecksAtOnce};
-    ghost use Rattle.walrus_flat.specs.Checkers.{ChecksParts, IsNamedType, has_handler_type, as_kind, Closes, ClosesInner, Opens, BeginsConstruct, RefusesConstruct, PartsIf, RefusesElse, PartsTry, RefusesClause, ClosesTry, RefusesDelegate, NamesLocal, RefusesLocal, Takes, parts_in};
+    ghost use Rattle.walrus_flat.specs.Checked.{env_of_checker, ChecksStep, StaysSame, ChecksAtOnce};
+    ghost use Rattle.walrus_flat.specs.Checkers.{ChecksParts, IsNamedType, has_handler_type, as_kind, ClosesSequence, ClosesInner, OpensSequence, BeginsConstruct, RefusesConstruct, PartsIf, RefusesElse, PartsTry, RefusesClause, ClosesTry, RefusesDelegate, NamesLocal, RefusesLocal, TakesOperator, parts_in};
 
     /// Checks the parts of an operator.
     fn check_parts(&mut self, operator: &Operator<'_>) -> Result<(), ParseError>
@@ -178,7 +178,7 @@ impl Checker<'_> {
 
     /// A type with the parameters and results of a block type whose parts are checked.
     fn named_type(&self, ty: BlockType) -> Result<InstrSeqType, ParseError>
-        ensures { IsNamedType (env_of self.now) ty result }
+        ensures { IsNamedType (env_of_checker self.now) ty result }
     {
         match ty {
             BlockType::Empty => Ok(InstrSeqType::Simple(None)),
@@ -195,7 +195,7 @@ impl Checker<'_> {
 
     /// Whether the module has a type of a sequence with these parameters and results.
     fn has_pick(&self, params: &[ValType], results: &[ValType]) -> Result<(), ParseError>
-        ensures { result ≡ has_pick (env_of self.now) (signature params.now results.now) }
+        ensures { result ≡ has_pick (env_of_checker self.now) (signature params.now results.now) }
     {
         match InstrSeqType::existing(&self.module.types, params, results) {
             Some(_) => Ok(()),
@@ -205,8 +205,8 @@ impl Checker<'_> {
 
     /// Whether the module has a type of a sequence with the parameters and results of this type.
     fn has_pick_of(&self, ty: &InstrSeqType) -> Result<(), ParseError>
-        ensures { (s : Signature) → signature_of_type (env_of self.now).types ty.now ≡ Some s
-            → result ≡ has_pick (env_of self.now) s }
+        ensures { (s : Signature) → signature_of_type (env_of_checker self.now).types ty.now ≡ Some s
+            → result ≡ has_pick (env_of_checker self.now) s }
     {
         match *ty {
             InstrSeqType::Simple(result) => match result {
@@ -227,8 +227,8 @@ impl Checker<'_> {
 
     /// Whether the module has a type of a sequence with these parameters and the results of a type.
     fn has_pick_with(&self, params: &[ValType], ty: InstrSeqType) -> Result<(), ParseError>
-        ensures { (s : Signature) → signature_of_type (env_of self.now).types ty ≡ Some s
-            → result ≡ has_pick (env_of self.now) (signature params.now s.results) }
+        ensures { (s : Signature) → signature_of_type (env_of_checker self.now).types ty ≡ Some s
+            → result ≡ has_pick (env_of_checker self.now) (signature params.now s.results) }
     {
         match ty {
             InstrSeqType::Simple(result) => match result {
@@ -247,10 +247,10 @@ impl Checker<'_> {
 
     /// Opens a sequence.
     fn enter(&mut self, kind: BlockKind, ty: InstrSeqType) -> Result<(), ParseError>
-        ensures ok { OnOk result (Opens self.old self.new kind ty) }
+        ensures ok { OnOk result (OpensSequence self.old self.new kind ty) }
         ensures err { IfErr result (λ e. e ≡ MemoryFault) }
     {
-        let before = self.dead;
+        let before = self.unreachable;
         match self.open.push(OpenSequence { kind, ty, before }) {
             Ok(()) => Ok(()),
             Err(_) => Err(ParseError::Memory),
@@ -285,11 +285,11 @@ impl Checker<'_> {
 
     /// Closes the innermost sequence, and returns it.
     fn close(&mut self) -> Option<OpenSequence>
-        ensures { MatchOption result (self.old.open.items ≡ []) (Closes self.old self.new) }
+        ensures { MatchOption result (self.old.open.items ≡ []) (ClosesSequence self.old self.new) }
     {
         match self.open.pop() {
             Some(top) => {
-                self.dead = top.before;
+                self.unreachable = top.before;
                 Some(top)
             }
             None => None,
@@ -328,8 +328,8 @@ impl Checker<'_> {
     /// Whether the module has the type of a handler of the tag with this old index, in a `try` of
     /// this type.
     fn has_handler_of(&self, tag: u32, ty: InstrSeqType) -> Result<(), ParseError>
-        ensures { (s : Signature) → signature_of_type (env_of self.now).types ty ≡ Some s
-            → result ≡ has_handler_type (env_of self.now) (Some tag) s.results }
+        ensures { (s : Signature) → signature_of_type (env_of_checker self.now).types ty ≡ Some s
+            → result ≡ has_handler_type (env_of_checker self.now) (Some tag) s.results }
     {
         let id = match self.indices.ids.get_tag(tag) {
             Ok(id) => id,
@@ -347,8 +347,8 @@ impl Checker<'_> {
     /// Whether the module has the type of a handler of this tag, if it has one, in a `try` of this
     /// type.
     fn has_handler(&self, tag: Option<u32>, ty: InstrSeqType) -> Result<(), ParseError>
-        ensures { (s : Signature) → signature_of_type (env_of self.now).types ty ≡ Some s
-            → result ≡ has_handler_type (env_of self.now) tag s.results }
+        ensures { (s : Signature) → signature_of_type (env_of_checker self.now).types ty ≡ Some s
+            → result ≡ has_handler_type (env_of_checker self.now) tag s.results }
     {
         match tag {
             Some(tag) => self.has_handler_of(tag, ty),
@@ -409,7 +409,7 @@ impl Checker<'_> {
             Ok(id) => id,
             Err(error) => return Err(ParseError::Index(error)),
         };
-        if self.dead {
+        if self.unreachable {
             return Ok(());
         }
         if self.used.add(id) {
@@ -422,14 +422,14 @@ impl Checker<'_> {
     fn take(&mut self, operator: &Operator<'_>) -> Result<(), ParseError>
         requires { IsWritable (meaning operator.now) }
         ensures ok { OnOk result
-            (Takes self.old self.new (meaning operator.now) (is_diverging operator.now)) }
+            (TakesOperator self.old self.new (meaning operator.now) (makes_unreachable operator.now)) }
         ensures err { IfErr result (λ e. (e ≡ MemoryFault)
             ⊎ (parts_in self.old (meaning operator.now) ≡ Err e)) }
     {
         match self.check_alone(operator) {
             Ok(()) => {
-                if is_diverging(operator) {
-                    self.dead = true;
+                if makes_unreachable(operator) {
+                    self.unreachable = true;
                 }
                 Ok(())
             }
@@ -446,7 +446,7 @@ impl Checker<'_> {
         let Some(local) = self.indices.local_at(index) else {
             return false;
         };
-        if self.dead {
+        if self.unreachable {
             return true;
         }
         self.used.add(local)
@@ -457,7 +457,7 @@ impl Checker<'_> {
     #[inline(always)]
     pub fn step_common(&mut self, common: CommonOperator) -> bool
         requires { self.old.open.items ≢ [] }
-        ensures { ChecksAtOnce self.old self.new (meaning (listed common)) result }
+        ensures { ChecksAtOnce self.old self.new (meaning (common_listed common)) result }
     {
         match common {
             CommonOperator::LocalGet { local } => self.name_local_at(local),
@@ -476,7 +476,7 @@ impl Checker<'_> {
                 if !has_label(&self.open, label) {
                     return false;
                 }
-                self.dead = true;
+                self.unreachable = true;
                 true
             }
             CommonOperator::BrIf { label } => has_label(&self.open, label),
@@ -488,7 +488,7 @@ impl Checker<'_> {
     /// list has no room for it.
     #[inline(always)]
     fn open_empty(&mut self, kind: BlockKind) -> bool
-        ensures done { OnTrue result (Opens self.old self.new kind (SimpleType None)) }
+        ensures done { OnTrue result (OpensSequence self.old self.new kind (SimpleType None)) }
         ensures unchanged { OnFalse result (StaysSame self.old self.new) }
     {
         let _ids = self.indices.ids;
@@ -498,7 +498,7 @@ impl Checker<'_> {
         self.open.push_reserved(OpenSequence {
             kind,
             ty: InstrSeqType::Simple(None),
-            before: self.dead,
+            before: self.unreachable,
         });
         true
     }
@@ -541,7 +541,7 @@ impl Checker<'_> {
         requires writable { IsWritable (meaning operator.now) }
         requires inside { self.old.open.items ≢ [] }
         ensures step { ChecksStep self.old self.new (meaning operator.now) result }
-        ensures env { OnOk result (env_of self.new ≡ env_of self.old) }
+        ensures env { OnOk result (env_of_checker self.new ≡ env_of_checker self.old) }
     {
         match operator {
             Operator::Nop => Ok(()),
@@ -566,9 +566,9 @@ impl Checker<'_> {
     }
 }
 
-/// Whether what follows the operator in its sequence is dead.
-pub(crate) fn is_diverging(operator: &Operator<'_>) -> bool
-    ensures { result ≡ is_diverging operator.now }
+/// Whether what follows the operator in its sequence is unreachable.
+pub(crate) fn makes_unreachable(operator: &Operator<'_>) -> bool
+    ensures { result ≡ makes_unreachable operator.now }
 {
     matches!(
         operator,
@@ -585,7 +585,7 @@ pub(crate) fn is_diverging(operator: &Operator<'_>) -> bool
 /// The byte of an operator by itself that is one byte, if it is one of those that are frequent.
 #[inline(always)]
 pub(crate) fn plain_byte(operator: &Operator<'_>) -> Option<u8>
-    ensures { IfSome result (IsByte (meaning operator.now)) }
+    ensures { IfSome result (IsOneByte (meaning operator.now)) }
 {
     match operator {
         Operator::Unreachable => Some(0x00),

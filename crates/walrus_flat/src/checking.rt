@@ -25,9 +25,9 @@ impl Translate for Checking<'_> {
     type Fault = ParseError;
 
     ghost use Rattle.wasm_body.specs.declared.error.ParseError.TheVariants.{Memory};
-    ghost use Rattle.walrus_flat.specs.Checked.{changes_of};
+    ghost use Rattle.walrus_flat.specs.Checked.{changes_of_checking};
 
-    ghost changes = { changes_of };
+    ghost changes = { changes_of_checking };
 
     ghost memory = { Memory };
 

@@ -37,7 +37,7 @@ impl<'a> Cursor<'a> {
     ghost use Rattle.std.specs.Prelude.{◌+◌, ◌<◌, ◌^◌, ◌==◌, length, IfOk, IfErr, IfSome, Err};
     ghost use Rattle.wasm_operators.specs.Meaning.{meaning};
     ghost use Rattle.wasm_encode.specs.Writable.{IsWritable};
-    ghost use Rattle.wasm_ops.specs.CommonOperators.{listed};
+    ghost use Rattle.wasm_ops.specs.CommonOperators.{common_listed};
     ghost use Rattle.wasm_ops.specs.Position.{IsAfter};
     ghost use Rattle.walrus_flat.specs.Controls.{control_listed, HasFront};
 
@@ -89,9 +89,9 @@ impl<'a> Cursor<'a> {
     #[inline(always)]
     pub fn peek_common(&self) -> Option<(CommonOperator, &'a [u8])>
         ensures spelt { IfSome result (λ x.
-            (text : List ℕ) × Spells (meaning (listed x.0)) text) }
+            (text : List ℕ) × Spells (meaning (common_listed x.0)) text) }
         ensures is_read { IfSome result (λ x.
-            read_operation self.now.rest ≡ Ok (meaning (listed x.0), x.1.now)) }
+            read_operation self.now.rest ≡ Ok (meaning (common_listed x.0), x.1.now)) }
     {
         self.reader().peek_common()
     }

@@ -3,7 +3,7 @@ ghost use Rattle.std.specs.Prelude.{◌≡◌, ◌≤◌, ◌<◌, ◌+◌, ◌^
 ghost use Rattle.wasm_body.specs.declared.error.ParseError.TheVariants.{Memory as MemoryFault};
 ghost use Rattle.walrus_maps.specs.Environments.{environment_of};
 ghost use Rattle.walrus_parser.specs.Bodies.{body_setting, body_operators};
-ghost use Rattle.walrus_flat.specs.Checked.{env_of};
+ghost use Rattle.walrus_flat.specs.Checked.{env_of_checker};
 ghost use Rattle.walrus_flat.specs.Checkers.{used_in};
 ghost use Rattle.walrus_flat.specs.CheckedBody.{BeginsBody, setting_at, entry_in, ChecksAll};
 ghost use Rattle.walrus_flat.specs.FlatChecks.{ChecksFlat};
@@ -50,7 +50,7 @@ fn begin_check<'a>(
     scratch: &mut FlatScratch,
 ) -> Result<Checker<'a>, ParseError>
     ensures begins { IfOk result BeginsBody }
-    ensures env { IfOk result (λ c. env_of c
+    ensures env { IfOk result (λ c. env_of_checker c
         ≡ environment_of «module».now indices.now function ty) }
     ensures none { IfOk result (λ c. (x : ℕ) → used_in c x ≡ false) }
     ensures err { IfErr result (λ e. e ≡ MemoryFault) }
@@ -74,7 +74,7 @@ fn begin_check<'a>(
             },
             ty,
             open,
-            dead: false,
+            unreachable: false,
             used,
             lists: Lists::new(alloc),
         }),

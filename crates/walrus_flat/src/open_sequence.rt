@@ -10,6 +10,6 @@ pub(crate) struct OpenSequence {
     /// A type with the parameters and results of the construct's block type, as the block type names
     /// it.
     pub ty: InstrSeqType,
-    /// Whether code was dead where the construct began.
+    /// Whether code was unreachable where the construct began.
     pub before: bool,
 }

@@ -1,13 +1,13 @@
 //! The greatest place that an operator may have.
 ghost use Rattle.std.specs.Prelude.{◌≡◌};
-ghost use Rattle.walrus_flat.specs.CheckedBody.{fits_limit, last_place};
+ghost use Rattle.walrus_flat.specs.CheckedBody.{fits_limit, place_limit};
 
 /// Whether places have a limit, and the last place that is small enough.
 #[derive(Clone, Copy)]
 pub(crate) struct PlaceLimit {
     pub has_limit: bool,
     last: usize,
-    ghost is_last: { last ≡ last_place has_limit },
+    ghost is_last: { last ≡ place_limit has_limit },
 }
 
 impl PlaceLimit {

@@ -45,9 +45,9 @@ impl Translate for Renumbering<'_> {
     type Fault = EmitError;
 
     ghost use Rattle.wasm_body.specs.declared.error.EmitError.TheVariants.{Memory};
-    ghost use Rattle.walrus_flat.specs.Written.{changes_of};
+    ghost use Rattle.walrus_flat.specs.Written.{changes_of_renumbering};
 
-    ghost changes = { changes_of };
+    ghost changes = { changes_of_renumbering };
 
     ghost memory = { Memory };
 

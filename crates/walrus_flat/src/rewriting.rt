@@ -2,7 +2,7 @@
 ghost use Rattle.std.specs.Prelude.{◌≡◌, ◌⊎◌, ◌++◌, ◌≤◌, ◌<◌, ◌+◌, ◌^◌, ℕ, List, [], length, Option, Some, OnOk, OnErr, IfOk, IfErr, IsErr, false};
 ghost use Rattle.wasm_body.specs.declared.error.EmitError.TheVariants.{Memory};
 ghost use Rattle.wasm_flat.specs.Flat.{first_state};
-ghost use Rattle.walrus_rewrite.specs.RawBodies.{Begins, IsNotBegun};
+ghost use Rattle.walrus_rewrite.specs.RawBodies.{BeginsRawBody, IsNotBegun};
 ghost use Rattle.walrus_maps.specs.Environments.{environment_of};
 ghost use Rattle.walrus_parser.specs.Bodies.{input_of, body_input, IfAccepted, IfFirstFault};
 ghost use Rattle.walrus_validators.specs.Locating.{MayCall};
@@ -13,10 +13,10 @@ ghost use Rattle.walrus_rewrite.specs.declared.error.RewriteError.TheVariants.{P
 ghost use Rattle.walrus_rewrite.specs.Errors.{IsOutOfMemory};
 ghost use Rattle.walrus_rewrite.specs.RewrittenBodies.{RefusesRewriting, IsOfWriting};
 ghost use Rattle.walrus_flat.specs.UsedLocals.{is_used, entries_of};
-ghost use Rattle.walrus_flat.specs.Written.{state_of};
-ghost use Rattle.walrus_flat.specs.WrittenBody.{again, IsAccepted, WritesBody, RefusesWriting};
+ghost use Rattle.walrus_flat.specs.Written.{flat_state_of};
+ghost use Rattle.walrus_flat.specs.WrittenBody.{again, IsAcceptedBody, WritesBody, RefusesWriting};
 ghost use Rattle.walrus_flat.specs.Sinks.{OfWhole};
-ghost use Rattle.walrus_flat.specs.RewrittenFlat.{emit_input, is_none, Composes, WritesAll, IsNotAllWritten, FinishesTo, IsUntouched, Finishes, FinishesBoth, RewritesFlat, RewritesTo};
+ghost use Rattle.walrus_flat.specs.RewrittenFlat.{emit_input, is_none, Composes, WritesAll, IsNotAllWritten, FinishesTo, IsUntouched, FinishesBytes, FinishesBoth, RewritesFlat, RewritesTo};
 
 use crate::body_indices::BodyIndices;
 use crate::byte_sink::{ByteSink, InMemory};
@@ -41,7 +41,7 @@ use wasm_translate::Lists;
 
 /// The sequences of a body of which nothing is written. They take the list of the scratch.
 fn begin_sequences(alloc: Global, scratch: &mut FlatScratch) -> Result<OpenSequences, EmitError>
-    ensures ok { IfOk result (λ open_sequences. state_of open_sequences ≡ first_state) }
+    ensures ok { IfOk result (λ open_sequences. flat_state_of open_sequences ≡ first_state) }
     ensures err { IfErr result (λ e. e ≡ Memory) }
 {
     let mut sequences = mem::replace(&mut scratch.sequences, Vec::new(alloc));
@@ -74,7 +74,7 @@ fn write<'a, F: Fn(&usize) -> InstrLocId, S: ByteSink>(
     requires fits { start + length ops.now < 2 ^ 64 }
     requires offset { «module».now.code_section_offset ≤ start }
     requires may_call { MayCall F.pre on_instr_pos start (start + length ops.now) }
-    requires accepted { IsAccepted (again (environment_of «module».now indices.now function ty)
+    requires accepted { IsAcceptedBody (again (environment_of «module».now indices.now function ty)
         (record { rest = ops.now; place = start }) «module».now.code_section_offset
         on_instr_pos) }
     ensures ok { IfOk result (OfWhole S.takes sink.old sink.new (WritesBody F.Fn
@@ -129,7 +129,7 @@ fn begin_body(
     bytes: &mut Vec<u8>,
 ) -> Result<NumberedLocals, EmitError>
     requires { bytes.old.items ≡ [] }
-    ensures ok { IfOk result (λ numbers. Begins (emit_input «module».now out.now args.now)
+    ensures ok { IfOk result (λ numbers. BeginsRawBody (emit_input «module».now out.now args.now)
         (is_used used.now) bytes.new.items (entries_of numbers)) }
     ensures err { IfErr result (IsNotBegun (emit_input «module».now out.now args.now)
         (is_used used.now)) }
@@ -193,7 +193,7 @@ fn write_checked<F: Fn(&usize) -> InstrLocId, S: ByteSink>(
     requires fits { start + length ops.now < 2 ^ 64 }
     requires offset { «module».now.code_section_offset ≤ start }
     requires may_call { MayCall F.pre on_instr_pos start (start + length ops.now) }
-    requires accepted { IsAccepted (again (environment_of «module».now indices.now function ty)
+    requires accepted { IsAcceptedBody (again (environment_of «module».now indices.now function ty)
         (record { rest = ops.now; place = start }) «module».now.code_section_offset
         on_instr_pos) }
     requires no_bytes { bytes.items ≡ [] }
@@ -353,7 +353,7 @@ fn append_with_map(
 
 /// Appends a body to `dst`, if it was written.
 fn finish(made: Result<Draft, RewriteError>, dst: &mut Vec<u8>) -> Result<(), RewriteError>
-    ensures finishes { Finishes made dst.old.items dst.new.items result }
+    ensures finishes { FinishesBytes made dst.old.items dst.new.items result }
     ensures same_bytes { OnErr result (dst.new.items ≡ dst.old.items) }
 {
     match made {

@@ -3,7 +3,7 @@ ghost use Rattle.std.specs.Prelude.{◌≡◌, ◌<◌, ◌∷◌, vec_len, vec_
 ghost use Rattle.std.specs.Bool.{OnTrue};
 ghost use Rattle.wasm_body.specs.declared.error.EmitError.TheVariants.{Memory};
 ghost use Rattle.wasm_flat.specs.Flat.{innermost, around, needs_else};
-ghost use Rattle.walrus_flat.specs.Written.{open_of, opens_of, state_of, is_dead, waits, waiting_location, ends_dropped};
+ghost use Rattle.walrus_flat.specs.Written.{open_of, opens_of, flat_state_of, is_unreachable_next, waits, waiting_location, ends_dropped};
 ghost use Rattle.walrus_flat.specs.declared.sequences.Next.TheVariants.{Live as LiveNext};
 
 use walrus_ir::InstrLocId;
@@ -17,13 +17,13 @@ pub(crate) enum Next {
     /// The same, and the first one after an `else` with this location, which isn't written yet.
     Waits(InstrLocId),
     /// They aren't written.
-    Dead,
+    Unreachable,
 }
 
 /// An open sequence.
 #[derive(Clone, Copy)]
 pub(crate) enum Written {
-    /// It is one of a construct in dead code.
+    /// It is one of a construct in unreachable code.
     Dropped,
     /// It is written. `true`: its `if` needs an `else`, and has none so far.
     Kept(bool),
@@ -48,10 +48,10 @@ pub(crate) struct OpenSequences {
 
 impl OpenSequences {
     /// Whether what follows isn't written.
-    pub fn is_dead(&self) -> bool
-        ensures { result ≡ is_dead self.now.next }
+    pub fn is_unreachable(&self) -> bool
+        ensures { result ≡ is_unreachable_next self.now.next }
     {
-        matches!(self.next, Next::Dead)
+        matches!(self.next, Next::Unreachable)
     }
 
     /// Whether what follows is written, and no `else` waits.
@@ -103,11 +103,11 @@ impl OpenSequences {
         needs_else_after(self.innermost())
     }
 
-    /// Whether an operator that ends the innermost sequence is in dead code.
+    /// Whether an operator that ends the innermost sequence is in unreachable code.
     pub fn ends_dropped(&self) -> bool
-        ensures { result ≡ ends_dropped (state_of self.now) }
+        ensures { result ≡ ends_dropped (flat_state_of self.now) }
     {
-        if !self.is_dead() {
+        if !self.is_unreachable() {
             return false;
         }
         matches!(self.innermost(), Written::Dropped)

@@ -2,10 +2,10 @@
 ghost use Rattle.std.specs.Prelude.{◌≡◌, ◌≤◌, ◌<◌, ◌+◌, length, MatchOption};
 ghost use Rattle.walrus_validators.specs.Locating.{MayCall, Locates, HasNoLocation};
 ghost use Rattle.wasm_flat.specs.Flat.{first_state};
-ghost use Rattle.walrus_flat.specs.Written.{state_of};
+ghost use Rattle.walrus_flat.specs.Written.{flat_state_of};
 ghost use Rattle.walrus_flat.specs.declared.sequences.Next.TheVariants.{Live as LiveNext};
-ghost use Rattle.walrus_flat.specs.Writers.{env_at, numbers_in};
-ghost use Rattle.walrus_flat.specs.WrittenBody.{again, IsAccepted, WritesOperators, WritesNextAtOnce, WritesSome};
+ghost use Rattle.walrus_flat.specs.Writers.{env_at, numbers_of_writer};
+ghost use Rattle.walrus_flat.specs.WrittenBody.{again, IsAcceptedBody, WritesOperators, WritesNextAtOnce, WritesSome};
 
 use crate::byte_sink::{ByteSink, pass_to};
 use crate::cursor::Cursor;
@@ -114,14 +114,14 @@ pub(crate) fn write_operators<F: Fn(&usize) -> InstrLocId, S: ByteSink>(
     on_instr_pos: Option<&F>,
     sink: &mut S,
 ) -> Result<(), EmitError>
-    requires begins { state_of writer.old.open ≡ first_state }
+    requires begins { flat_state_of writer.old.open ≡ first_state }
     requires offset { writer.old.«module».now.code_section_offset ≤ reader.old.place }
     requires may_call { MayCall F.pre on_instr_pos reader.old.place
         (reader.old.place + length reader.old.rest) }
-    requires accepted { IsAccepted (again (env_at writer.old writer.old.ty) reader.old
+    requires accepted { IsAcceptedBody (again (env_at writer.old writer.old.ty) reader.old
         writer.old.«module».now.code_section_offset on_instr_pos) }
     ensures { WritesOperators F.Fn (again (env_at writer.old writer.old.ty) reader.old
-        writer.old.«module».now.code_section_offset on_instr_pos.entry) (numbers_in writer.old)
+        writer.old.«module».now.code_section_offset on_instr_pos.entry) (numbers_of_writer writer.old)
         S.takes sink.old sink.new writer.old.draft writer.new.draft result }
 {
     while !reader.eof() {

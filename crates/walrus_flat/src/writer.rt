@@ -5,25 +5,25 @@ ghost use Rattle.walrus_ir.specs.declared.val_type.InstrSeqType.TheVariants.{Sim
 ghost use Rattle.wasm_operators.specs.Meaning.{meaning};
 ghost use Rattle.wasm_encode.specs.Writable.{IsWritable};
 ghost use Rattle.wasm_body.specs.declared.error.EmitError.TheVariants.{Memory};
-ghost use Rattle.wasm_flat.specs.Flat.{Kept as KeptOpen, Live as LiveMode, Dead as DeadMode, innermost, around, mode_of_else, state};
-ghost use Rattle.walrus_parser.specs.OperatorKinds.{is_diverging};
+ghost use Rattle.wasm_flat.specs.Flat.{Kept as KeptOpen, Live as LiveMode, Unreachable as DeadMode, innermost, around, mode_of_else, flat_state};
+ghost use Rattle.walrus_parser.specs.OperatorKinds.{makes_unreachable};
 ghost use Rattle.walrus_flat.specs.declared.sequences.Next.TheVariants.{Live as LiveNext};
 ghost use Rattle.std.specs.Bool.{OnTrue, OnFalse};
-ghost use Rattle.walrus_flat.specs.Written.{drafted, waiting_else, awake, opens_of, state_of, mode_of, is_dead, ends_dropped, else_if, end_if, end_location, else_pieces, end_pieces, state_after_else, state_after_end, mode_if};
+ghost use Rattle.walrus_flat.specs.Written.{drafted, waiting_else, awake, opens_of, flat_state_of, mode_of, is_unreachable_next, ends_dropped, else_if, end_if, end_location, else_pieces, end_pieces, state_after_else, state_after_end, mode_if};
 ghost use Rattle.wasm_operators.specs.AccessOperations.{access_of};
 ghost use Rattle.wasm_operators.specs.declared.operator.Op.TheVariants as listing;
 ghost use Rattle.wasm_operators.specs.declared.types.Opcode.TheVariants as opcodes;
 ghost use Rattle.wasm_operators.specs.declared.types.Space.TheVariants.{Funcs, Globals};
 ghost use Rattle.wasm_operators.specs.Operations.{operation, index as index_immediate, local as local_immediate, label as label_immediate, access as access_immediate};
-ghost use Rattle.wasm_ops.specs.CommonOperators.{listed};
+ghost use Rattle.wasm_ops.specs.CommonOperators.{common_listed};
 ghost use Rattle.walrus_flat.specs.Controls.{control_listed};
 ghost use Rattle.wasm_body.specs.Translation.{at_location};
 ghost use Rattle.wasm_operators.specs.Shortest.{short_number, short_bits};
 ghost use Rattle.walrus_emit_state.specs.TreeWriting.Drafts.{with_bytes};
-ghost use Rattle.walrus_flat.specs.Writers.{IsOpener, IsTypeByte, IsShortOpener};
+ghost use Rattle.walrus_flat.specs.Writers.{IsOpenerByte, IsTypeByte, IsShortOpener};
 
 use crate::body_indices::BodyIndices;
-use crate::checker::{is_diverging, plain_byte};
+use crate::checker::{makes_unreachable, plain_byte};
 use crate::control::Control;
 use crate::local_numbers::LocalNumbers;
 use crate::renumbering::Renumbering;
@@ -59,7 +59,7 @@ pub(crate) struct Writer<'a> {
 /// The byte of the opener of a construct that has a block type and no other part.
 #[inline(always)]
 fn opener_byte(operator: &Operator<'_>) -> Option<u8>
-    ensures { IfSome result (IsOpener (meaning operator.now)) }
+    ensures { IfSome result (IsOpenerByte (meaning operator.now)) }
 {
     match operator {
         Operator::Block { .. } => Some(0x02),
@@ -103,7 +103,7 @@ fn opener_bytes(operator: &Operator<'_>, ty: &InstrSeqType) -> Option<(u8, u32)>
 }
 
 impl Writer<'_> {
-    ghost use Rattle.walrus_flat.specs.Writers.{PutsAsIs, Goes, WritesUnless, OpensUnless, Picks, needs_one, numbers_in, StepsWriter, WritesCommon, WritesAtOnce, OpensEmpty, ClosesShort};
+    ghost use Rattle.walrus_flat.specs.Writers.{PutsAsIs, Goes, WritesUnless, OpensUnless, Picks, needs_one, numbers_of_writer, StepsWriter, WritesCommon, WritesAtOnce, OpensEmpty, ClosesShort};
 
     /// Writes an operator that is one byte.
     fn put_byte(&mut self, byte: u8, location: InstrLocId) -> Result<(), EmitError>
@@ -263,17 +263,17 @@ impl Writer<'_> {
         location: InstrLocId,
     ) -> Result<(), EmitError>
         requires { IsWritable (meaning operator.now) }
-        ensures { WritesUnless (is_dead self.old.open.next) self.old self.new
-            (meaning operator.now) (SimpleType None) location (state_of self.old.open)
-            (state (mode_if (is_diverging operator.now)) (opens_of self.old.open)) result }
+        ensures { WritesUnless (is_unreachable_next self.old.open.next) self.old self.new
+            (meaning operator.now) (SimpleType None) location (flat_state_of self.old.open)
+            (flat_state (mode_if (makes_unreachable operator.now)) (opens_of self.old.open)) result }
     {
         let _ids = self.indices.ids;
-        if self.open.is_dead() {
+        if self.open.is_unreachable() {
             return Ok(());
         }
         match self.write_alone(operator, location) {
             Ok(()) => {
-                self.open.next = next_after(is_diverging(operator));
+                self.open.next = next_after(makes_unreachable(operator));
                 Ok(())
             }
             Err(fault) => Err(fault),
@@ -308,7 +308,7 @@ impl Writer<'_> {
 
     /// Whether the first sequence of an `if`, or of another construct, needs an `else`.
     fn needs_else(&self, is_if: bool, ty: &InstrSeqType) -> bool
-        ensures { result ≡ needs_one is_if ((numbers_in self.now).balanced ty.now) }
+        ensures { result ≡ needs_one is_if ((numbers_of_writer self.now).balanced ty.now) }
     {
         if is_if {
             let balanced = is_balanced(&self.module.types, *ty);
@@ -328,8 +328,8 @@ impl Writer<'_> {
     ) -> Result<(), EmitError>
         requires { IsWritable (meaning operator.now) }
         ensures { WritesUnless false self.old self.new (meaning operator.now) ty location
-            (state_of self.old.open) (state LiveMode (KeptOpen (needs_one is_if
-            ((numbers_in self.old).balanced ty)) ∷ opens_of self.old.open)) result }
+            (flat_state_of self.old.open) (flat_state LiveMode (KeptOpen (needs_one is_if
+            ((numbers_of_writer self.old).balanced ty)) ∷ opens_of self.old.open)) result }
     {
         let _ids = self.indices.ids;
         let needs_else = self.needs_else(is_if, &ty);
@@ -350,11 +350,11 @@ impl Writer<'_> {
         location: InstrLocId,
     ) -> Result<(), EmitError>
         requires { IsWritable (meaning operator.now) }
-        ensures { OpensUnless (is_dead self.old.open.next) self.old self.new
+        ensures { OpensUnless (is_unreachable_next self.old.open.next) self.old self.new
             (meaning operator.now) ty is_if location result }
     {
         let _ids = self.indices.ids;
-        if self.open.is_dead() {
+        if self.open.is_unreachable() {
             return self.open.enter(Written::Dropped);
         }
         match self.picked(ty) {
@@ -411,9 +411,9 @@ impl Writer<'_> {
         location: InstrLocId,
     ) -> Result<(), EmitError>
         requires { IsWritable (meaning operator.now) }
-        ensures { WritesUnless (ends_dropped (state_of self.old.open)) self.old self.new
-            (meaning operator.now) (SimpleType None) location (state_of self.old.open)
-            (state LiveMode (opens_of self.old.open)) result }
+        ensures { WritesUnless (ends_dropped (flat_state_of self.old.open)) self.old self.new
+            (meaning operator.now) (SimpleType None) location (flat_state_of self.old.open)
+            (flat_state LiveMode (opens_of self.old.open)) result }
     {
         let _ids = self.indices.ids;
         if self.open.ends_dropped() {
@@ -431,10 +431,10 @@ impl Writer<'_> {
     /// Takes a `delegate`.
     fn close_try(&mut self, operator: &Operator<'_>) -> Result<(), EmitError>
         requires { IsWritable (meaning operator.now) }
-        ensures { WritesUnless (ends_dropped (state_of self.old.open)) self.old self.new
+        ensures { WritesUnless (ends_dropped (flat_state_of self.old.open)) self.old self.new
             (meaning operator.now) (SimpleType None) default_location
-            (state DeadMode (around (opens_of self.old.open)))
-            (state LiveMode (around (opens_of self.old.open))) result }
+            (flat_state DeadMode (around (opens_of self.old.open)))
+            (flat_state LiveMode (around (opens_of self.old.open))) result }
     {
         let _ids = self.indices.ids;
         if self.open.ends_dropped() {
@@ -620,7 +620,7 @@ impl Writer<'_> {
     /// is changed: a part of it has no number, or memory ran out.
     #[inline(always)]
     fn write_common(&mut self, common: CommonOperator, location: InstrLocId) -> bool
-        ensures { WritesCommon self.old self.new (meaning (listed common)) location result }
+        ensures { WritesCommon self.old self.new (meaning (common_listed common)) location result }
     {
         match common {
             CommonOperator::LocalGet { local } => self.write_local(0x20, local, location),
@@ -658,13 +658,13 @@ impl Writer<'_> {
     #[inline(always)]
     pub fn step_live(&mut self, common: CommonOperator, location: InstrLocId) -> bool
         requires { self.old.open.next ≡ LiveNext }
-        ensures { WritesAtOnce self.old self.new (listed common) location result }
+        ensures { WritesAtOnce self.old self.new (common_listed common) location result }
     {
         if !self.write_common(common, location) {
             return false;
         }
-        if is_cutting(common) {
-            self.open.next = Next::Dead;
+        if common_makes_unreachable(common) {
+            self.open.next = Next::Unreachable;
         }
         true
     }
@@ -745,19 +745,23 @@ impl Writer<'_> {
     }
 }
 
-/// Whether what follows a common operator in its sequence is dead.
+/// Whether what follows a common operator in its sequence is unreachable.
 #[inline(always)]
-fn is_cutting(common: CommonOperator) -> bool
-    ensures { result ≡ is_diverging (listed common) }
+fn common_makes_unreachable(common: CommonOperator) -> bool
+    ensures { result ≡ makes_unreachable (common_listed common) }
 {
     matches!(common, CommonOperator::Br { .. })
 }
 
 /// What becomes of the operators after one by itself.
-fn next_after(diverges: bool) -> Next
-    ensures { mode_of result ≡ mode_if diverges }
+fn next_after(unreachable_after: bool) -> Next
+    ensures { mode_of result ≡ mode_if unreachable_after }
 {
-    if diverges { Next::Dead } else { Next::Live }
+    if unreachable_after {
+        Next::Unreachable
+    } else {
+        Next::Live
+    }
 }
 
 /// What becomes of the operators after an `else` at this location.

@@ -5,7 +5,7 @@ use Rattle.std.proofs.lemmas.Option.{slice_get_within}
 use Rattle.std.specs.Prelude.{slice_get}
 use Rattle.walrus_ir.specs.declared.seq.InstrSeq.{InstrSeq}
 use Rattle.walrus_ir.specs.Tree.{Items, no_items, item, Sequences, no_sequences, sequence, alone}
-use Rattle.walrus_ir.specs.Unfolding.{SequenceAt, LocatedInstr, slots_in, AreItems, are_no_items, are_items, AreSequences, are_no_sequences, are_sequences, slots_reached, slots_reached_each}
+use Rattle.walrus_ir.specs.Unfolding.{SequenceAt, LocatedInstr, slots_in, AreTreeItems, are_no_items, are_items, AreSequences, are_no_sequences, are_sequences, slots_reached, slots_reached_each}
 use Rattle.walrus_ir.specs.Events.{WalkEvent, StartSequence, EndSequence, VisitInstruction, names, item_events, sequence_events, events}
 use Rattle.walrus_ir.specs.Planning.{IsOrder}
 use Rattle.walrus_ir.specs.Visiting.{Frame, started, IsStretch, no_stretch, continues, Next, starts, visits, ends}
@@ -45,7 +45,7 @@ pub record Top (b : List InstrSeq) (f : Frame) (Below : List ℕ → List WalkEv
   pub after : List WalkEvent
   pub many : length slots ≡ f.inside
   pub are_inside : AreSequences b slots inside
-  pub are_rest : AreItems b f.rest items
+  pub are_rest : AreTreeItems b f.rest items
   pub below : Below later after
   pub coming_is : coming ≡ sequence_slots inside (item_slots items later)
   pub left_is : left ≡ sequence_events inside (item_events items (EndSequence f.seq ∷ after))
@@ -57,7 +57,7 @@ Pending b (f ∷ fs) coming left = Top b f (Pending b fs) coming left
 
 -- a sequence that has just started
 abbrev pub just_started : (b : List InstrSeq) (seq : InstrSeq) (fs : List Frame) (items : Items SequenceAt LocatedInstr) (later : List ℕ) (after : List WalkEvent)
-    → AreItems b seq.instrs items → Pending b fs later after → Pending b (started seq ∷ fs) (item_slots items later) (item_events items (EndSequence seq ∷ after))
+    → AreTreeItems b seq.instrs items → Pending b fs later after → Pending b (started seq ∷ fs) (item_slots items later) (item_events items (EndSequence seq ∷ after))
 just_started b seq fs items later after a below = record {
   slots = [];
   inside = no_sequences;
@@ -88,7 +88,7 @@ start_pending fs seq next rest n p coming left h slots inside known many are_no_
 start_pending {b = b} fs seq next rest n p coming left h slots inside known many (are_sequences {p = q} {ps = ps} {seq = s} {items = is} {rest = ss} k a r) coming_is left_is =
     let same_place : q ≡ p = cc in
     let same : s ≡ next = (let found : slice_get b p ≡ Some s = rw (← same_place) k in cc) in
-    let P : InstrSeq → Type 0 = λ z. AreItems b z.instrs is in
+    let P : InstrSeq → Type 0 = λ z. AreTreeItems b z.instrs is in
     let below : Pending b (record { seq = seq; rest = rest; inside = n } ∷ fs) (sequence_slots ss (item_slots h.items h.later)) (sequence_events ss (item_events h.items (EndSequence seq ∷ h.after))) = record {
       slots = ps;
       inside = ss;
@@ -112,7 +112,7 @@ start_pending {b = b} fs seq next rest n p coming left h slots inside known many
 -- the next instruction is visited
 visit_pending : {b : List InstrSeq} (fs : List Frame) (seq : InstrSeq) (x : LocatedInstr) (rest : List LocatedInstr) (coming : List ℕ) (left : List WalkEvent)
     (h : Top b (record { seq = seq; rest = x ∷ rest; inside = 0 }) (Pending b fs) coming left) (slots : List ℕ) (inside : Sequences SequenceAt LocatedInstr) (items : Items SequenceAt LocatedInstr)
-    → length slots ≡ 0 → AreSequences b slots inside → AreItems b (x ∷ rest) items → coming ≡ sequence_slots inside (item_slots items h.later)
+    → length slots ≡ 0 → AreSequences b slots inside → AreTreeItems b (x ∷ rest) items → coming ≡ sequence_slots inside (item_slots items h.later)
     → left ≡ sequence_events inside (item_events items (EndSequence seq ∷ h.after))
     → AfterFirst b (record { seq = seq; rest = rest; inside = length (slots_in x.0) } ∷ fs) coming (VisitInstruction x.0 x.1 ∷ names x.0) left
 visit_pending fs seq x rest coming left h slots inside items none (are_sequences k a r) are_rest coming_is left_is = absurd (omega arith)
@@ -137,7 +137,7 @@ visit_pending fs seq x rest coming left h slots inside items none are_no_sequenc
 -- the sequence ends
 end_pending : {b : List InstrSeq} (fs : List Frame) (seq : InstrSeq) (coming : List ℕ) (left : List WalkEvent)
     (h : Top b (record { seq = seq; rest = []; inside = 0 }) (Pending b fs) coming left) (slots : List ℕ) (inside : Sequences SequenceAt LocatedInstr) (items : Items SequenceAt LocatedInstr)
-    → length slots ≡ 0 → AreSequences b slots inside → AreItems b [] items → coming ≡ sequence_slots inside (item_slots items h.later)
+    → length slots ≡ 0 → AreSequences b slots inside → AreTreeItems b [] items → coming ≡ sequence_slots inside (item_slots items h.later)
     → left ≡ sequence_events inside (item_events items (EndSequence seq ∷ h.after))
     → AfterFirst b fs coming (EndSequence seq ∷ []) left
 end_pending fs seq coming left h slots inside items none (are_sequences k a r) are_rest coming_is left_is = absurd (omega arith)
@@ -186,7 +186,7 @@ pub record Begins (b : List InstrSeq) (first : ℕ) (coming : List ℕ) (es : Li
   pub seq : InstrSeq
   pub items : Items SequenceAt LocatedInstr
   pub known : slice_get b first ≡ Some seq
-  pub are : AreItems b seq.instrs items
+  pub are : AreTreeItems b seq.instrs items
   pub coming_are : coming ≡ item_slots items []
   pub events_are : es ≡ StartSequence seq ∷ item_events items (EndSequence seq ∷ [])
 

@@ -4,7 +4,7 @@ use Rattle.std.proofs.lemmas.List.{append-nil}
 use Rattle.std.specs.Prelude.{slice_get}
 use Rattle.walrus_ir.specs.declared.seq.InstrSeq.{InstrSeq}
 use Rattle.walrus_ir.specs.Tree.{Tree}
-use Rattle.walrus_ir.specs.Unfolding.{SequenceAt, LocatedInstr, AreItems, IsTree}
+use Rattle.walrus_ir.specs.Unfolding.{SequenceAt, LocatedInstr, AreTreeItems, IsTree}
 use Rattle.walrus_ir.specs.Events.{WalkEvent, StartSequence, EndSequence, item_events, events, Folds, through, after, Stops, refused}
 use Rattle.walrus_ir.specs.Walk.{Finishes, IsRefused}
 use Rattle.walrus_ir.specs.Planning.{IsOrder}
@@ -28,7 +28,7 @@ module _ {V F : Type 0} (b : List InstrSeq) (start : ℕ) (steps : V → WalkEve
   stage_first {coming = coming} {first = first} {next = next} h e known step opened =
       let begun = begins first coming h e in
       let same : begun.seq ≡ next = (let found = begun.known in cc) in
-      let P : InstrSeq → Type 0 = λ z. AreItems b z.instrs begun.items in
+      let P : InstrSeq → Type 0 = λ z. AreTreeItems b z.instrs begun.items in
       let Q : List ℕ → Type 0 = λ ps. Pending b (started next ∷ []) ps (item_events begun.items (EndSequence next ∷ [])) in
       record {
         tree = h.tree;

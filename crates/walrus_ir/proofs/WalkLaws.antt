@@ -6,14 +6,14 @@ use Rattle.walrus_ir.specs.declared.seq.InstrSeq.{InstrSeq}
 use Rattle.walrus_ir.specs.declared.error.WalkError.{WalkError}
 use Rattle.walrus_ir.specs.declared.error.WalkError.TheVariants.{UnknownSequence, SharedSequence}
 use Rattle.walrus_ir.specs.Tree.{Items, no_items, item, Sequences, no_sequences, sequence, Tree, alone}
-use Rattle.walrus_ir.specs.Unfolding.{SequenceAt, LocatedInstr, slots_in, slots_in_all, AreItems, are_no_items, are_items, AreSequences, are_no_sequences, are_sequences, slots_reached, slots_reached_each, among, Apart}
+use Rattle.walrus_ir.specs.Unfolding.{SequenceAt, LocatedInstr, slots_in, slots_in_all, AreTreeItems, are_no_items, are_items, AreSequences, are_no_sequences, are_sequences, slots_reached, slots_reached_each, among, Apart}
 use Rattle.walrus_ir.specs.Faults.{Walks, begun, onward, FirstWalkFault, unknown, shared}
 use Rattle.walrus_ir.specs.WalkLaws.{OneTree, TreeHasNoFault, OneFault, TreeIsWalked, WalkMakesTree}
 
 -- ---- one tree
 
 mutual
-  one_items : {b : List InstrSeq} {xs : List LocatedInstr} {is js : Items SequenceAt LocatedInstr} → AreItems b xs is → AreItems b xs js → is ≡ js
+  one_items : {b : List InstrSeq} {xs : List LocatedInstr} {is js : Items SequenceAt LocatedInstr} → AreTreeItems b xs is → AreTreeItems b xs js → is ≡ js
   one_items are_no_items are_no_items = refl
   one_items (are_items a r) (are_items a' r') = let inside = one_sequences a a' in let rest = one_items r r' in cc
 
@@ -21,7 +21,7 @@ mutual
   one_sequences are_no_sequences are_no_sequences = refl
   one_sequences {b = b} (are_sequences {seq = s} k a r) (are_sequences {seq = s'} {items = js} k' a' r') =
       let same : s' ≡ s = cc in
-      let P : InstrSeq → Type 0 = λ z. AreItems b z.instrs js in
+      let P : InstrSeq → Type 0 = λ z. AreTreeItems b z.instrs js in
       let items = one_items a (subst P same a') in
       let rest = one_sequences r r' in
       cc
@@ -46,7 +46,7 @@ mutual
   apart_before_each (sequence head is rest) seen h = (apart_before is (head.slot ∷ seen) (apart_before_each rest (slots_reached is (head.slot ∷ seen)) h)).1
 
 mutual
-  items_walked : {b : List InstrSeq} {start : ℕ} {xs : List LocatedInstr} {is : Items SequenceAt LocatedInstr} (seen next : List ℕ) → AreItems b xs is → Apart (slots_reached is seen)
+  items_walked : {b : List InstrSeq} {start : ℕ} {xs : List LocatedInstr} {is : Items SequenceAt LocatedInstr} (seen next : List ℕ) → AreTreeItems b xs is → Apart (slots_reached is seen)
       → Walks b start seen (slots_in_all xs ++ next) → Walks b start (slots_reached is seen) next
   items_walked seen next are_no_items h w = w
   items_walked {b = b} {start = start} seen next (are_items {x = x} {xs = xs} {inside = ss} {rest = rest} a r) h w =
@@ -69,7 +69,7 @@ tree_is_walked b start t h = sequences_walked [] [] h.unfolds h.apart begun
 -- Q holds for the slots that are reached, for any sequences that unfold at these slots
 abbrev Completes : List InstrSeq → List ℕ → (List ℕ → Type 0) → List ℕ → Type 0
 Completes b [] Q seen = Q seen
-Completes b (p ∷ ps) Q seen = (seq : InstrSeq) (items : Items SequenceAt LocatedInstr) → slice_get b p ≡ Some seq → AreItems b seq.instrs items → Completes b ps Q (slots_reached items (p ∷ seen))
+Completes b (p ∷ ps) Q seen = (seq : InstrSeq) (items : Items SequenceAt LocatedInstr) → slice_get b p ≡ Some seq → AreTreeItems b seq.instrs items → Completes b ps Q (slots_reached items (p ∷ seen))
 
 sequences_complete : (b : List InstrSeq) (ps qs : List ℕ) (Q : List ℕ → Type 0) (seen : List ℕ)
     → ((ss : Sequences SequenceAt LocatedInstr) → AreSequences b ps ss → Completes b qs Q (slots_reached_each ss seen)) → Completes b (ps ++ qs) Q seen
@@ -77,7 +77,7 @@ sequences_complete b [] qs Q seen h = h no_sequences are_no_sequences
 sequences_complete b (p ∷ ps) qs Q seen h = λ seq items k a. sequences_complete b ps qs Q (slots_reached items (p ∷ seen)) (λ ss r. h (sequence (record { slot = p; seq = seq }) items ss) (are_sequences k a r))
 
 items_complete : (b : List InstrSeq) (xs : List LocatedInstr) (qs : List ℕ) (Q : List ℕ → Type 0) (seen : List ℕ)
-    → ((is : Items SequenceAt LocatedInstr) → AreItems b xs is → Completes b qs Q (slots_reached is seen)) → Completes b (slots_in_all xs ++ qs) Q seen
+    → ((is : Items SequenceAt LocatedInstr) → AreTreeItems b xs is → Completes b qs Q (slots_reached is seen)) → Completes b (slots_in_all xs ++ qs) Q seen
 items_complete b [] qs Q seen h = h no_items are_no_items
 items_complete b (x ∷ xs) qs Q seen h =
     let P : List ℕ → Type 0 = λ ps. Completes b ps Q seen in

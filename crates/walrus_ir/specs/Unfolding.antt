@@ -40,16 +40,16 @@ slots_in_all xs = flat_map (λ (x : LocatedInstr). slots_in x.0) xs
 
 mutual
   -- the items of a sequence with these instructions
-  pub data AreItems (b : List InstrSeq) : List LocatedInstr → Items SequenceAt LocatedInstr → Type 0 where
-    are_no_items : AreItems b [] no_items
+  pub data AreTreeItems (b : List InstrSeq) : List LocatedInstr → Items SequenceAt LocatedInstr → Type 0 where
+    are_no_items : AreTreeItems b [] no_items
     are_items : {x : LocatedInstr} {xs : List LocatedInstr} {inside : Sequences SequenceAt LocatedInstr} {rest : Items SequenceAt LocatedInstr}
-        → AreSequences b (slots_in x.0) inside → AreItems b xs rest → AreItems b (x ∷ xs) (item x inside rest)
+        → AreSequences b (slots_in x.0) inside → AreTreeItems b xs rest → AreTreeItems b (x ∷ xs) (item x inside rest)
 
   -- the sequences at these slots
   pub data AreSequences (b : List InstrSeq) : List ℕ → Sequences SequenceAt LocatedInstr → Type 0 where
     are_no_sequences : AreSequences b [] no_sequences
     are_sequences : {p : ℕ} {ps : List ℕ} {seq : InstrSeq} {items : Items SequenceAt LocatedInstr} {rest : Sequences SequenceAt LocatedInstr}
-        → slice_get b p ≡ Some seq → AreItems b seq.instrs items → AreSequences b ps rest
+        → slice_get b p ≡ Some seq → AreTreeItems b seq.instrs items → AreSequences b ps rest
         → AreSequences b (p ∷ ps) (sequence (record { slot = p; seq = seq }) items rest)
 
 -- the slots of the sequences, the last in walk order first, on top of those reached before

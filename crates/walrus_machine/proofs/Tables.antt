@@ -8,11 +8,11 @@ use Rattle.std.proofs.lemmas.Bool.{cases_lt, cases_order}
 use Rattle.std.proofs.lemmas.Grind.{common_steps}
 use Rattle.std.proofs.lemmas.Option.{slice_get_read}
 use Rattle.wasm_body.specs.Control.{Control, Marked, with_control}
-use Rattle.wasm_body.specs.Machine.{Shape, Opener, Part, Closer, Other, shape_of, Found, found, seek_at, seek, tail, after_closer, has}
+use Rattle.wasm_body.specs.Machine.{Shape, Opener, Part, Closer, Other, control_shape, Found, found, seek_at, seek, tail, after_closer, has}
 use Rattle.wasm_body.specs.Places.{placed_from}
 use Rattle.walrus_machine.specs.declared.machine.table.Ahead.{Ahead}
 use Rattle.walrus_machine.specs.declared.machine.table.Levels.{Levels}
-use Rattle.walrus_machine.specs.Tables.{place_at, IsAhead, nothing_ahead, LevelsAhead, AreAhead, parts, passes}
+use Rattle.walrus_machine.specs.Tables.{place_from, IsAhead, nothing_ahead, LevelsAhead, AreAhead, parts, passes_by}
 
 -- ---- lists
 
@@ -63,7 +63,7 @@ placed_get k (x ∷ cs) (suc i) c h =
     placed_get (suc k) cs i c h ∙ ap (λ m. with_control m c ∷ drop (suc i) (placed_from (suc k) cs)) n
 
 -- the operator at a place, and the place after it
-pub here : (cs : List Control) (i : ℕ) (c : Control) → slice_get cs i ≡ Some c → place_at cs i ≡ with_control i c ∷ place_at cs (i + 1)
+pub here : (cs : List Control) (i : ℕ) (c : Control) → slice_get cs i ≡ Some c → place_from cs i ≡ with_control i c ∷ place_from cs (i + 1)
 here cs i c h =
     let z : 0 + i ≡ i = omega arith in
     let s : suc i ≡ i + 1 = omega arith in
@@ -73,10 +73,10 @@ length_placed : (k : ℕ) (cs : List Control) → length (placed_from k cs) ≡ 
 length_placed k [] = refl
 length_placed k (c ∷ cs) = ap suc (length_placed (suc k) cs)
 
-pub length_left : (cs : List Control) (i : ℕ) → length (place_at cs i) ≡ length cs - i
+pub length_left : (cs : List Control) (i : ℕ) → length (place_from cs i) ≡ length cs - i
 length_left cs i = omega (arith, length-drop i (placed_from 0 cs), length_placed 0 cs)
 
-pub nothing_here : (cs : List Control) (i : ℕ) → length cs ≤ i → place_at cs i ≡ []
+pub nothing_here : (cs : List Control) (i : ℕ) → length cs ≤ i → place_from cs i ≡ []
 nothing_here cs i h = drop_all i (placed_from 0 cs) (omega (arith, length_placed 0 cs))
 
 -- ---- searches
@@ -94,7 +94,7 @@ count_at Part (suc d) b i j xs on same = same (suc d) i j
 
 pub any_count : {A : Type 0} → (test : Control → Bool) (d i j : ℕ) (xs : List (Marked A)) → (seek test d i xs).rest ≡ (seek test d j xs).rest
 any_count test d i j [] = refl
-any_count test d i j (x ∷ xs) = count_at (shape_of x.control) d (test x.control) i j (x ∷ xs) _ (λ d i j. any_count test d i j xs)
+any_count test d i j (x ∷ xs) = count_at (control_shape x.control) d (test x.control) i j (x ∷ xs) _ (λ d i j. any_count test d i j xs)
 
 -- the list at which a search ends is not longer than the one at which it began
 shorter_at : {A : Type 0} → (s : Shape) (d : ℕ) (b : Bool) (i : ℕ) (x : Marked A) (xs : List (Marked A)) (on : ℕ → ℕ → Found A) →
@@ -109,7 +109,7 @@ shorter_at Part (suc d) b i x xs on le = omega (arith, le (suc d) i)
 
 pub no_longer : {A : Type 0} → (test : Control → Bool) (d i : ℕ) (xs : List (Marked A)) → length (seek test d i xs).rest ≤ length xs
 no_longer test d i [] = omega arith
-no_longer test d i (x ∷ xs) = shorter_at (shape_of x.control) d (test x.control) i x xs _ (λ d i. no_longer test d i xs)
+no_longer test d i (x ∷ xs) = shorter_at (control_shape x.control) d (test x.control) i x xs _ (λ d i. no_longer test d i xs)
 
 -- A search for any part continues, from one part to the next, as a search for a part that passes a test.
 abbrev pub choose : {A : Type 0} → Shape → Bool → ℕ → List (Marked A) → Found A → Found A
@@ -118,9 +118,9 @@ choose _ _ i xs on = found i xs
 
 abbrev pub from_part : {A : Type 0} → (Control → Bool) → ℕ → List (Marked A) → Found A
 from_part test i [] = found i []
-from_part test i (x ∷ xs) = choose (shape_of x.control) (test x.control) i (x ∷ xs) (seek test 0 (suc i) xs)
+from_part test i (x ∷ xs) = choose (control_shape x.control) (test x.control) i (x ∷ xs) (seek test 0 (suc i) xs)
 
-first_at : {A : Type 0} → (test : Control → Bool) (x : Marked A) (xs : List (Marked A)) (s : Shape) (b : Bool) (d i : ℕ) → s ≡ shape_of x.control → b ≡ test x.control →
+first_at : {A : Type 0} → (test : Control → Bool) (x : Marked A) (xs : List (Marked A)) (s : Shape) (b : Bool) (d i : ℕ) → s ≡ control_shape x.control → b ≡ test x.control →
     ((d i : ℕ) → seek test d i xs ≡ from_part test i (seek (λ c. true) d 0 xs).rest) →
     seek_at s d b i (x ∷ xs) (λ d j. seek test d j xs) ≡ from_part test i (seek_at s d true 0 (x ∷ xs) (λ d j. seek (λ c. true) d j xs)).rest
 first_at test x xs Opener b d i h t later = later (suc d) i
@@ -128,14 +128,14 @@ first_at test x xs Other b d i h t later = later d i
 first_at test x xs Closer b zero i h t later = ap (λ s. choose s (test x.control) i (x ∷ xs) (seek test 0 (suc i) xs)) h
 first_at test x xs Closer b (suc d) i h t later = later d i
 first_at test x xs Part true zero i h t later =
-    ap (λ s. choose s true i (x ∷ xs) (seek test 0 (suc i) xs)) h ∙ ap (λ b. choose (shape_of x.control) b i (x ∷ xs) (seek test 0 (suc i) xs)) t
+    ap (λ s. choose s true i (x ∷ xs) (seek test 0 (suc i) xs)) h ∙ ap (λ b. choose (control_shape x.control) b i (x ∷ xs) (seek test 0 (suc i) xs)) t
 first_at test x xs Part false zero i h t later =
-    ap (λ s. choose s false i (x ∷ xs) (seek test 0 (suc i) xs)) h ∙ ap (λ b. choose (shape_of x.control) b i (x ∷ xs) (seek test 0 (suc i) xs)) t
+    ap (λ s. choose s false i (x ∷ xs) (seek test 0 (suc i) xs)) h ∙ ap (λ b. choose (control_shape x.control) b i (x ∷ xs) (seek test 0 (suc i) xs)) t
 first_at test x xs Part b (suc d) i h t later = later (suc d) i
 
 pub first_part : {A : Type 0} → (test : Control → Bool) (d i : ℕ) (xs : List (Marked A)) → seek test d i xs ≡ from_part test i (seek (λ c. true) d 0 xs).rest
 first_part test d i [] = refl
-first_part test d i (x ∷ xs) = first_at test x xs (shape_of x.control) (test x.control) d i refl refl (λ d i. first_part test d i xs)
+first_part test d i (x ∷ xs) = first_at test x xs (control_shape x.control) (test x.control) d i refl refl (λ d i. first_part test d i xs)
 
 stop_chosen : {A : Type 0} → (s : Shape) (b : Bool) (i : ℕ) (xs : List (Marked A)) (on : Found A) → (parts s && not b) ≡ false → choose s b i xs on ≡ found i xs
 stop_chosen Part true i xs on h = refl
@@ -152,29 +152,29 @@ pass_chosen Closer b i xs on h = absurd (cc h)
 pass_chosen Other b i xs on h = absurd (cc h)
 
 module _ (test : Control → Bool) (cs : List Control) (i : ℕ) (c : Control) (at : slice_get cs i ≡ Some c) where
-  pub stops_here : (n : ℕ) → false ≡ passes test c → from_part test n (place_at cs i) ≡ found n (place_at cs i)
+  pub stops_here : (n : ℕ) → false ≡ passes_by test c → from_part test n (place_from cs i) ≡ found n (place_from cs i)
   stops_here n h =
       ap (from_part test n) (here cs i c at)
-      ∙ (stop_chosen (shape_of c) (test c) n (with_control i c ∷ place_at cs (i + 1)) (seek test 0 (suc n) (place_at cs (i + 1))) (sym h)
+      ∙ (stop_chosen (control_shape c) (test c) n (with_control i c ∷ place_from cs (i + 1)) (seek test 0 (suc n) (place_from cs (i + 1))) (sym h)
       ∙ ap (found n) (sym (here cs i c at)))
 
   -- the search continues from the next part
-  pub passes_here : (n : ℕ) → true ≡ passes test c → (next : ℕ) → place_at cs next ≡ (seek (λ c. true) 0 0 (place_at cs (i + 1))).rest → from_part test n (place_at cs i) ≡ from_part test (n + 1) (place_at cs next)
+  pub passes_here : (n : ℕ) → true ≡ passes_by test c → (next : ℕ) → place_from cs next ≡ (seek (λ c. true) 0 0 (place_from cs (i + 1))).rest → from_part test n (place_from cs i) ≡ from_part test (n + 1) (place_from cs next)
   passes_here n h next e =
       let more : suc n ≡ n + 1 = omega arith in
       ap (from_part test n) (here cs i c at)
-      ∙ (pass_chosen (shape_of c) (test c) n (with_control i c ∷ place_at cs (i + 1)) (seek test 0 (suc n) (place_at cs (i + 1))) (sym h)
-      ∙ (first_part test 0 (suc n) (place_at cs (i + 1))
-      ∙ (ap (from_part test (suc n)) (sym e) ∙ ap (λ m. from_part test m (place_at cs next)) more)))
+      ∙ (pass_chosen (control_shape c) (test c) n (with_control i c ∷ place_from cs (i + 1)) (seek test 0 (suc n) (place_from cs (i + 1))) (sym h)
+      ∙ (first_part test 0 (suc n) (place_from cs (i + 1))
+      ∙ (ap (from_part test (suc n)) (sym e) ∙ ap (λ m. from_part test m (place_from cs next)) more)))
 
-pub next_part : (test : Control → Bool) (cs : List Control) (i : ℕ) (next : ℕ) → place_at cs next ≡ (seek (λ c. true) 0 0 (place_at cs i)).rest → (n : ℕ) →
-    (length (place_at cs next) ≤ length (place_at cs i)) × (seek test 0 n (place_at cs i) ≡ from_part test n (place_at cs next))
+pub next_part : (test : Control → Bool) (cs : List Control) (i : ℕ) (next : ℕ) → place_from cs next ≡ (seek (λ c. true) 0 0 (place_from cs i)).rest → (n : ℕ) →
+    (length (place_from cs next) ≤ length (place_from cs i)) × (seek test 0 n (place_from cs i) ≡ from_part test n (place_from cs next))
 next_part test cs i next e n = (
-  omega (arith, ap length e, no_longer (λ c. true) 0 0 (place_at cs i)),
-  first_part test 0 n (place_at cs i) ∙ ap (from_part test n) (sym e),
+  omega (arith, ap length e, no_longer (λ c. true) 0 0 (place_from cs i)),
+  first_part test 0 n (place_from cs i) ∙ ap (from_part test n) (sym e),
 )
 
-pub fewer_here : (cs : List Control) (i : ℕ) (c : Control) → slice_get cs i ≡ Some c → length (place_at cs i) ≡ length (place_at cs (i + 1)) + 1
+pub fewer_here : (cs : List Control) (i : ℕ) (c : Control) → slice_get cs i ≡ Some c → length (place_from cs i) ≡ length (place_from cs (i + 1)) + 1
 fewer_here cs i c at = omega (arith, ap length (here cs i c at))
 
 none_left : (cs : List Control) (i : ℕ) → slice_get cs i ≡ None → length cs ≤ i
@@ -182,49 +182,49 @@ none_left [] i h = omega arith
 none_left (c ∷ cs) zero h = absurd (cc h)
 none_left (c ∷ cs) (suc i) h = omega (arith, none_left cs i h)
 
-pub nothing_at : (cs : List Control) (i : ℕ) → slice_get cs i ≡ None → place_at cs i ≡ []
+pub nothing_at : (cs : List Control) (i : ℕ) → slice_get cs i ≡ None → place_from cs i ≡ []
 nothing_at cs i h = nothing_here cs i (none_left cs i h)
 
-pub ends_here : (test : Control → Bool) (cs : List Control) (i : ℕ) (n : ℕ) → slice_get cs i ≡ None → from_part test n (place_at cs i) ≡ found n (place_at cs i)
+pub ends_here : (test : Control → Bool) (cs : List Control) (i : ℕ) (n : ℕ) → slice_get cs i ≡ None → from_part test n (place_from cs i) ≡ found n (place_from cs i)
 ends_here test cs i n h = ap (from_part test n) (nothing_at cs i h) ∙ ap (found n) (sym (nothing_at cs i h))
 
 -- ---- going back over an operator
 
 module _ (cs : List Control) (i : ℕ) (c : Control) (at : slice_get cs i ≡ Some c) where
-  walk : (s : Shape) → s ≡ shape_of c → (test : Control → Bool) (d : ℕ) →
-      seek test d 0 (place_at cs i) ≡ seek_at s d (test c) 0 (place_at cs i) (λ d j. seek test d j (place_at cs (i + 1)))
+  walk : (s : Shape) → s ≡ control_shape c → (test : Control → Bool) (d : ℕ) →
+      seek test d 0 (place_from cs i) ≡ seek_at s d (test c) 0 (place_from cs i) (λ d j. seek test d j (place_from cs (i + 1)))
   walk s h test d =
       ap (seek test d 0) (here cs i c at)
-      ∙ (ap (λ l. seek_at (shape_of c) d (test c) 0 l (λ d j. seek test d j (place_at cs (i + 1)))) (sym (here cs i c at))
-      ∙ ap (λ s. seek_at s d (test c) 0 (place_at cs i) (λ d j. seek test d j (place_at cs (i + 1)))) (sym h))
+      ∙ (ap (λ l. seek_at (control_shape c) d (test c) 0 l (λ d j. seek test d j (place_from cs (i + 1)))) (sym (here cs i c at))
+      ∙ ap (λ s. seek_at s d (test c) 0 (place_from cs i) (λ d j. seek test d j (place_from cs (i + 1)))) (sym h))
 
   -- if the searches from both places find the same, the same is ahead of them
-  same_ahead : (d e : ℕ) (a : Ahead) → ((test : Control → Bool) → (seek test e 0 (place_at cs i)).rest ≡ (seek test d 0 (place_at cs (i + 1))).rest) →
+  same_ahead : (d e : ℕ) (a : Ahead) → ((test : Control → Bool) → (seek test e 0 (place_from cs i)).rest ≡ (seek test d 0 (place_from cs (i + 1))).rest) →
       IsAhead cs d (i + 1) a → IsAhead cs e i a
   same_ahead d e a same h = record { part = h.part ∙ sym (same (λ c. true)); following = h.following ∙ ap tail (sym (same (λ c. false))) }
 
-  pub other_ahead : Other ≡ shape_of c → (d : ℕ) (a : Ahead) → IsAhead cs d (i + 1) a → IsAhead cs d i a
+  pub other_ahead : Other ≡ control_shape c → (d : ℕ) (a : Ahead) → IsAhead cs d (i + 1) a → IsAhead cs d i a
   other_ahead h d a = same_ahead d d a (λ test. ap (λ f. f.rest) (walk Other h test d))
 
-  pub opener_ahead : Opener ≡ shape_of c → (d : ℕ) (a : Ahead) → IsAhead cs (suc d) (i + 1) a → IsAhead cs d i a
+  pub opener_ahead : Opener ≡ control_shape c → (d : ℕ) (a : Ahead) → IsAhead cs (suc d) (i + 1) a → IsAhead cs d i a
   opener_ahead h d a = same_ahead (suc d) d a (λ test. ap (λ f. f.rest) (walk Opener h test d))
 
-  pub closer_ahead : Closer ≡ shape_of c → (d : ℕ) (a : Ahead) → IsAhead cs d (i + 1) a → IsAhead cs (suc d) i a
+  pub closer_ahead : Closer ≡ control_shape c → (d : ℕ) (a : Ahead) → IsAhead cs d (i + 1) a → IsAhead cs (suc d) i a
   closer_ahead h d a = same_ahead d (suc d) a (λ test. ap (λ f. f.rest) (walk Closer h test (suc d)))
 
-  pub outer_ahead : Part ≡ shape_of c → (d : ℕ) (a : Ahead) → IsAhead cs (suc d) (i + 1) a → IsAhead cs (suc d) i a
+  pub outer_ahead : Part ≡ control_shape c → (d : ℕ) (a : Ahead) → IsAhead cs (suc d) (i + 1) a → IsAhead cs (suc d) i a
   outer_ahead h d a = same_ahead (suc d) (suc d) a (λ test. ap (λ f. f.rest) (walk Part h test (suc d)))
 
-  pub at_closer : Closer ≡ shape_of c → IsAhead cs 0 i (record { part = i; following = i + 1 })
+  pub at_closer : Closer ≡ control_shape c → IsAhead cs 0 i (record { part = i; following = i + 1 })
   at_closer h = record {
     part = sym (ap (λ f. f.rest) (walk Closer h (λ c. true) 0));
     following = sym (ap tail (here cs i c at)) ∙ sym (ap (λ f. tail f.rest) (walk Closer h (λ c. false) 0));
   }
 
-  pub at_part : Part ≡ shape_of c → (a : Ahead) → IsAhead cs 0 (i + 1) a → IsAhead cs 0 i (record { part = i; following = a.following })
+  pub at_part : Part ≡ control_shape c → (a : Ahead) → IsAhead cs 0 (i + 1) a → IsAhead cs 0 i (record { part = i; following = a.following })
   at_part h a following = record {
     part = sym (ap (λ f. f.rest) (walk Part h (λ c. true) 0));
-    following = following.following ∙ ap tail (any_count (λ c. false) 0 0 1 (place_at cs (i + 1)) ∙ sym (ap (λ f. f.rest) (walk Part h (λ c. false) 0)));
+    following = following.following ∙ ap tail (any_count (λ c. false) 0 0 1 (place_from cs (i + 1)) ∙ sym (ap (λ f. f.rest) (walk Part h (λ c. false) 0)));
   }
 
   -- in all constructs around
@@ -232,18 +232,18 @@ module _ (cs : List Control) (i : ℕ) (c : Control) (at : slice_get cs i ≡ So
   abbrev pub ListAhead : ℕ → ℕ → List Ahead → Type 0
   ListAhead place end ls = (depth : ℕ) → IsAhead cs depth place (get_or ls depth (nothing_ahead end))
 
-  pub others_listed : Other ≡ shape_of c → (l : Levels) → LevelsAhead cs (i + 1) l → LevelsAhead cs i l
+  pub others_listed : Other ≡ control_shape c → (l : Levels) → LevelsAhead cs (i + 1) l → LevelsAhead cs i l
   others_listed h l all_ahead depth = other_ahead h depth _ (all_ahead depth)
 
-  pub opener_listed : Opener ≡ shape_of c → (end : ℕ) (ls : List Ahead) → ListAhead (i + 1) end ls → ListAhead i end (tail ls)
+  pub opener_listed : Opener ≡ control_shape c → (end : ℕ) (ls : List Ahead) → ListAhead (i + 1) end ls → ListAhead i end (tail ls)
   opener_listed h end [] all_ahead depth = opener_ahead h depth _ (all_ahead (suc depth))
   opener_listed h end (a ∷ ls) all_ahead depth = opener_ahead h depth _ (all_ahead (suc depth))
 
-  pub closer_listed : Closer ≡ shape_of c → (end : ℕ) (ls : List Ahead) → ListAhead (i + 1) end ls → ListAhead i end (record { part = i; following = i + 1 } ∷ ls)
+  pub closer_listed : Closer ≡ control_shape c → (end : ℕ) (ls : List Ahead) → ListAhead (i + 1) end ls → ListAhead i end (record { part = i; following = i + 1 } ∷ ls)
   closer_listed h end ls all_ahead zero = at_closer h
   closer_listed h end ls all_ahead (suc depth) = closer_ahead h depth _ (all_ahead depth)
 
-  pub part_listed : Part ≡ shape_of c → (end : ℕ) (ls : List Ahead) (a : Ahead) → IsAhead cs 0 (i + 1) a → ListAhead (i + 1) end ls → ListAhead i end (record { part = i; following = a.following } ∷ tail ls)
+  pub part_listed : Part ≡ control_shape c → (end : ℕ) (ls : List Ahead) (a : Ahead) → IsAhead cs 0 (i + 1) a → ListAhead (i + 1) end ls → ListAhead i end (record { part = i; following = a.following } ∷ tail ls)
   part_listed h end ls a first all_ahead zero = at_part h a first
   part_listed h end [] a first all_ahead (suc depth) = outer_ahead h depth _ (all_ahead (suc depth))
   part_listed h end (b ∷ ls) a first all_ahead (suc depth) = outer_ahead h depth _ (all_ahead (suc depth))
@@ -288,10 +288,10 @@ read_ahead cs ds as' ws i a view all same lt is =
     subst (λ l. IsAhead l 0 (i + 1) a) view (subst (λ m. IsAhead ds 0 m a) z (ahead_at ds 0 as' i a all at))
 
 -- nothing is ahead after the last operator
-pub past_all : (cs : List Control) (i : ℕ) → length cs ≤ i → (test : Control → Bool) → place_at cs i ≡ (seek test 0 0 (place_at cs (i + 1))).rest
+pub past_all : (cs : List Control) (i : ℕ) → length cs ≤ i → (test : Control → Bool) → place_from cs i ≡ (seek test 0 0 (place_from cs (i + 1))).rest
 past_all cs i h test = nothing_here cs i h ∙ sym (ap (λ xs. (seek test 0 0 xs).rest) (nothing_here cs (i + 1) (omega arith)))
 
-pub past_closer : (cs : List Control) (i : ℕ) → length cs ≤ i → place_at cs i ≡ after_closer (place_at cs (i + 1))
+pub past_closer : (cs : List Control) (i : ℕ) → length cs ≤ i → place_from cs i ≡ after_closer (place_from cs (i + 1))
 past_closer cs i h = nothing_here cs i h ∙ sym (ap after_closer (nothing_here cs (i + 1) (omega arith)))
 
 -- the number of operators in a table, from the length of its lists

@@ -33,14 +33,14 @@ pub record HasUnknown (types : List (ValType ℕ)) (args : List ℕ) (used : ℕ
   pub has_no_type : slice_get types id ≡ None
 
 -- Each of them has a type, and this is the first fault of the declarations.
-pub record HasFault (to : Numbers) (types : List (ValType ℕ)) (args : List ℕ) (used : ℕ → Bool) (e : EmitError) : Type 0 where
+pub record HasDeclarationFault (to : Numbers) (types : List (ValType ℕ)) (args : List ℕ) (used : ℕ → Bool) (e : EmitError) : Type 0 where
   pub others : List Local
   pub are_declared : AreDeclared types args used others
   pub fault_is : declared to (length args) others ≡ Err e
 
 -- A local isn't in the module, or the declarations have this fault.
 abbrev pub HasNoDeclarations : Numbers → List (ValType ℕ) → List ℕ → (ℕ → Bool) → EmitError → Type 0
-HasNoDeclarations to types args used e = ((e ≡ UnknownLocal) × HasUnknown types args used) ⊎ HasFault to types args used e
+HasNoDeclarations to types args used e = ((e ≡ UnknownLocal) × HasUnknown types args used) ⊎ HasDeclarationFault to types args used e
 
 -- Memory ran out, or there are no declarations.
 abbrev pub IsNotDeclared : Numbers → List (ValType ℕ) → List ℕ → (ℕ → Bool) → EmitError → Type 0

@@ -13,15 +13,15 @@ use Rattle.walrus_maps.specs.declared.ids_to_indices.IdsToIndices.{IdsToIndices}
 use Rattle.walrus_maps.specs.IndexMaps.{number_of}
 
 -- a number of 32 bits, or else this fault
-abbrev pub fitting : {E : Type 0} → E → ℕ → Result ℕ E
-fitting e n = unless (nat_lt n (2 ^ 32)) e >>= λ _. Ok n
+abbrev pub fitting_number : {E : Type 0} → E → ℕ → Result ℕ E
+fitting_number e n = unless (nat_lt n (2 ^ 32)) e >>= λ _. Ok n
 
 -- In a module with these types, the numbers that index maps and a map of the function's locals give. A new index is one of 32
 -- bits.
 abbrev pub numbers_by : List ModuleType → IdsToIndices → List (ℕ × ℕ) → Numbers
 numbers_by types ids locals = record {
   number_of = λ space id.
-      with_fault Index (number_of ids space id >>= fitting (Unnumbered space));
+      with_fault Index (number_of ids space id >>= fitting_number (Unnumbered space));
   local_number = λ id.
       some_or (get (from_entries {R = nat_cmp} locals) id) UnnumberedLocal;
   balanced = λ t. is_balanced_type (signature_of_type types t);

@@ -8,7 +8,7 @@ use Rattle.wasm_body.specs.declared.error.ParseFailure.{ParseFailure}
 use Rattle.wasm_numbers.specs.Results.{◌>>=◌}
 use Rattle.wasm_body.specs.Control.{control_of}
 use Rattle.wasm_body.specs.SourceTree.{Sequence, Body}
-use Rattle.wasm_body.specs.Frames.{Frame, moves}
+use Rattle.wasm_body.specs.Frames.{SequenceFrame, moves}
 use Rattle.wasm_body.specs.Naming.{Environment, NamedOperation, Occurrence, named_in}
 use Rattle.wasm_body.specs.Parsing.Accepted.{mark, has_location, location_at, Setting, Admitted, admitted, Handled, handled}
 use Rattle.wasm_body.specs.Parsing.Lists.{continue_from, parsed_from}
@@ -20,7 +20,7 @@ use Rattle.walrus_parser.proofs.ParsedSoFar.{occurrence, same_places}
 
 -- ---- one fault
 
-abbrev progress_shapes : Progress Occurrence → Option (List (Frame NamedOperation))
+abbrev progress_shapes : Progress Occurrence → Option (List (SequenceFrame NamedOperation))
 progress_shapes p = after_frames named_of (progress_frames p)
 
 within_shapes : (ls ks : List (Layer Occurrence)) (s t : Sequence Occurrence) → progress_shapes (Within ls s) ≡ progress_shapes (Within ks t) → shapes (frames_of ls) ≡ shapes (frames_of ks)
@@ -40,13 +40,13 @@ module _ {S : Type 0} (env : Environment) (start : ℕ) (check : S → Placed �
   given = given_with env start check first
 
   -- an operator that was admitted, with its name
-  abbrev stepped : (ℕ → Bool) → S → List (Frame Occurrence) → ℕ → List ℕ → Result (NamedOperation × Admitted S) ParseError
+  abbrev stepped : (ℕ → Bool) → S → List (SequenceFrame Occurrence) → ℕ → List ℕ → Result (NamedOperation × Admitted S) ParseError
   stepped fits v fs place bytes = admitted fits check v place bytes >>= λ t. named_in env fs t.spelt >>= λ named. Ok (named, t)
 
   abbrev put : Option (ℕ → ℕ) → ℕ → NamedOperation × Admitted S → Handled S
   put locations place k = record { operator = occurrence k.1.spelt place (location_at locations place) k.0; rest = k.1.rest; state = k.1.state }
 
-  handled_as : (locations : Option (ℕ → ℕ)) (v : S) (fs : List (Frame Occurrence)) (place : ℕ) (bytes : List ℕ) →
+  handled_as : (locations : Option (ℕ → ℕ)) (v : S) (fs : List (SequenceFrame Occurrence)) (place : ℕ) (bytes : List ℕ) →
       handled (given locations) v fs place bytes ≡ (stepped (has_location locations) v fs place bytes >>= λ k. Ok (put locations place k))
   handled_as locations v fs place bytes = by_admitted (admitted (has_location locations) check v place bytes)
     where
@@ -62,7 +62,7 @@ module _ {S : Type 0} (env : Environment) (start : ℕ) (check : S → Placed �
       by_admitted (Ok a) = by_name a (named_in env fs a.spelt)
       by_admitted (Err e) = refl
 
-  same_names : (fits : ℕ → Bool) (v : S) (fs gs : List (Frame Occurrence)) (place : ℕ) (bytes : List ℕ) → shapes fs ≡ shapes gs → stepped fits v fs place bytes ≡ stepped fits v gs place bytes
+  same_names : (fits : ℕ → Bool) (v : S) (fs gs : List (SequenceFrame Occurrence)) (place : ℕ) (bytes : List ℕ) → shapes fs ≡ shapes gs → stepped fits v fs place bytes ≡ stepped fits v gs place bytes
   same_names fits v fs gs place bytes e = λ i. admitted fits check v place bytes >>= λ t. named_same env fs gs t.spelt e i >>= λ named. Ok (named, t)
 
   module _ (l m : Option (ℕ → ℕ)) (both : BothOrNone l m) where

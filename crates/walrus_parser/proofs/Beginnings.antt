@@ -66,7 +66,7 @@ module _ (c : OpenTrees) (ty entry : ℕ) where
 
   first_keeps : (s : Signature) → entry_type_id (env_of (first_tree s)) ≡ Ok entry → Keeps (env_of (first_tree s)) (state_with (first_tree s) []) [] Empty
   first_keeps s is = record {
-    kept = record { items = no_items; are_items = are_no_items; rise = (let n : 1 ≤ 1 = omega arith in n); is_normal = refl; is_dead = refl };
+    kept = record { items = no_items; are_items = are_no_items; rise = (let n : 1 ≤ 1 = omega arith in n); is_normal = refl; is_unreachable = refl };
     alone = refl;
     reserved = record { seq = empty_sequence 0 (MultiValue entry); in_arena = refl; has_type = sym (ap entry_type is); has_no_end = refl };
     first = refl;

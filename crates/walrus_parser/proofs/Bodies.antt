@@ -17,7 +17,7 @@ use Rattle.wasm_body.specs.Parsing.Progress.{Layer, Progress, Within, Whole, NoB
 use Rattle.walrus_parser.specs.declared.body_parser.BodyParser.{BodyParser}
 use Rattle.walrus_parser.specs.Advancing.{Keeps, KeepsProgress}
 use Rattle.walrus_parser.specs.Bodies.{ParseInput, mapped_by, operators_parsed, IsRefusedAnyway}
-use Rattle.walrus_parser.specs.BodyParsers.{Begins, state_of}
+use Rattle.walrus_parser.specs.BodyParsers.{BeginsParse, state_of}
 use Rattle.walrus_validators.specs.Locating.{Locates, MayCall}
 use Rattle.walrus_parser.specs.NextOperator.{TakesNext, RefusesNext, not_admitted as not_admitted_at, breaks_rule}
 use Rattle.walrus_context.specs.OpenTrees.{env_of}
@@ -41,7 +41,7 @@ module _ {S F : Type 0} (g : Shared F (Bor ℕ × Unit {0}) ℕ) (i : ParseInput
     pub keeps : Keeps (env_of p.context) (state_of p) layers sequence
     pub entry : p.context.builder.entry ≡ Some 0
 
-  pub begins_parse : (p : BodyParser) (mapping : List (ℕ × ℕ)) → env_of p.context ≡ i.environment → Begins p → mapping ≡ [] → SoFar p i.first i.start i.bytes mapping
+  pub begins_parse : (p : BodyParser) (mapping : List (ℕ × ℕ)) → env_of p.context ≡ i.environment → BeginsParse p → mapping ≡ [] → SoFar p i.first i.start i.bytes mapping
   begins_parse p mapping e fresh none = record {
     layers = [];
     sequence = Empty;

@@ -62,7 +62,7 @@ gains around before slot next p q x y clause fs gs outside a e h handler same cl
   frames = frames;
 }
 
--- Adding a clause to frames: the innermost ends with a legacy `try`, or is dead.
+-- Adding a clause to frames: the innermost ends with a legacy `try`, or is unreachable.
 abbrev pub AddsClause : (fs gs : List OpenFrame) → LegacyCatch → Type 0
 AddsClause fs gs clause =
     (x : LocatedInstr) (outside : List OpenFrame) → fs ≡ changed_at 0 (with_instr x) outside → IsTry x.0 →

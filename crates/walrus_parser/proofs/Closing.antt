@@ -5,7 +5,7 @@ use Rattle.walrus_ir.specs.Tree.{no_items, item, Sequences, no_sequences, sequen
 use Rattle.wasm_body.specs.SourceTree.{Sequence, Empty, TryCatch, Clauses, Ended, Catches, CatchesAll, map_sequence, map_clauses}
 use Rattle.wasm_body.specs.FunctionTree.{Head, LegacyClause, handles, handles_all, Instruction}
 use Rattle.wasm_body.specs.Naming.{NamedOperation, Occurrence}
-use Rattle.wasm_body.specs.NormalForm.{Typing, construct_type, handler_type, instruction, head, legacy_clauses, closed_at, normal, handlers, name_at}
+use Rattle.wasm_body.specs.NormalForm.{Typing, construct_type, handler_type, instruction, head, legacy_clauses, closed_at, normal, handler_sequences, name_at}
 use Rattle.wasm_body.specs.Parsing.Progress.{ClosedClause, closed_clause, after_closed, OpenConstruct, InWrapper, InThen, InElse, InTry, InCatch, InCatchAll, closed}
 use Rattle.walrus_context.specs.OpenConstructs.{opener_in, clauses_after, clauses_in, Named, sequences_joined, handlers_after, first_clause_at, try_sequences, closed_in, added_in, sequences_closed, map_closed, map_open_construct}
 
@@ -19,7 +19,7 @@ first_closed : (gs : List (ClosedClause Named)) (cs : Clauses Named) → closed_
 first_closed [] cs = refl
 first_closed (g ∷ gs) cs = first_closed gs (Catches g.mark g.tag g.body cs)
 
-handlers_closed : (m : Typing) (o : NamedOperation) (gs : List (ClosedClause Named)) (cs : Clauses Named) → handlers m o (after_closed gs cs) ≡ handlers_after m o (closed_at cs) gs (handlers m o cs)
+handlers_closed : (m : Typing) (o : NamedOperation) (gs : List (ClosedClause Named)) (cs : Clauses Named) → handler_sequences m o (after_closed gs cs) ≡ handlers_after m o (closed_at cs) gs (handler_sequences m o cs)
 handlers_closed m o [] cs = refl
 handlers_closed m o (g ∷ gs) cs = handlers_closed m o gs (Catches g.mark g.tag g.body cs)
 
@@ -37,10 +37,10 @@ clauses_more (g ∷ gs) cs ds = clauses_more gs (handles g.tag ∷ cs) ds
 -- a legacy `try` with these clauses after closed ones
 try_closed : (m : Typing) (a : Named) (b : Sequence Named) (gs : List (ClosedClause Named)) (cs : Clauses Named) →
     normal m (TryCatch a b (after_closed gs cs) Empty)
-    ≡ item (instruction a (clauses_after gs (legacy_clauses cs))) (sequences_joined (try_sequences m a.op b gs (closed_at cs)) (handlers m a.op cs)) no_items
+    ≡ item (instruction a (clauses_after gs (legacy_clauses cs))) (sequences_joined (try_sequences m a.op b gs (closed_at cs)) (handler_sequences m a.op cs)) no_items
 try_closed m a b gs cs = λ i.
     item (instruction a (clauses_closed gs cs i))
-    (sequence (head (construct_type m a.op) (first_closed gs cs i)) (normal m b) ((handlers_closed m a.op gs cs ∙ handlers_joined m a.op (closed_at cs) gs no_sequences (handlers m a.op cs)) i))
+    (sequence (head (construct_type m a.op) (first_closed gs cs i)) (normal m b) ((handlers_closed m a.op gs cs ∙ handlers_joined m a.op (closed_at cs) gs no_sequences (handler_sequences m a.op cs)) i))
     no_items
 
 pub normal_closed : (m : Typing) (p : OpenConstruct Named) (s : Sequence Named) (e : Named) →

@@ -8,13 +8,13 @@ use Rattle.walrus_ir.specs.declared.seq.InstrSeq.{InstrSeq}
 use Rattle.walrus_ir.specs.declared.instr.Instr.{Instr}
 use Rattle.walrus_ir.specs.declared.instr.Instr.TheVariants as instr
 use Rattle.walrus_ir.specs.Tree.{no_items, item, Sequences, no_sequences, sequence}
-use Rattle.walrus_ir.specs.Unfolding.{SequenceAt, LocatedInstr, slots_in, AreItems, AreSequences, are_no_items, are_items, are_no_sequences, are_sequences}
+use Rattle.walrus_ir.specs.Unfolding.{SequenceAt, LocatedInstr, slots_in, AreTreeItems, AreSequences, are_no_items, are_items, are_no_sequences, are_sequences}
 use Rattle.walrus_ir.specs.Locations.{default_location}
 use Rattle.wasm_body.specs.SourceTree.{Sequence, Empty, map_sequence}
 use Rattle.wasm_body.specs.Naming.{Occurrence, Environment, block_signature}
 use Rattle.wasm_body.specs.NormalForm.{typing_of, instruction, head, normal, name_at}
 use Rattle.wasm_body.specs.FunctionTree.{Head, Instruction}
-use Rattle.wasm_body.specs.Keeping.{is_dead}
+use Rattle.wasm_body.specs.Keeping.{is_unreachable_after}
 use Rattle.wasm_body.specs.TreeOfFunction.{instruction_in, items_in, sequences_in, head_of}
 use Rattle.wasm_body.specs.Intervals.{RiseIn, AllRiseIn}
 use Rattle.wasm_body.specs.Parsing.Progress.{append, closed, OpenConstruct, InWrapper, InThen, InElse, InTry, InCatch, InCatchAll, Layer, layer}
@@ -22,7 +22,7 @@ use Rattle.wasm_body.proofs.NormalForm.ArenaLemmas.{all_rise-range, all_rise-wid
 use Rattle.walrus_context.specs.declared.frame.IfElseState.{IfElseState}
 use Rattle.walrus_context.specs.OpenConstructs.{opener_in, kind_in, clauses_in, closed_in, type_in, added_in, sequences_joined, sequences_closed, map_open_construct}
 use Rattle.walrus_context.specs.OpenFrames.{OpenFrame, new_frame, changed_at, with_instr}
-use Rattle.walrus_context.specs.Keeping.{slots, the_if, IsKept, TakesParameters, Encloses, IsAppended, OpensWith, Holds}
+use Rattle.walrus_context.specs.Keeping.{slots, the_if, IsKeptFrame, TakesParameters, Encloses, IsAppended, OpensWith, Holds}
 use Rattle.walrus_parser.proofs.Closing.{normal_closed, mapped_in, same_opener}
 use Rattle.walrus_parser.proofs.Frames.{slots_changed, kept_below, holds_same, AreNormal, taken_alive, holds_takes}
 
@@ -46,7 +46,7 @@ same_grown b seq p l h = grown_before b seq p h
 pub record IsOpened (env : Environment) (slot : ℕ) (p : OpenConstruct Occurrence) (f : OpenFrame) (seq : InstrSeq) : Type 0 where
   pub here : f.sequence ≡ slot
   pub is_empty : f.instrs ≡ []
-  pub is_alive : f.dead ≡ false
+  pub is_alive : f.unreachable ≡ false
   pub kind : f.kind ≡ kind_in p
   pub takes : TakesParameters env p f.start_types
   pub gives : f.end_types ≡ (block_signature (opener_in p).named).results
@@ -59,7 +59,7 @@ pub is_opened : (env : Environment) (slot : ℕ) (p : OpenConstruct Occurrence) 
 is_opened env slot p f seq k takes gives frame kind has gives_so type no_end = record {
   here = ap (λ (g : OpenFrame). g.sequence) frame;
   is_empty = ap (λ (g : OpenFrame). g.instrs) frame;
-  is_alive = ap (λ (g : OpenFrame). g.dead) frame;
+  is_alive = ap (λ (g : OpenFrame). g.unreachable) frame;
   kind = ap (λ (g : OpenFrame). g.kind) frame ∙ kind;
   takes = has;
   gives = ap (λ (g : OpenFrame). g.end_types) frame ∙ gives_so;
@@ -68,9 +68,9 @@ is_opened env slot p f seq k takes gives frame kind has gives_so type no_end = r
 }
 
 -- its sequence is empty, with no sequences inside
-kept_empty : (env : Environment) (b : List InstrSeq) (high : ℕ) (f : OpenFrame) (around : List ℕ) → f.instrs ≡ [] → f.dead ≡ false → f.sequence < high → IsKept env b high f around Empty
+kept_empty : (env : Environment) (b : List InstrSeq) (high : ℕ) (f : OpenFrame) (around : List ℕ) → f.instrs ≡ [] → f.unreachable ≡ false → f.sequence < high → IsKeptFrame env b high f around Empty
 kept_empty env b high f around empty alive below =
-    record { items = no_items; are_items = subst (λ xs. AreItems b xs no_items) (sym empty) are_no_items; rise = omega arith; is_normal = refl; is_dead = alive }
+    record { items = no_items; are_items = subst (λ xs. AreTreeItems b xs no_items) (sym empty) are_no_items; rise = omega arith; is_normal = refl; is_unreachable = alive }
 
 pub holds_opened : (env : Environment) (b : List InstrSeq) (seq : InstrSeq) (ls : List (Layer Occurrence)) (s : Sequence Occurrence) (p : OpenConstruct Occurrence) (f : OpenFrame) (around outside : List OpenFrame) (ifs other_ifs : List IfElseState) →
     IsOpened env (length b) p f seq → closed_in (typing_of env) (map_open_construct name_at p) ≡ no_sequences → OpensWith (slots around) [] f.sequence p around outside ifs other_ifs →
@@ -136,11 +136,11 @@ pub record IsSealed (env : Environment) (b c : List InstrSeq) (f : OpenFrame) (p
   pub type : seq.ty ≡ type_in (typing_of env) (map_open_construct name_at p)
 
 pub sequence_closed : (env : Environment) (b c : List InstrSeq) (low : ℕ) (f : OpenFrame) (around before : List ℕ) (p : OpenConstruct Occurrence) (s : Sequence Occurrence) (location : ℕ) →
-    IsKept env b (length b) f around s → Encloses env b low f around p before → IsSealed env b c f p location →
+    IsKeptFrame env b (length b) f around s → Encloses env b low f around p before → IsSealed env b c f p location →
     AreClosed env c low (length c) around (before ++ f.sequence ∷ []) p s location no_sequences
 sequence_closed env b c low f around before p s location k o w =
-    let inside : AreItems c w.seq.instrs k.items =
-    subst (λ xs. AreItems c xs k.items) (sym w.instrs)
+    let inside : AreTreeItems c w.seq.instrs k.items =
+    subst (λ xs. AreTreeItems c xs k.items) (sym w.instrs)
     (items-same c (suc f.sequence) (length b) (λ q l h. w.written.elsewhere q (λ e. let d : q ≡ f.sequence = e in omega arith)) k.rise k.are_items) in
     let others : AreSequences c before o.inside = sequences-same c low f.sequence (λ q l h. w.written.elsewhere q (λ e. let d : q ≡ f.sequence = e in omega arith)) o.rise o.are_sequences in
     let wide : RiseIn (suc f.sequence) k.items (length c) = subst (RiseIn (suc f.sequence) k.items) (sym w.written.as_many) k.rise in
@@ -186,13 +186,13 @@ none_holds env b [] s high ifs h = h
 none_holds env b (l ∷ ls) s high ifs h = h
 
 -- the construct is added to the frame around
-pub holds_after : (env : Environment) (c : List InstrSeq) (ls : List (Layer Occurrence)) (s t : Sequence Occurrence) (low high : ℕ) (fs : List OpenFrame) (ifs : List IfElseState) (x : LocatedInstr) → low ≤ high → is_dead t ≡ false →
+pub holds_after : (env : Environment) (c : List InstrSeq) (ls : List (Layer Occurrence)) (s t : Sequence Occurrence) (low high : ℕ) (fs : List OpenFrame) (ifs : List IfElseState) (x : LocatedInstr) → low ≤ high → is_unreachable_after t ≡ false →
     AreNormal env c low high (slots fs) (x ∷ []) t → Holds env c ls s low fs ifs → Holds env c ls (append s t) high (changed_at 0 (with_instr x) fs) ifs
 holds_after env c ls s t low high [] ifs x wider alive a h = absurd (none_holds env c ls s low ifs h)
 holds_after env c ls s t low high (f ∷ fs) ifs x wider alive a h =
     subst (λ g. Holds env c ls (append s t) high (g ∷ fs) ifs) (taken_alive x f) (holds_takes env c ls s t low high f fs ifs x false wider alive a h)
 
-closed_alive : (p : OpenConstruct Occurrence) (s : Sequence Occurrence) (e : Occurrence) → is_dead (closed p s e) ≡ false
+closed_alive : (p : OpenConstruct Occurrence) (s : Sequence Occurrence) (e : Occurrence) → is_unreachable_after (closed p s e) ≡ false
 closed_alive (InWrapper a w) s e = refl
 closed_alive (InThen a) s e = refl
 closed_alive (InElse a b l) s e = refl
@@ -208,7 +208,7 @@ closed_range {low = low} {high = high} a = all_rise-range low a.inside high a.ri
 -- `end` closes a construct whose instruction is already there
 pub holds_ended : (env : Environment) (b c : List InstrSeq) (ls : List (Layer Occurrence)) (before s : Sequence Occurrence) (p : OpenConstruct Occurrence) (IsOpener : Instr → Type 0) (f : OpenFrame) (fs outside : List OpenFrame) (ifs : List IfElseState)
     (low : ℕ) (places : List ℕ) (e : Occurrence) → added_in (typing_of env) (map_open_construct name_at p) ≡ no_sequences →
-    IsKept env b (length b) f (slots fs) s → Encloses env b low f (slots fs) p places → IsAppended (slots fs) places f.sequence p IsOpener fs outside → IsSealed env b c f p e.location →
+    IsKeptFrame env b (length b) f (slots fs) s → Encloses env b low f (slots fs) p places → IsAppended (slots fs) places f.sequence p IsOpener fs outside → IsSealed env b c f p e.location →
     Holds env b ls before low outside ifs → Holds env c ls (append before (closed p s e)) (length c) fs ifs
 holds_ended env b c ls before s p IsOpener f fs outside ifs low places e none k o a w h =
     let same_slots : slots fs ≡ slots outside = ap slots a.frames ∙ slots_changed a.opener 0 outside in
@@ -230,7 +230,7 @@ is_if around consequent alternative a e = λ i. record { op = sym e i; clauses =
 
 -- `end` closes an alternative
 pub holds_chosen : (env : Environment) (b c : List InstrSeq) (ls : List (Layer Occurrence)) (before s t : Sequence Occurrence) (a l e : Occurrence) (f : OpenFrame) (fs : List OpenFrame) (ifs : List IfElseState) (low consequent : ℕ) → the_if a →
-    IsKept env b (length b) f (slots fs) t → Encloses env b low f (slots fs) (InElse a s l) (consequent ∷ []) → IsSealed env b c f (InElse a s l) e.location →
+    IsKeptFrame env b (length b) f (slots fs) t → Encloses env b low f (slots fs) (InElse a s l) (consequent ∷ []) → IsSealed env b c f (InElse a s l) e.location →
     Holds env b ls before low fs ifs → Holds env c ls (append before (closed (InElse a s l) t e)) (length c) (changed_at 0 (with_instr (if_else consequent f.sequence a.location)) fs) ifs
 holds_chosen env b c ls before s t a l e f fs ifs low consequent is k o w h =
     let p = InElse a s l in
@@ -253,7 +253,7 @@ with_alternative env c other low around places a s location type empty no_end k 
     record {
       inside = sequences_joined k.inside last;
       are_sequences = are_joined (sequences-same d low (length c) (λ q m n. same_grown c other q (omega arith) n) k.rise k.are_sequences)
-          (are_sequences (grown_at c other) (subst (λ xs. AreItems d xs no_items) (sym empty) are_no_items) are_no_sequences);
+          (are_sequences (grown_at c other) (subst (λ xs. AreTreeItems d xs no_items) (sym empty) are_no_items) are_no_sequences);
       rise = all_rise_joined low (length c) (length d) k.inside last k.rise (length d, (let n : length c ≤ length c = omega arith in n), (let n : suc (length c) ≤ length d = omega arith in n), (let n : length d ≤ length d = omega arith in n));
       is_normal =
           in_joined around k.inside last
@@ -261,7 +261,7 @@ with_alternative env c other low around places a s location type empty no_end k 
     }
 
 pub holds_chosen_alone : (env : Environment) (b c : List InstrSeq) (other : InstrSeq) (ls : List (Layer Occurrence)) (before s : Sequence Occurrence) (a e : Occurrence) (f : OpenFrame) (fs : List OpenFrame) (ifs : List IfElseState) (low : ℕ) → the_if a →
-    IsKept env b (length b) f (slots fs) s → Encloses env b low f (slots fs) (InThen a) [] → IsSealed env b c f (InThen a) e.location →
+    IsKeptFrame env b (length b) f (slots fs) s → Encloses env b low f (slots fs) (InThen a) [] → IsSealed env b c f (InThen a) e.location →
     other.ty ≡ type_in (typing_of env) (InThen (name_at a)) → other.instrs ≡ [] → other.end ≡ default_location →
     Holds env b ls before low fs ifs →
     Holds env (c ++ other ∷ []) ls (append before (closed (InThen a) s e)) (length (c ++ other ∷ [])) (changed_at 0 (with_instr (if_else f.sequence (length c) a.location)) fs) ifs
@@ -282,7 +282,7 @@ holds_chosen_alone env b c other ls before s a e f fs ifs low is k o w type empt
 
 pub holds_next_open : (env : Environment) (b c : List InstrSeq) (seq : InstrSeq) (ls : List (Layer Occurrence)) (before s : Sequence Occurrence) (p q : OpenConstruct Occurrence) (f g : OpenFrame) (fs gs outside : List OpenFrame) (ifs other_ifs : List IfElseState)
     (low : ℕ) (places : List ℕ) (location : ℕ) →
-    IsKept env b (length b) f (slots fs) s → Encloses env b low f (slots fs) p places → IsSealed env b c f p location → IsOpened env (length c) q g seq → slots gs ≡ slots fs →
+    IsKeptFrame env b (length b) f (slots fs) s → Encloses env b low f (slots fs) p places → IsSealed env b c f p location → IsOpened env (length c) q g seq → slots gs ≡ slots fs →
     closed_in (typing_of env) (map_open_construct name_at q) ≡ sequences_closed (typing_of env) (map_open_construct name_at p) (normal (typing_of env) (map_sequence name_at s)) location no_sequences →
     OpensWith (slots gs) (places ++ f.sequence ∷ []) g.sequence q gs outside ifs other_ifs →
     Holds env b ls before low outside other_ifs → Holds env (c ++ seq ∷ []) (layer before q ∷ ls) Empty (length (c ++ seq ∷ [])) (g ∷ gs) ifs

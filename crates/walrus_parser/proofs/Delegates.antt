@@ -17,7 +17,7 @@ use Rattle.walrus_context.specs.declared.frame.IfElseState.{IfElseState}
 use Rattle.walrus_context.specs.OpenConstructs.{kind_in}
 use Rattle.walrus_context.specs.OpenFrames.{OpenFrame, with_clause_around}
 use Rattle.walrus_context.specs.OpenTrees.{OpenTrees, Pops, AddsClauseAround, env_of}
-use Rattle.walrus_context.specs.Keeping.{IsWithin, Holds}
+use Rattle.walrus_context.specs.Keeping.{IsWithinFrames, Holds}
 use Rattle.walrus_context.specs.Placing.{kind_at}
 use Rattle.walrus_parser.specs.Advancing.{Keeps, KeepsProgress, occurrence, Advances}
 use Rattle.walrus_parser.specs.BodyParsers.{state_with}
@@ -56,7 +56,7 @@ module _ (old : OpenTrees) (ifs : List IfElseState) (s : Sequence Occurrence) (p
   Kept ls = Keeps (env_of old) (state_with old ifs) ls s
 
   abbrev Within : OpenFrame → List OpenFrame → Layer Occurrence → List (Layer Occurrence) → OpenConstruct Occurrence → Type 0
-  Within f fs l ls p = IsWithin (env_of old) old.builder.sequences (length old.builder.sequences) f fs ifs p s (Holds (env_of old) old.builder.sequences ls l.before)
+  Within f fs l ls p = IsWithinFrames (env_of old) old.builder.sequences (length old.builder.sequences) f fs ifs p s (Holds (env_of old) old.builder.sequences ls l.before)
 
   within : (f : OpenFrame) (fs : List OpenFrame) (l : Layer Occurrence) (ls : List (Layer Occurrence)) → old.frames ≡ f ∷ fs → Kept (l ∷ ls) → Within f fs l ls l.construct
   within f fs l ls frames keeps = subst (λ gs. Holds (env_of old) old.builder.sequences (l ∷ ls) s (length old.builder.sequences) gs ifs) frames keeps

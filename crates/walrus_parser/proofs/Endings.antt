@@ -20,9 +20,9 @@ use Rattle.walrus_context.specs.declared.frame.ControlFrame.{ControlFrame}
 use Rattle.walrus_context.specs.declared.frame.IfElseState.{IfElseState}
 use Rattle.walrus_parser.specs.declared.body_parser.BodyParser.{BodyParser}
 use Rattle.walrus_parser.specs.Advancing.{ParseState, Keeps, occurrence, Advances, IsStep}
-use Rattle.walrus_context.specs.Keeping.{IsWithin, Holds}
+use Rattle.walrus_context.specs.Keeping.{IsWithinFrames, Holds}
 use Rattle.walrus_context.specs.OpenConstructs.{kind_in}
-use Rattle.walrus_context.specs.OpenFrames.{OpenFrame, changed_at, marked_dead, with_instr}
+use Rattle.walrus_context.specs.OpenFrames.{OpenFrame, changed_at, marked_unreachable, with_instr}
 use Rattle.walrus_context.specs.OpenTrees.{OpenTrees, Pops, EndsAt, env_of, AddsEmpty}
 use Rattle.walrus_parser.specs.BodyParsers.{AppendsIf, HasNoIf, either, if_else, state_with, with_appended}
 use Rattle.walrus_parser.proofs.ConstructKinds.{by_if, by_else}
@@ -43,7 +43,7 @@ module _ (old mid end : OpenTrees) (ifs : List IfElseState) (s : Sequence Occurr
   kind_is = ap (λ (g : OpenFrame). g.kind) popped.shown.is
 
   abbrev Within : OpenConstruct Occurrence → Type 0
-  Within p = IsWithin (env_of old) old.builder.sequences (length old.builder.sequences) f mid.frames ifs p s (Holds (env_of old) old.builder.sequences ls l.before)
+  Within p = IsWithinFrames (env_of old) old.builder.sequences (length old.builder.sequences) f mid.frames ifs p s (Holds (env_of old) old.builder.sequences ls l.before)
 
   inside : Within l.construct
   inside = subst (λ gs. Holds (env_of old) old.builder.sequences (l ∷ ls) s (length old.builder.sequences) gs ifs) popped.closes.frames keeps
@@ -198,16 +198,16 @@ finishes old mid end ifs s e location c block h ended_at here keeps =
 
 -- ---- an instruction, and what follows it
 
-module _ (a b n : OpenTrees) (x : LocatedInstr) (diverges : Bool) (r : Result (Unit {0}) ParseError) (diverging : diverges ≡ true) (some : 0 < length a.frames) (appended : b ≡ record a { frames = changed_at 0 (with_instr x) a.frames }) where
-  both : (fs : List OpenFrame) → changed_at 0 marked_dead (changed_at 0 (with_instr x) fs) ≡ changed_at 0 (with_appended x diverges) fs
+module _ (a b n : OpenTrees) (x : LocatedInstr) (unreachable_after : Bool) (r : Result (Unit {0}) ParseError) (unreachable_there : unreachable_after ≡ true) (some : 0 < length a.frames) (appended : b ≡ record a { frames = changed_at 0 (with_instr x) a.frames }) where
+  both : (fs : List OpenFrame) → changed_at 0 marked_unreachable (changed_at 0 (with_instr x) fs) ≡ changed_at 0 (with_appended x unreachable_after) fs
   both [] = refl
-  both (f ∷ fs) = rw diverging refl
+  both (f ∷ fs) = rw unreachable_there refl
 
-  pub appends_ok : OnOk r ((0 < length b.frames) × (n ≡ record b { frames = changed_at 0 marked_dead b.frames })) → OnOk r ((0 < length a.frames) × (n ≡ record a { frames = changed_at 0 (with_appended x diverges) a.frames }))
+  pub appends_ok : OnOk r ((0 < length b.frames) × (n ≡ record b { frames = changed_at 0 marked_unreachable b.frames })) → OnOk r ((0 < length a.frames) × (n ≡ record a { frames = changed_at 0 (with_appended x unreachable_after) a.frames }))
   appends_ok = of_result r
     where
-      of_result : (q : Result (Unit {0}) ParseError) → OnOk q ((0 < length b.frames) × (n ≡ record b { frames = changed_at 0 marked_dead b.frames })) → OnOk q ((0 < length a.frames) × (n ≡ record a { frames = changed_at 0 (with_appended x diverges) a.frames }))
-      of_result (Ok u) h = (some, h.1 ∙ ap (λ (z : OpenTrees). record z { frames = changed_at 0 marked_dead z.frames }) appended ∙ ap (λ fs. record a { frames = fs }) (both a.frames))
+      of_result : (q : Result (Unit {0}) ParseError) → OnOk q ((0 < length b.frames) × (n ≡ record b { frames = changed_at 0 marked_unreachable b.frames })) → OnOk q ((0 < length a.frames) × (n ≡ record a { frames = changed_at 0 (with_appended x unreachable_after) a.frames }))
+      of_result (Ok u) h = (some, h.1 ∙ ap (λ (z : OpenTrees). record z { frames = changed_at 0 marked_unreachable z.frames }) appended ∙ ap (λ fs. record a { frames = fs }) (both a.frames))
       of_result (Err e) h = tt
 
   pub appends_err : IfErr r (λ e. (e ≡ NoFrame) × (b.frames ≡ [])) → IfErr r (λ e. (e ≡ Memory) ⊎ ((e ≡ NoFrame) × (length a.frames ≤ 0)))

@@ -5,20 +5,20 @@ use Rattle.std.proofs.Common.{refl, ap, sym, subst, ◌∙◌, arith}
 use Rattle.walrus_ir.specs.declared.seq.InstrSeq.{InstrSeq}
 use Rattle.walrus_ir.specs.declared.val_type.InstrSeqType.{InstrSeqType}
 use Rattle.walrus_ir.specs.Tree.{Items, no_items}
-use Rattle.walrus_ir.specs.Unfolding.{SequenceAt, LocatedInstr, AreItems, are_no_items}
+use Rattle.walrus_ir.specs.Unfolding.{SequenceAt, LocatedInstr, AreTreeItems, are_no_items}
 use Rattle.wasm_body.specs.SourceTree.{Sequence, map_sequence}
 use Rattle.wasm_body.specs.Naming.{Occurrence, Environment}
 use Rattle.wasm_body.specs.NormalForm.{typing_of, normal, name_at}
 use Rattle.wasm_body.specs.FunctionTree.{Head, Instruction}
-use Rattle.wasm_body.specs.Keeping.{is_dead, joined, joined_alive}
+use Rattle.wasm_body.specs.Keeping.{is_unreachable_after, joined_items, joined_alive}
 use Rattle.wasm_body.specs.TreeOfFunction.{items_in}
 use Rattle.wasm_body.specs.Intervals.{RiseIn}
 use Rattle.wasm_body.specs.Parsing.Progress.{append, OpenConstruct, InWrapper, InThen, InElse, InTry, InCatch, InCatchAll, Layer}
-use Rattle.wasm_body.proofs.NormalForm.KeepingLemmas.{dead_append, dead_mapped, mapped_append, normal_append}
+use Rattle.wasm_body.proofs.NormalForm.KeepingLemmas.{unreachable_append, unreachable_mapped, mapped_append, normal_append}
 use Rattle.wasm_body.proofs.NormalForm.ArenaLemmas.{rise-range, all_rise-range, rise-wider, rise-joined, items-joined, in-joined, SameIn, items-same, sequences-same}
 use Rattle.walrus_context.specs.declared.frame.IfElseState.{IfElseState}
-use Rattle.walrus_context.specs.OpenFrames.{OpenFrame, changed_at, marked_dead, with_instr}
-use Rattle.walrus_context.specs.Keeping.{slots, IsKept, IsReserved, Encloses, OpensWith, Holds}
+use Rattle.walrus_context.specs.OpenFrames.{OpenFrame, changed_at, marked_unreachable, with_instr}
+use Rattle.walrus_context.specs.Keeping.{slots, IsKeptFrame, IsReserved, Encloses, OpensWith, Holds}
 
 -- ---- the slots of frames
 
@@ -43,25 +43,25 @@ slots_outside = same_outside slots (λ x gs. slots_changed x 0 gs)
 
 -- ---- the same in another arena, or with more room
 
-kept_same : (env : Environment) (b c : List InstrSeq) (high : ℕ) (f : OpenFrame) (around : List ℕ) (s : Sequence Occurrence) → SameIn b c 0 high → IsKept env b high f around s → IsKept env c high f around s
+kept_same : (env : Environment) (b c : List InstrSeq) (high : ℕ) (f : OpenFrame) (around : List ℕ) (s : Sequence Occurrence) → SameIn b c 0 high → IsKeptFrame env b high f around s → IsKeptFrame env c high f around s
 kept_same env b c high f around s same k = record {
   items = k.items;
   are_items = items-same c (suc f.sequence) high (λ p l h. same p (omega arith) h) k.rise k.are_items;
   rise = k.rise;
   is_normal = k.is_normal;
-  is_dead = k.is_dead;
+  is_unreachable = k.is_unreachable;
 }
 
-pub kept_wider : (env : Environment) (b : List InstrSeq) (high higher : ℕ) (f : OpenFrame) (around : List ℕ) (s : Sequence Occurrence) → high ≤ higher → IsKept env b high f around s → IsKept env b higher f around s
+pub kept_wider : (env : Environment) (b : List InstrSeq) (high higher : ℕ) (f : OpenFrame) (around : List ℕ) (s : Sequence Occurrence) → high ≤ higher → IsKeptFrame env b high f around s → IsKeptFrame env b higher f around s
 kept_wider env b high higher f around s l k = record {
   items = k.items;
   are_items = k.are_items;
   rise = rise-wider (suc f.sequence) (suc f.sequence) k.items high higher (omega arith) l k.rise;
   is_normal = k.is_normal;
-  is_dead = k.is_dead;
+  is_unreachable = k.is_unreachable;
 }
 
-pub kept_below : (env : Environment) (b : List InstrSeq) (high : ℕ) (f : OpenFrame) (around : List ℕ) (s : Sequence Occurrence) → IsKept env b high f around s → f.sequence < high
+pub kept_below : (env : Environment) (b : List InstrSeq) (high : ℕ) (f : OpenFrame) (around : List ℕ) (s : Sequence Occurrence) → IsKeptFrame env b high f around s → f.sequence < high
 kept_below env b high f around s k = let r = rise-range (suc f.sequence) k.items high k.rise in omega arith
 
 reserved_same : (b c : List InstrSeq) (slot : ℕ) (t : InstrSeqType) → slice_get c slot ≡ slice_get b slot → IsReserved b slot t → IsReserved c slot t
@@ -110,17 +110,17 @@ holds_same env b c (l ∷ ls) s high (f ∷ fs) ifs same h =
 -- ---- the innermost frame with other instructions
 
 abbrev pub with_body : OpenFrame → List LocatedInstr → Bool → OpenFrame
-with_body f instrs dead = record f { instrs = instrs; dead = dead }
+with_body f instrs unreachable = record f { instrs = instrs; unreachable = unreachable }
 
 abbrev Kept : Environment → Sequence Occurrence → Items Head Instruction
 Kept env s = normal (typing_of env) (map_sequence name_at s)
 
-pub holds_changed : (env : Environment) (b : List InstrSeq) (ls : List (Layer Occurrence)) (s t : Sequence Occurrence) (middle high : ℕ) (f : OpenFrame) (fs : List OpenFrame) (ifs : List IfElseState) (instrs : List LocatedInstr) (dead : Bool) →
-    (IsKept env b middle f (slots fs) s → IsKept env b high (with_body f instrs dead) (slots fs) t) →
-    Holds env b ls s middle (f ∷ fs) ifs → Holds env b ls t high (with_body f instrs dead ∷ fs) ifs
-holds_changed env b [] s t middle high f fs ifs instrs dead change h =
+pub holds_changed : (env : Environment) (b : List InstrSeq) (ls : List (Layer Occurrence)) (s t : Sequence Occurrence) (middle high : ℕ) (f : OpenFrame) (fs : List OpenFrame) (ifs : List IfElseState) (instrs : List LocatedInstr) (unreachable : Bool) →
+    (IsKeptFrame env b middle f (slots fs) s → IsKeptFrame env b high (with_body f instrs unreachable) (slots fs) t) →
+    Holds env b ls s middle (f ∷ fs) ifs → Holds env b ls t high (with_body f instrs unreachable ∷ fs) ifs
+holds_changed env b [] s t middle high f fs ifs instrs unreachable change h =
     record { kept = change h.kept; alone = h.alone; reserved = h.reserved; first = h.first; kind = h.kind; no_if = h.no_if }
-holds_changed env b (l ∷ ls) s t middle high f fs ifs instrs dead change h = record {
+holds_changed env b (l ∷ ls) s t middle high f fs ifs instrs unreachable change h = record {
   kept = change h.kept;
   low = h.low;
   before = h.before;
@@ -142,99 +142,99 @@ holds_changed env b (l ∷ ls) s t middle high f fs ifs instrs dead change h = r
 
 -- ---- a sequence with more after it
 
-kept_append : (env : Environment) (s t : Sequence Occurrence) → Kept env (append s t) ≡ joined_alive (is_dead s) (Kept env s) (Kept env t)
+kept_append : (env : Environment) (s t : Sequence Occurrence) → Kept env (append s t) ≡ joined_alive (is_unreachable_after s) (Kept env s) (Kept env t)
 kept_append env s t =
     ap (normal (typing_of env)) (mapped_append name_at s t)
     ∙ normal_append (typing_of env) (map_sequence name_at s) (map_sequence name_at t)
-    ∙ ap (λ d. joined_alive d (Kept env s) (Kept env t)) (dead_mapped name_at s)
+    ∙ ap (λ d. joined_alive d (Kept env s) (Kept env t)) (unreachable_mapped name_at s)
 
 -- instructions that are the normal form of an added sequence, with their own sequences in slots from `low` on
 pub record AreNormal (env : Environment) (b : List InstrSeq) (low high : ℕ) (around : List ℕ) (more : List LocatedInstr) (t : Sequence Occurrence) : Type 0 where
   pub items : Items SequenceAt LocatedInstr
-  pub are_items : AreItems b more items
+  pub are_items : AreTreeItems b more items
   pub rise : RiseIn low items high
   pub is_normal : items_in around items ≡ Kept env t
 
 pub kept_add : (env : Environment) (b : List InstrSeq) (middle high : ℕ) (f : OpenFrame) (around : List ℕ) (s t : Sequence Occurrence) (more : List LocatedInstr) →
-    IsKept env b middle f around s → f.dead ≡ false → AreNormal env b middle high (f.sequence ∷ around) more t → IsKept env b high (with_body f (f.instrs ++ more) (is_dead t)) around (append s t)
+    IsKeptFrame env b middle f around s → f.unreachable ≡ false → AreNormal env b middle high (f.sequence ∷ around) more t → IsKeptFrame env b high (with_body f (f.instrs ++ more) (is_unreachable_after t)) around (append s t)
 kept_add env b middle high f around s t more k alive a =
-    let continues : is_dead s ≡ false = sym k.is_dead ∙ alive in
+    let continues : is_unreachable_after s ≡ false = sym k.is_unreachable ∙ alive in
     record {
-      items = joined k.items a.items;
+      items = joined_items k.items a.items;
       are_items = items-joined k.are_items a.are_items;
       rise = rise-joined (suc f.sequence) k.items a.items middle high k.rise a.rise;
       is_normal =
           in-joined (f.sequence ∷ around) k.items a.items
-          ∙ ap (λ is. joined is (items_in (f.sequence ∷ around) a.items)) k.is_normal
-          ∙ ap (joined (Kept env s)) a.is_normal
+          ∙ ap (λ is. joined_items is (items_in (f.sequence ∷ around) a.items)) k.is_normal
+          ∙ ap (joined_items (Kept env s)) a.is_normal
           ∙ ap (λ d. joined_alive d (Kept env s) (Kept env t)) (sym continues)
           ∙ sym (kept_append env s t);
-      is_dead = ap (λ d. d || is_dead t) (sym continues) ∙ sym (dead_append s t);
+      is_unreachable = ap (λ d. d || is_unreachable_after t) (sym continues) ∙ sym (unreachable_append s t);
     }
 
 pub kept_drop : (env : Environment) (b : List InstrSeq) (middle high : ℕ) (f : OpenFrame) (around : List ℕ) (s t : Sequence Occurrence) →
-    IsKept env b middle f around s → f.dead ≡ true → middle ≤ high → IsKept env b high f around (append s t)
-kept_drop env b middle high f around s t k dead wider =
-    let is_diverging : is_dead s ≡ true = sym k.is_dead ∙ dead in
+    IsKeptFrame env b middle f around s → f.unreachable ≡ true → middle ≤ high → IsKeptFrame env b high f around (append s t)
+kept_drop env b middle high f around s t k unreachable wider =
+    let makes_unreachable : is_unreachable_after s ≡ true = sym k.is_unreachable ∙ unreachable in
     record {
       items = k.items;
       are_items = k.are_items;
       rise = rise-wider (suc f.sequence) (suc f.sequence) k.items middle high (omega arith) wider k.rise;
-      is_normal = k.is_normal ∙ ap (λ d. joined_alive d (Kept env s) (Kept env t)) (sym is_diverging) ∙ sym (kept_append env s t);
-      is_dead = dead ∙ ap (λ d. d || is_dead t) (sym is_diverging) ∙ sym (dead_append s t);
+      is_normal = k.is_normal ∙ ap (λ d. joined_alive d (Kept env s) (Kept env t)) (sym makes_unreachable) ∙ sym (kept_append env s t);
+      is_unreachable = unreachable ∙ ap (λ d. d || is_unreachable_after t) (sym makes_unreachable) ∙ sym (unreachable_append s t);
     }
 
 -- ---- the innermost frame with one more instruction
 
--- one more instruction, after which the frame may be dead; a frame that was dead is unchanged
+-- one more instruction, after which the frame may be unreachable; a frame that was unreachable is unchanged
 abbrev pub taken : LocatedInstr → Bool → OpenFrame → OpenFrame
-taken x diverging f = with_body f (cond f.dead f.instrs (f.instrs ++ x ∷ [])) (f.dead || diverging)
+taken x unreachable_after f = with_body f (cond f.unreachable f.instrs (f.instrs ++ x ∷ [])) (f.unreachable || unreachable_after)
 
 pub taken_alive : (x : LocatedInstr) (f : OpenFrame) → taken x false f ≡ with_instr x f
-taken_alive x f = ap (with_body f (cond f.dead f.instrs (f.instrs ++ x ∷ []))) (or_false f.dead)
+taken_alive x f = ap (with_body f (cond f.unreachable f.instrs (f.instrs ++ x ∷ []))) (or_false f.unreachable)
   where
     or_false : (d : Bool) → d || false ≡ d
     or_false true = refl
     or_false false = refl
 
-pub taken_dead : (x : LocatedInstr) (f : OpenFrame) → taken x true f ≡ marked_dead (with_instr x f)
-taken_dead x f = ap (with_body f (cond f.dead f.instrs (f.instrs ++ x ∷ []))) (or_true f.dead)
+pub taken_unreachable : (x : LocatedInstr) (f : OpenFrame) → taken x true f ≡ marked_unreachable (with_instr x f)
+taken_unreachable x f = ap (with_body f (cond f.unreachable f.instrs (f.instrs ++ x ∷ []))) (or_true f.unreachable)
   where
     or_true : (d : Bool) → d || true ≡ true
     or_true true = refl
     or_true false = refl
 
-kept_takes : (env : Environment) (b : List InstrSeq) (middle high : ℕ) (f : OpenFrame) (around : List ℕ) (s t : Sequence Occurrence) (x : LocatedInstr) (diverging d : Bool) → f.dead ≡ d → middle ≤ high → is_dead t ≡ diverging →
-    AreNormal env b middle high (f.sequence ∷ around) (x ∷ []) t → IsKept env b middle f around s →
-    IsKept env b high (with_body f (cond d f.instrs (f.instrs ++ x ∷ [])) (d || diverging)) around (append s t)
-kept_takes env b middle high f around s t x diverging true dead wider is a k =
-    let dropped = kept_drop env b middle high f around s t k dead wider in
-    record { items = dropped.items; are_items = dropped.are_items; rise = dropped.rise; is_normal = dropped.is_normal; is_dead = sym dead ∙ dropped.is_dead }
-kept_takes env b middle high f around s t x diverging false alive wider is a k =
+kept_takes : (env : Environment) (b : List InstrSeq) (middle high : ℕ) (f : OpenFrame) (around : List ℕ) (s t : Sequence Occurrence) (x : LocatedInstr) (unreachable_after d : Bool) → f.unreachable ≡ d → middle ≤ high → is_unreachable_after t ≡ unreachable_after →
+    AreNormal env b middle high (f.sequence ∷ around) (x ∷ []) t → IsKeptFrame env b middle f around s →
+    IsKeptFrame env b high (with_body f (cond d f.instrs (f.instrs ++ x ∷ [])) (d || unreachable_after)) around (append s t)
+kept_takes env b middle high f around s t x unreachable_after true unreachable wider is a k =
+    let dropped = kept_drop env b middle high f around s t k unreachable wider in
+    record { items = dropped.items; are_items = dropped.are_items; rise = dropped.rise; is_normal = dropped.is_normal; is_unreachable = sym unreachable ∙ dropped.is_unreachable }
+kept_takes env b middle high f around s t x unreachable_after false alive wider is a k =
     let added = kept_add env b middle high f around s t (x ∷ []) k alive a in
-    record { items = added.items; are_items = added.are_items; rise = added.rise; is_normal = added.is_normal; is_dead = sym is ∙ added.is_dead }
+    record { items = added.items; are_items = added.are_items; rise = added.rise; is_normal = added.is_normal; is_unreachable = sym is ∙ added.is_unreachable }
 
-pub holds_takes : (env : Environment) (b : List InstrSeq) (ls : List (Layer Occurrence)) (s t : Sequence Occurrence) (middle high : ℕ) (f : OpenFrame) (fs : List OpenFrame) (ifs : List IfElseState) (x : LocatedInstr) (diverging : Bool) → middle ≤ high → is_dead t ≡ diverging →
-    AreNormal env b middle high (f.sequence ∷ slots fs) (x ∷ []) t → Holds env b ls s middle (f ∷ fs) ifs → Holds env b ls (append s t) high (taken x diverging f ∷ fs) ifs
-holds_takes env b ls s t middle high f fs ifs x diverging wider is a =
-    holds_changed env b ls s (append s t) middle high f fs ifs (cond f.dead f.instrs (f.instrs ++ x ∷ [])) (f.dead || diverging)
-    (kept_takes env b middle high f (slots fs) s t x diverging f.dead refl wider is a)
+pub holds_takes : (env : Environment) (b : List InstrSeq) (ls : List (Layer Occurrence)) (s t : Sequence Occurrence) (middle high : ℕ) (f : OpenFrame) (fs : List OpenFrame) (ifs : List IfElseState) (x : LocatedInstr) (unreachable_after : Bool) → middle ≤ high → is_unreachable_after t ≡ unreachable_after →
+    AreNormal env b middle high (f.sequence ∷ slots fs) (x ∷ []) t → Holds env b ls s middle (f ∷ fs) ifs → Holds env b ls (append s t) high (taken x unreachable_after f ∷ fs) ifs
+holds_takes env b ls s t middle high f fs ifs x unreachable_after wider is a =
+    holds_changed env b ls s (append s t) middle high f fs ifs (cond f.unreachable f.instrs (f.instrs ++ x ∷ [])) (f.unreachable || unreachable_after)
+    (kept_takes env b middle high f (slots fs) s t x unreachable_after f.unreachable refl wider is a)
 
 -- an operator that is dropped leaves the frame unchanged
-kept_passes : (env : Environment) (b : List InstrSeq) (high : ℕ) (f : OpenFrame) (around : List ℕ) (s t : Sequence Occurrence) (d : Bool) → f.dead ≡ d → is_dead t ≡ false → Kept env t ≡ no_items →
-    IsKept env b high f around s → IsKept env b high f around (append s t)
-kept_passes env b high f around s t true dead is none k = kept_drop env b high high f around s t k dead (omega arith)
+kept_passes : (env : Environment) (b : List InstrSeq) (high : ℕ) (f : OpenFrame) (around : List ℕ) (s t : Sequence Occurrence) (d : Bool) → f.unreachable ≡ d → is_unreachable_after t ≡ false → Kept env t ≡ no_items →
+    IsKeptFrame env b high f around s → IsKeptFrame env b high f around (append s t)
+kept_passes env b high f around s t true unreachable is none k = kept_drop env b high high f around s t k unreachable (omega arith)
 kept_passes env b high f around s t false alive is none k =
     let added = kept_add env b high high f around s t [] k alive (record { items = no_items; are_items = are_no_items; rise = omega arith; is_normal = sym none }) in
     record {
       items = added.items;
-      are_items = subst (λ xs. AreItems b xs added.items) (append-nil f.instrs) added.are_items;
+      are_items = subst (λ xs. AreTreeItems b xs added.items) (append-nil f.instrs) added.are_items;
       rise = added.rise;
       is_normal = added.is_normal;
-      is_dead = alive ∙ sym is ∙ added.is_dead;
+      is_unreachable = alive ∙ sym is ∙ added.is_unreachable;
     }
 
-pub holds_passes : (env : Environment) (b : List InstrSeq) (ls : List (Layer Occurrence)) (s t : Sequence Occurrence) (high : ℕ) (f : OpenFrame) (fs : List OpenFrame) (ifs : List IfElseState) → is_dead t ≡ false → Kept env t ≡ no_items →
+pub holds_passes : (env : Environment) (b : List InstrSeq) (ls : List (Layer Occurrence)) (s t : Sequence Occurrence) (high : ℕ) (f : OpenFrame) (fs : List OpenFrame) (ifs : List IfElseState) → is_unreachable_after t ≡ false → Kept env t ≡ no_items →
     Holds env b ls s high (f ∷ fs) ifs → Holds env b ls (append s t) high (f ∷ fs) ifs
 holds_passes env b ls s t high f fs ifs is none =
-    holds_changed env b ls s (append s t) high high f fs ifs f.instrs f.dead (kept_passes env b high f (slots fs) s t f.dead refl is none)
+    holds_changed env b ls s (append s t) high high f fs ifs f.instrs f.unreachable (kept_passes env b high f (slots fs) s t f.unreachable refl is none)

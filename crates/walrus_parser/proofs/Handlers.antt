@@ -18,8 +18,8 @@ use Rattle.wasm_operators.specs.Operations.{index, operation}
 use Rattle.wasm_body.specs.declared.error.ParseError.{ParseError}
 use Rattle.wasm_body.specs.declared.error.ParseError.TheVariants.{Memory, CatchOutsideTry, NotAFunctionType, NoTry, TypeMissing, UnknownId}
 use Rattle.wasm_body.specs.Control.{catch_opcode, catch_all_operation, control_of}
-use Rattle.wasm_body.specs.NormalForm.{parameters_of, typing_of}
-use Rattle.wasm_body.specs.Frames.{Frame, OfFunction, OfWrapper, Consequent, Alternative, TryBody, Handler, HandlerOfAll, catch_moves, catch_all_moves}
+use Rattle.wasm_body.specs.NormalForm.{parameters_or_none, typing_of}
+use Rattle.wasm_body.specs.Frames.{SequenceFrame, OfFunction, OfWrapper, Consequent, Alternative, TryBody, Handler, HandlerOfAll, catch_moves, catch_all_moves}
 use Rattle.wasm_body.specs.Naming.{Environment, NamedOperation, Occurrence, id_at, function_type, tag_type, has_pick, construct_results, block_signature, named_in}
 use Rattle.wasm_body.specs.SourceTree.{Sequence, Empty, OfBlock, OfLoop, OfTryTable}
 use Rattle.wasm_body.specs.Parsing.Progress.{OpenConstruct, InWrapper, InThen, InElse, InTry, InCatch, InCatchAll, Layer, layer, frame_of, frames_of, with_catch_open, with_catch_all_open, continue_in, further_within}
@@ -28,10 +28,10 @@ use Rattle.walrus_context.specs.declared.frame.IfElseState.{IfElseState}
 use Rattle.walrus_context.specs.OpenConstructs.{kind_in, opener_in}
 use Rattle.walrus_context.specs.OpenFrames.{OpenFrame, new_frame, changed_at, with_instr, with_clause, with_clause_around}
 use Rattle.walrus_context.specs.OpenTrees.{OpenTrees, Opens, Pops, EndsAt, AddsClauseAround, env_of}
-use Rattle.walrus_context.specs.Keeping.{slots, IsTry, IsWithin, Holds, IsAppended}
+use Rattle.walrus_context.specs.Keeping.{slots, IsTry, IsWithinFrames, Holds, IsAppended}
 use Rattle.walrus_parser.specs.Advancing.{Keeps, KeepsProgress, occurrence, Advances, IsStep}
 use Rattle.walrus_parser.specs.BodyParsers.{state_with}
-use Rattle.walrus_parser.specs.Handlers.{clause_operation, caught, handler_kind, clause_of, has_clauses}
+use Rattle.walrus_parser.specs.Handlers.{clause_operation, caught, handler_kind, handler_clause, has_clauses}
 use Rattle.walrus_parser.proofs.Clauses.{GainsClause, AddsClause}
 use Rattle.walrus_parser.proofs.ConstructKinds.{MayHaveClause, by_clause}
 use Rattle.walrus_context.proofs.LastClauses.{last_clause, clause_kept}
@@ -55,11 +55,11 @@ module _ (clause : LegacyCatch) (t : Try) (location : ℕ) where
   gained = record { old = t; new = record t { catches = t.catches ++ clause ∷ [] }; was = refl; is = refl; same_body = refl; clauses = refl; same_location = refl }
 
   in_frame : (f : OpenFrame) → with_clause clause (with_instr old f) ≡ Some (with_instr new f)
-  in_frame f = by_dead f.dead refl
+  in_frame f = by_unreachable f.unreachable refl
     where
-      by_dead : (d : Bool) → f.dead ≡ d → with_clause clause (with_instr old f) ≡ Some (with_instr new f)
-      by_dead true e = rw e refl
-      by_dead false e = rw (e, last_clause clause f.instrs old) refl
+      by_unreachable : (d : Bool) → f.unreachable ≡ d → with_clause clause (with_instr old f) ≡ Some (with_instr new f)
+      by_unreachable true e = rw e refl
+      by_unreachable false e = rw (e, last_clause clause f.instrs old) refl
 
 -- The frame around the innermost ends in the `try`, so the clause is added to it.
 pub record GetsClause (clause : LegacyCatch) (g : OpenFrame) (fs all : List OpenFrame) : Type 0 where
@@ -110,7 +110,7 @@ has_try clause g fs (o ∷ os) x e some frames opener refused =
 
 -- ---- the name of a clause
 
-module _ (env : Environment) (f : Frame Occurrence) (fs : List (Frame Occurrence)) where
+module _ (env : Environment) (f : SequenceFrame Occurrence) (fs : List (SequenceFrame Occurrence)) where
   abbrev pub clause_named : Option ℕ → Bool → Result NamedOperation ParseError
   clause_named tag allowed =
       unless allowed CatchOutsideTry >>= λ _. caught env tag >>= λ h. has_pick env (signature h.1 (construct_results (f ∷ fs))) >>= λ _. Ok (clause_operation h.0)
@@ -118,7 +118,7 @@ module _ (env : Environment) (f : Frame Occurrence) (fs : List (Frame Occurrence
   same_moves : is_some (catch_all_moves f) ≡ is_some (catch_moves f)
   same_moves = by_frame f
     where
-      by_frame : (g : Frame Occurrence) → is_some (catch_all_moves g) ≡ is_some (catch_moves g)
+      by_frame : (g : SequenceFrame Occurrence) → is_some (catch_all_moves g) ≡ is_some (catch_moves g)
       by_frame OfFunction = refl
       by_frame (OfWrapper a) = refl
       by_frame (Consequent a) = refl
@@ -155,7 +155,7 @@ allows_clause (InTry a) = refl
 allows_clause (InCatch a b gs h t) = refl
 allows_clause (InCatchAll a b gs h) = refl
 
-results_around : (p : OpenConstruct Occurrence) (fs : List (Frame Occurrence)) → construct_results (frame_of p ∷ fs) ≡ (block_signature (opener_in p).named).results
+results_around : (p : OpenConstruct Occurrence) (fs : List (SequenceFrame Occurrence)) → construct_results (frame_of p ∷ fs) ≡ (block_signature (opener_in p).named).results
 results_around (InWrapper a w) fs = refl
 results_around (InThen a) fs = refl
 results_around (InElse a b l) fs = refl
@@ -183,11 +183,11 @@ IsTagged env None types = types ≡ []
 parameters_are : (env : Environment) (tag : ℕ) (s : Signature) → tag_type env tag ≡ Ok s → (typing_of env).tag_parameters tag ≡ s.parameters
 parameters_are env tag s e = by_type (slice_get env.tags tag) e
   where
-    by_signature : (o : Option Signature) → some_or o NotAFunctionType ≡ Ok s → parameters_of o ≡ s.parameters
+    by_signature : (o : Option Signature) → some_or o NotAFunctionType ≡ Ok s → parameters_or_none o ≡ s.parameters
     by_signature (Some u) q = let same : u ≡ s = cc q in ap (λ (z : Signature). z.parameters) same
     by_signature None q = absurd cc
 
-    by_type : (o : Option ℕ) → (some_or o UnknownId >>= λ type. function_type env type) ≡ Ok s → parameters_of (option_and_then (signature_of env.types) o) ≡ s.parameters
+    by_type : (o : Option ℕ) → (some_or o UnknownId >>= λ type. function_type env type) ≡ Ok s → parameters_or_none (option_and_then (signature_of env.types) o) ≡ s.parameters
     by_type (Some type) q = by_signature (signature_of env.types type) q
     by_type None q = absurd cc
 
@@ -229,7 +229,7 @@ module _ (old mid : OpenTrees) (ifs : List IfElseState) (s : Sequence Occurrence
   Kept ls = Keeps (env_of old) (state_with old ifs) ls s
 
   abbrev Within : Layer Occurrence → List (Layer Occurrence) → OpenConstruct Occurrence → Type 0
-  Within l ls p = IsWithin (env_of old) old.builder.sequences (length old.builder.sequences) f mid.frames ifs p s (Holds (env_of old) old.builder.sequences ls l.before)
+  Within l ls p = IsWithinFrames (env_of old) old.builder.sequences (length old.builder.sequences) f mid.frames ifs p s (Holds (env_of old) old.builder.sequences ls l.before)
 
   within : (l : Layer Occurrence) (ls : List (Layer Occurrence)) → Kept (l ∷ ls) → Within l ls l.construct
   within l ls keeps = subst (λ gs. Holds (env_of old) old.builder.sequences (l ∷ ls) s (length old.builder.sequences) gs ifs) popped.closes.frames keeps
@@ -288,14 +288,14 @@ module _ (old mid : OpenTrees) (ifs : List IfElseState) (s : Sequence Occurrence
         frames_pushed = ap (λ (z : OpenTrees). z.frames) opens.is ∙ ap (λ fs. new_frame (handler_kind h.0) h.1 gives id ∷ fs) (ap (λ (z : OpenTrees). z.frames) ended.is)
 
         -- the frame around can take the clause, since it ends in the `try`
-        pub not_refused : (e : ParseError) → with_clause_around (clause_of h.0 id) pushed.frames ≡ Err e → (ls : List (Layer Occurrence)) → Kept ls → ⊥
+        pub not_refused : (e : ParseError) → with_clause_around (handler_clause h.0 id) pushed.frames ≡ Err e → (ls : List (Layer Occurrence)) → Kept ls → ⊥
         not_refused e refused [] keeps = not_outermost keeps
         not_refused e refused (l ∷ ls) keeps =
             let inside = within l ls keeps in
             let around = by_clause (λ p. Within l ls p → AllowsClause) (λ a i. allowed a i.opens.0) (λ a b cs x u i. allowed a i.opens.0) l.construct (may_have_clause (kind_in l.construct) (ap has_clauses (sym inside.encloses.kind ∙ kind_is) ∙ may)) inside in
-            has_try (clause_of h.0 id) (new_frame (handler_kind h.0) h.1 gives id) mid.frames around.0.1 around.0.0 e
+            has_try (handler_clause h.0 id) (new_frame (handler_kind h.0) h.1 gives id) mid.frames around.0.1 around.0.0 e
             (some_around (env_of old) (state_with old ifs) l ls s f mid.frames keeps popped.closes.frames) around.1 around.2
-            (ap (with_clause_around (clause_of h.0 id)) (sym frames_pushed) ∙ refused)
+            (ap (with_clause_around (handler_clause h.0 id)) (sym frames_pushed) ∙ refused)
           where
             AllowsClause : Type 0
             AllowsClause = (x : LocatedInstr × List OpenFrame) × (mid.frames ≡ changed_at 0 (with_instr x.0) x.1) × IsTry x.0.0
@@ -303,7 +303,7 @@ module _ (old mid : OpenTrees) (ifs : List IfElseState) (s : Sequence Occurrence
             allowed : {around before : List ℕ} {slot : ℕ} {p : OpenConstruct Occurrence} {outside : List OpenFrame} → Occurrence → IsAppended around before slot p IsTry mid.frames outside → AllowsClause
             allowed {outside = outside} a i = ((i.opener, outside), i.frames, i.is_opener)
 
-        module _ (added : AddsClauseAround (clause_of h.0 id) pushed new) (l : Layer Occurrence) (ls : List (Layer Occurrence)) (keeps : Kept (l ∷ ls)) where
+        module _ (added : AddsClauseAround (handler_clause h.0 id) pushed new) (l : Layer Occurrence) (ls : List (Layer Occurrence)) (keeps : Kept (l ∷ ls)) where
           abbrev b : List InstrSeq
           b = end.builder.sequences
 
@@ -313,10 +313,10 @@ module _ (old mid : OpenTrees) (ifs : List IfElseState) (s : Sequence Occurrence
           abbrev Continues : Option (OpenConstruct Occurrence) → Type 0
           Continues o = (q : OpenConstruct Occurrence) × (o ≡ Some q) × Keeps (env_of old) (state_with new ifs) (layer l.before q ∷ ls) Empty
 
-          gets_here : (u : Option ℕ) (parameters : List (ValType ℕ)) → h ≡ (u, parameters) → GetsClause (clause_of u id) (new_frame (handler_kind u) parameters gives id) mid.frames new.frames
-          gets_here u parameters same = gets_clause (clause_of u id) (new_frame (handler_kind u) parameters gives id) mid.frames new.frames
-              (subst (λ (z : Option ℕ × List (ValType ℕ)). with_clause_around (clause_of z.0 id) (new_frame (handler_kind z.0) z.1 gives id ∷ mid.frames) ≡ Ok new.frames) same
-              (ap (with_clause_around (clause_of h.0 id)) (sym frames_pushed) ∙ added.0))
+          gets_here : (u : Option ℕ) (parameters : List (ValType ℕ)) → h ≡ (u, parameters) → GetsClause (handler_clause u id) (new_frame (handler_kind u) parameters gives id) mid.frames new.frames
+          gets_here u parameters same = gets_clause (handler_clause u id) (new_frame (handler_kind u) parameters gives id) mid.frames new.frames
+              (subst (λ (z : Option ℕ × List (ValType ℕ)). with_clause_around (handler_clause z.0 id) (new_frame (handler_kind z.0) z.1 gives id ∷ mid.frames) ≡ Ok new.frames) same
+              (ap (with_clause_around (handler_clause h.0 id)) (sym frames_pushed) ∙ added.0))
 
           may_here : MayHaveClause f.kind
           may_here = may_have_clause f.kind (ap has_clauses kind_is ∙ may)
@@ -356,12 +356,12 @@ module _ (old mid : OpenTrees) (ifs : List IfElseState) (s : Sequence Occurrence
                 keeps = subst (KeepsProgress (env_of old) (state_with new ifs)) (sym (further_by h.0 x l ls s)) (subst (λ o. KeepsProgress (env_of old) (state_with new ifs) (continue_in ls l.before o)) (sym made.1) made.2);
               }
 
-        pub steps_try : AddsClauseAround (clause_of h.0 id) pushed new → (ls : List (Layer Occurrence)) → Kept ls → Advances (env_of old) (state_with new ifs) ls s (clause_operation tag) place location
+        pub steps_try : AddsClauseAround (handler_clause h.0 id) pushed new → (ls : List (Layer Occurrence)) → Kept ls → Advances (env_of old) (state_with new ifs) ls s (clause_operation tag) place location
         steps_try added [] keeps = absurd (not_outermost keeps)
         steps_try added (l ∷ ls) keeps = parts_try added l ls keeps
 
       -- the clause is added, or memory runs out
-      pub clause_steps : (pushed new : OpenTrees) (id : ℕ) (k : BlockKind) (clause : LegacyCatch) → k ≡ handler_kind h.0 → clause ≡ clause_of h.0 id → IsSomeAnd (existing end.module.types h.1 gives) (λ t. Opens end pushed k t h.1 gives id) →
+      pub clause_steps : (pushed new : OpenTrees) (id : ℕ) (k : BlockKind) (clause : LegacyCatch) → k ≡ handler_kind h.0 → clause ≡ handler_clause h.0 id → IsSomeAnd (existing end.module.types h.1 gives) (λ t. Opens end pushed k t h.1 gives id) →
           (r : Result (Unit {0}) ParseError) → OnOk r (AddsClauseAround clause pushed new) → IfErr r (λ e. (e ≡ Memory) ⊎ (with_clause_around clause pushed.frames ≡ Err e)) → (ls : List (Layer Occurrence)) → Kept ls →
           IsStep (env_of old) (state_with new ifs) ls s (clause_operation tag) place location r
       clause_steps pushed new id k clause same_kind same_clause is_pushed r ok err ls keeps =

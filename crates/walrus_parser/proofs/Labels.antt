@@ -10,7 +10,7 @@ use Rattle.wasm_numbers.specs.Results.{◌>>=◌, some_or, unless}
 use Rattle.walrus_ir.specs.declared.seq.InstrSeq.{InstrSeq}
 use Rattle.wasm_body.specs.declared.error.ParseError.{ParseError}
 use Rattle.wasm_body.specs.declared.error.ParseError.TheVariants.{NoSuchLabel, RethrowOutsideHandler}
-use Rattle.wasm_body.specs.Frames.{Frame, is_handler, handler_at}
+use Rattle.wasm_body.specs.Frames.{SequenceFrame, is_handler, handler_at}
 use Rattle.wasm_body.specs.SourceTree.{Sequence, OfBlock, OfLoop, OfTryTable}
 use Rattle.wasm_body.specs.Naming.{Occurrence, Environment, handler_label}
 use Rattle.wasm_body.specs.FunctionTree.{Depth}
@@ -81,7 +81,7 @@ abbrev kinds : List OpenFrame → List BlockKind
 kinds fs = map (λ (f : OpenFrame). f.kind) fs
 
 -- each kind is that of a handler exactly if its frame is one
-abbrev pub AreKindsOf : {A : Type 0} → List (Frame A) → List BlockKind → Type 0
+abbrev pub AreKindsOf : {A : Type 0} → List (SequenceFrame A) → List BlockKind → Type 0
 AreKindsOf [] [] = Unit {0}
 AreKindsOf [] (k ∷ ks) = ⊥
 AreKindsOf (g ∷ gs) [] = ⊥
@@ -117,20 +117,20 @@ get_past (x ∷ xs) zero e = absurd cc
 get_past (x ∷ xs) (suc n) e = let l = get_past xs n e in omega arith
 
 module _ {A : Type 0} where
-  as_many_kinds : (gs : List (Frame A)) (fs : List OpenFrame) → AreKindsOf gs (kinds fs) → length fs ≡ length gs
+  as_many_kinds : (gs : List (SequenceFrame A)) (fs : List OpenFrame) → AreKindsOf gs (kinds fs) → length fs ≡ length gs
   as_many_kinds [] [] a = refl
   as_many_kinds [] (k ∷ fs) a = absurd a
   as_many_kinds (g ∷ gs) [] a = absurd a
   as_many_kinds (g ∷ gs) (k ∷ fs) a = ap suc (as_many_kinds gs fs a.1)
 
-  handler_there : (gs : List (Frame A)) (fs : List OpenFrame) (n : ℕ) (f : OpenFrame) → AreKindsOf gs (kinds fs) → slice_get fs n ≡ Some f → is_handler_kind f.kind ≡ handler_at gs n
+  handler_there : (gs : List (SequenceFrame A)) (fs : List OpenFrame) (n : ℕ) (f : OpenFrame) → AreKindsOf gs (kinds fs) → slice_get fs n ≡ Some f → is_handler_kind f.kind ≡ handler_at gs n
   handler_there [] [] n f a e = absurd cc
   handler_there [] (k ∷ fs) n f a e = absurd a
   handler_there (g ∷ gs) [] n f a e = absurd a
   handler_there (g ∷ gs) (k ∷ fs) zero f a e = let same : k ≡ f = cc in ap (λ (h : OpenFrame). is_handler_kind h.kind) (sym same) ∙ a.0
   handler_there (g ∷ gs) (k ∷ fs) (suc n) f a e = handler_there gs fs n f a.1 e
 
-  pub same_handler : (gs : List (Frame A)) (fs : List OpenFrame) → AreKindsOf gs (kinds fs) → (n : ℕ) → handler_in fs n ≡ handler_label gs n
+  pub same_handler : (gs : List (SequenceFrame A)) (fs : List OpenFrame) → AreKindsOf gs (kinds fs) → (n : ℕ) → handler_in fs n ≡ handler_label gs n
   same_handler gs fs a n = by_frame (slice_get fs n) refl
     where
       many : length fs ≡ length gs
@@ -148,7 +148,7 @@ module _ {A : Type 0} where
           let is : nat_lt n (length gs) ≡ false = grind arith in rw is refl
 
 -- The open frames match those around the operator, as far as depths can tell.
-pub record AreSeenAs {A : Type 0} (gs : List (Frame A)) (fs : List OpenFrame) : Type 0 where
+pub record AreSeenAs {A : Type 0} (gs : List (SequenceFrame A)) (fs : List OpenFrame) : Type 0 where
   pub as_many : length fs ≡ length gs
   pub handlers : (n : ℕ) → handler_in fs n ≡ handler_label gs n
   pub fall : Fall (slots fs)

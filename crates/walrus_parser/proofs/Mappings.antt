@@ -10,7 +10,7 @@ use Rattle.std.proofs.Common.{refl, ap, sym, ◌∙◌, arith, inl, inr}
 use Rattle.wasm_body.specs.Naming.{Occurrence}
 use Rattle.wasm_body.specs.Parsing.Accepted.{location_at}
 use Rattle.walrus_validators.specs.Locating.{Locates, MayCall}
-use Rattle.walrus_parser.specs.Settings.{pair_of, found, locations_in, BothOrNone, RiseFrom, IsMapping}
+use Rattle.walrus_parser.specs.Settings.{pair_of, location_found, locations_in, BothOrNone, RiseFrom, IsMapping}
 
 pub all-append : {A : Type 0} (P : A → Type 0) (xs : List A) (x : A) → AllByRecursion P xs → P x → AllByRecursion P (xs ++ x ∷ [])
 all-append P [] x all p = (p, tt)
@@ -56,17 +56,17 @@ not_equal : (k l : ℕ) → k ≢ l → (k == l) ≡ false
 not_equal k l apart = either (λ e. absurd (apart e.1)) (λ e. e.0) (eqb_tells k l)
 
 found_all : (offset : ℕ) (xs : List Occurrence) (from below : ℕ) → offset ≤ from → RiseFrom xs from below →
-    AllByRecursion (λ x. (x.location ≡ found (map (pair_of offset) xs) (x.place - offset)) × (from ≤ x.place)) xs
+    AllByRecursion (λ x. (x.location ≡ location_found (map (pair_of offset) xs) (x.place - offset)) × (from ≤ x.place)) xs
 found_all offset [] from below fits rise = tt
 found_all offset (x ∷ xs) from below fits rise =
     let least = rise.0 in (
-      (sym (same (x.place - offset == (x.place - offset)) x.location (found (map (pair_of offset) xs) (x.place - offset)) (eq-eqb (x.place - offset) (x.place - offset) refl)), rise.0),
-      all-mapped (λ y. (y.location ≡ found (map (pair_of offset) xs) (y.place - offset)) × (x.place + 1 ≤ y.place))
-          (λ y. (y.location ≡ found (map (pair_of offset) (x ∷ xs)) (y.place - offset)) × (from ≤ y.place))
+      (sym (same (x.place - offset == (x.place - offset)) x.location (location_found (map (pair_of offset) xs) (x.place - offset)) (eq-eqb (x.place - offset) (x.place - offset) refl)), rise.0),
+      all-mapped (λ y. (y.location ≡ location_found (map (pair_of offset) xs) (y.place - offset)) × (x.place + 1 ≤ y.place))
+          (λ y. (y.location ≡ location_found (map (pair_of offset) (x ∷ xs)) (y.place - offset)) × (from ≤ y.place))
           (λ y p.
           let more = p.1 in
           let apart : (x.place - offset) ≢ (y.place - offset) = λ e. let h = e in omega arith in
-          (p.0 ∙ sym (other (x.place - offset == (y.place - offset)) x.location (found (map (pair_of offset) xs) (y.place - offset)) (not_equal (x.place - offset) (y.place - offset) apart)), omega arith))
+          (p.0 ∙ sym (other (x.place - offset == (y.place - offset)) x.location (location_found (map (pair_of offset) xs) (y.place - offset)) (not_equal (x.place - offset) (y.place - offset) apart)), omega arith))
           xs (found_all offset xs (x.place + 1) below (omega arith) rise.1),
     )
 
@@ -76,8 +76,8 @@ module _ {F : Type 0} (g : Shared F (Bor ℕ × Unit {0}) ℕ) where
       AllByRecursion (λ x. x.location ≡ location_at (locations_in o offset mapping) x.place) xs
   mapped_locations None offset from below xs mapping fits m = all-mapped (λ x. Locates g None x.place x.location) (λ x. x.location ≡ x.place) (λ x p. p.1) xs m.are_located
   mapped_locations (Some f) offset from below xs mapping fits m =
-      all-mapped (λ x. (x.location ≡ found (map (pair_of offset) xs) (x.place - offset)) × (from ≤ x.place)) (λ x. x.location ≡ found mapping (x.place - offset))
-      (λ x p. p.0 ∙ ap (λ ps. found ps (x.place - offset)) (sym m.pairs)) xs (found_all offset xs from below fits m.rise)
+      all-mapped (λ x. (x.location ≡ location_found (map (pair_of offset) xs) (x.place - offset)) × (from ≤ x.place)) (λ x. x.location ≡ location_found mapping (x.place - offset))
+      (λ x p. p.0 ∙ ap (λ ps. location_found ps (x.place - offset)) (sym m.pairs)) xs (found_all offset xs from below fits m.rise)
 
 pub mapped_both : {F : Type 0} (o : Option F) (offset : ℕ) (mapping : List (ℕ × ℕ)) → BothOrNone o (locations_in o offset mapping)
 mapped_both None offset mapping = tt

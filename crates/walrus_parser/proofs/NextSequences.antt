@@ -21,7 +21,7 @@ use Rattle.walrus_context.specs.declared.frame.IfElseState.{IfElseState}
 use Rattle.walrus_context.specs.OpenConstructs.{kind_in}
 use Rattle.walrus_context.specs.OpenFrames.{OpenFrame, new_frame}
 use Rattle.walrus_context.specs.OpenTrees.{OpenTrees, Opens, Closes, Pops, EndsAt, env_of}
-use Rattle.walrus_context.specs.Keeping.{IsWithin, Holds}
+use Rattle.walrus_context.specs.Keeping.{IsWithinFrames, Holds}
 use Rattle.walrus_parser.specs.Advancing.{ParseState, Keeps, KeepsProgress, occurrence, Advances}
 use Rattle.walrus_parser.specs.BodyParsers.{state_with, with_alternative}
 use Rattle.walrus_parser.proofs.ConstructKinds.{by_if}
@@ -141,7 +141,7 @@ module _ (old mid : OpenTrees) (ifs : List IfElseState) (s : Sequence Occurrence
       stays (InCatchAll a b gs h) e = refl
 
   abbrev Within : Layer Occurrence → List (Layer Occurrence) → OpenConstruct Occurrence → Type 0
-  Within l ls p = IsWithin (env_of old) old.builder.sequences (length old.builder.sequences) f mid.frames ifs p s (Holds (env_of old) old.builder.sequences ls l.before)
+  Within l ls p = IsWithinFrames (env_of old) old.builder.sequences (length old.builder.sequences) f mid.frames ifs p s (Holds (env_of old) old.builder.sequences ls l.before)
 
   module _ (takes gives : List (ValType ℕ)) (takes_is : takes ≡ c.start_types.items) (gives_is : gives ≡ c.end_types.items) where
     abbrev HasPick : Type 0

@@ -14,7 +14,7 @@ use Rattle.wasm_body.specs.declared.error.ParseFailure.{ParseFailure}
 use Rattle.wasm_numbers.specs.Results.{◌>>=◌}
 use Rattle.wasm_body.specs.Control.{Marked}
 use Rattle.wasm_body.specs.SourceTree.{Sequence, Body, body_text}
-use Rattle.wasm_body.specs.Frames.{Frame}
+use Rattle.wasm_body.specs.Frames.{SequenceFrame}
 use Rattle.wasm_body.specs.Naming.{Environment, NamedOperation, Occurrence, named_in}
 use Rattle.wasm_body.specs.Parsing.Accepted.{mark, has_location, location_at, Setting, Admitted, admitted, Handled, handled}
 use Rattle.wasm_body.specs.Parsing.Lists.{failure, continue_from, parsed_from}
@@ -78,10 +78,10 @@ module _ {S F : Type 0} (g : Shared F (Bor ℕ × Unit {0}) ℕ) (o : Option (Bo
 
   -- ---- one operator
 
-  abbrev named_admitted : Option (ℕ → ℕ) → List (Frame Occurrence) → ℕ → Admitted S → Result (Handled S) ParseError
+  abbrev named_admitted : Option (ℕ → ℕ) → List (SequenceFrame Occurrence) → ℕ → Admitted S → Result (Handled S) ParseError
   named_admitted locations fs place t = named_in env fs t.spelt >>= λ named. Ok (record { operator = occurrence t.spelt place (location_at locations place) named; rest = t.rest; state = t.state })
 
-  handled_next : (locations : Option (ℕ → ℕ)) (s : S) (fs : List (Frame Occurrence)) (place : ℕ) (rest : List ℕ) → BothOrNone o locations →
+  handled_next : (locations : Option (ℕ → ℕ)) (s : S) (fs : List (SequenceFrame Occurrence)) (place : ℕ) (rest : List ℕ) → BothOrNone o locations →
       handled (given locations) s fs place rest ≡ (admitted (has_location o) check s place rest >>= named_admitted locations fs place)
   handled_next locations s fs place rest both = ap (λ fits. admitted fits check s place rest >>= named_admitted locations fs place) (same_places o locations both)
 

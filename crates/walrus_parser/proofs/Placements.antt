@@ -10,7 +10,7 @@ use Rattle.walrus_ir.specs.Types.{Signature}
 use Rattle.wasm_body.specs.declared.error.ParseError.{ParseError}
 use Rattle.wasm_body.specs.declared.error.ParseError.TheVariants.{NoSuchLabel}
 use Rattle.wasm_numbers.specs.Results.{◌>>=◌, infallible, some_or, unless}
-use Rattle.wasm_body.specs.Frames.{Frame, outside}
+use Rattle.wasm_body.specs.Frames.{SequenceFrame, outside}
 use Rattle.wasm_body.specs.Translation.{translate, translate_immediates}
 use Rattle.wasm_body.specs.Naming.{Environment, NamedOperation, naming, id_at, name_block, open_label, block_types}
 use Rattle.wasm_body.specs.FunctionTree.{Target, Depth}
@@ -26,7 +26,7 @@ use Rattle.walrus_context.specs.Keeping.{slots}
 use Rattle.walrus_context.specs.Placing.{depth_around, placing}
 use Rattle.walrus_parser.proofs.Labels.{AreSeenAs, target_of_label}
 
-module _ {A : Type 0} (env : Environment) (fs : List (Frame A)) (open_frames : List OpenFrame) (seen : AreSeenAs fs open_frames) where
+module _ {A : Type 0} (env : Environment) (fs : List (SequenceFrame A)) (open_frames : List OpenFrame) (seen : AreSeenAs fs open_frames) where
   abbrev ps : List ℕ
   ps = slots open_frames
 
@@ -43,7 +43,7 @@ module _ {A : Type 0} (env : Environment) (fs : List (Frame A)) (open_frames : L
   depth_same : (n : ℕ) → depth_around open_frames n ≡ open_label (outside fs) n
   depth_same n = ap (λ many. unless (nat_lt n many) NoSuchLabel >>= λ u. let r : Result ℕ ParseError = Ok n in r) (outer_many open_frames fs seen.as_many)
     where
-      outer_many : (os : List OpenFrame) (gs : List (Frame A)) → length os ≡ length gs → length (drop 1 os) ≡ length (outside gs)
+      outer_many : (os : List OpenFrame) (gs : List (SequenceFrame A)) → length os ≡ length gs → length (drop 1 os) ≡ length (outside gs)
       outer_many [] [] e = refl
       outer_many [] (g ∷ gs) e = absurd (omega arith)
       outer_many (o ∷ os) [] e = absurd (omega arith)

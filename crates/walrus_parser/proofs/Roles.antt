@@ -32,9 +32,9 @@ use Rattle.wasm_operators.specs.AtomicOpcodes.{atomic_opcode}
 use Rattle.wasm_operators.specs.ReferenceOperations.{by_null, reference_opcode}
 use Rattle.wasm_operators.specs.VectorAccessOpcodes.{vector_access_opcode}
 use Rattle.wasm_body.specs.Control.{Role, an_unreachable, a_branch, a_conditional_branch, a_table_branch, a_return, a_tail_call, a_throw, a_rethrow, a_throw_ref, a_plain, role_of, Action, Plain, Return, Unreachable, Branch, ConditionalBranch, Throw, Rethrow, ThrowRef, TailCall, Control, Does, control_by, first_index, first_depth, first_label, branches}
-use Rattle.wasm_body.specs.NormalForm.{Fate, Stays, Diverges, fate}
+use Rattle.wasm_body.specs.NormalForm.{Fate, Stays, MakesUnreachable, fate}
 use Rattle.walrus_instructions.specs.OperatorKinds.{is_instruction}
-use Rattle.walrus_parser.specs.OperatorKinds.{is_diverging}
+use Rattle.walrus_parser.specs.OperatorKinds.{makes_unreachable}
 
 -- ---- plain operators, from the tables of their opcodes
 
@@ -105,20 +105,20 @@ plain_atomic _ = refl
 
 -- the effect of an operator of this role, if it makes an instruction by itself
 abbrev pub fate_of_role : Role → Option Fate
-fate_of_role an_unreachable = Some Diverges
-fate_of_role a_branch = Some Diverges
+fate_of_role an_unreachable = Some MakesUnreachable
+fate_of_role a_branch = Some MakesUnreachable
 fate_of_role a_conditional_branch = Some Stays
-fate_of_role a_table_branch = Some Diverges
-fate_of_role a_return = Some Diverges
+fate_of_role a_table_branch = Some MakesUnreachable
+fate_of_role a_return = Some MakesUnreachable
 fate_of_role a_tail_call = Some Stays
-fate_of_role a_throw = Some Diverges
-fate_of_role a_rethrow = Some Diverges
-fate_of_role a_throw_ref = Some Diverges
+fate_of_role a_throw = Some MakesUnreachable
+fate_of_role a_rethrow = Some MakesUnreachable
+fate_of_role a_throw_ref = Some MakesUnreachable
 fate_of_role a_plain = Some Stays
 fate_of_role _ = None
 
 abbrev pub fate_by : Bool → Fate
-fate_by true = Diverges
+fate_by true = MakesUnreachable
 fate_by false = Stays
 
 abbrev StaysAt : Opcode → Type 0
@@ -134,7 +134,7 @@ stays_reference : (op : ReferenceOp) → StaysAt (reference_opcode op)
 stays_reference reference.RefEq = refl
 stays_reference _ = search stays_by_null
 
-pub fate_of_operator : (op : Listed) → is_instruction op ≡ true → fate_of_role (role_of (meaning op).opcode) ≡ Some (fate_by (is_diverging op))
+pub fate_of_operator : (op : Listed) → is_instruction op ≡ true → fate_of_role (role_of (meaning op).opcode) ≡ Some (fate_by (makes_unreachable op))
 fate_of_operator operator.Nop i = absurd cc
 fate_of_operator (operator.Block type) i = absurd cc
 fate_of_operator (operator.Loop type) i = absurd cc
@@ -163,15 +163,15 @@ pub record DoesAs (c : Control) (t : Fate) : Type 0 where
   pub has_fate : fate action ≡ t
 
 -- a branch with a table
-branches_diverge : {B : Type 0} → (is : List (Immediate ℕ B)) → fate (branches is) ≡ Diverges
-branches_diverge (branch_table targets default ∷ is) = refl
-branches_diverge _ = refl
+branches_make_unreachable : {B : Type 0} → (is : List (Immediate ℕ B)) → fate (branches is) ≡ MakesUnreachable
+branches_make_unreachable (branch_table targets default ∷ is) = refl
+branches_make_unreachable _ = refl
 
 pub does_as : {B : Type 0} → (r : Role) (t : Fate) (is : List (Immediate ℕ B)) → fate_of_role r ≡ Some t → DoesAs (control_by r is) t
 does_as an_unreachable t is e = record { action = Unreachable; does = refl; has_fate = cc e }
 does_as a_branch t is e = record { action = Branch (first_label is); does = refl; has_fate = cc e }
 does_as a_conditional_branch t is e = record { action = ConditionalBranch (first_label is); does = refl; has_fate = cc e }
-does_as a_table_branch t is e = record { action = branches is; does = refl; has_fate = branches_diverge is ∙ (let same : Diverges ≡ t = cc e in same) }
+does_as a_table_branch t is e = record { action = branches is; does = refl; has_fate = branches_make_unreachable is ∙ (let same : MakesUnreachable ≡ t = cc e in same) }
 does_as a_return t is e = record { action = Return; does = refl; has_fate = cc e }
 does_as a_tail_call t is e = record { action = TailCall; does = refl; has_fate = cc e }
 does_as a_throw t is e = record { action = Throw (first_index is); does = refl; has_fate = cc e }

@@ -11,11 +11,11 @@ use Rattle.wasm_body.specs.declared.error.ParseError.{ParseError}
 use Rattle.wasm_body.specs.declared.error.ParseError.TheVariants.{ElseOutsideIf, CatchOutsideTry, DelegateOutsideTry}
 use Rattle.wasm_numbers.specs.Results.{◌>>=◌, unless, each}
 use Rattle.wasm_body.specs.Control.{Construct, Does, Opens, Action, control_of, end_operation, else_operation, catch_opcode, catch_all_operation, delegate_operation}
-use Rattle.wasm_body.specs.Frames.{Frame, else_moves, catch_moves, catch_all_moves, delegate_moves}
+use Rattle.wasm_body.specs.Frames.{SequenceFrame, else_moves, catch_moves, catch_all_moves, delegate_moves}
 use Rattle.wasm_body.specs.Translation.{translate, translate_clause}
 use Rattle.wasm_body.specs.Naming.{Environment, NamedOperation, Occurrence, id_at, name_block, naming, has_pick, tag_type, construct_results, open_label, named_in}
 
-module _ (env : Environment) (f : Frame Occurrence) (fs : List (Frame Occurrence)) where
+module _ (env : Environment) (f : SequenceFrame Occurrence) (fs : List (SequenceFrame Occurrence)) where
   -- ---- openers
 
   -- the name of an opener, from the signature of its block type

@@ -9,7 +9,7 @@ use Rattle.wasm_operators.specs.Operations.{operation, Operation, RawOperation}
 use Rattle.wasm_body.specs.declared.error.ParseError.{ParseError}
 use Rattle.wasm_body.specs.declared.error.ParseError.TheVariants.{Memory, NoFrame}
 use Rattle.wasm_body.specs.Control.{Action, Nop, role_of, control_of}
-use Rattle.wasm_body.specs.Frames.{Frame, OfFunction}
+use Rattle.wasm_body.specs.Frames.{SequenceFrame, OfFunction}
 use Rattle.wasm_body.specs.SourceTree.{Sequence}
 use Rattle.wasm_body.specs.Translation.{translate, translate_immediates}
 use Rattle.wasm_body.specs.Naming.{Environment, NamedOperation, Occurrence, naming, named_in}
@@ -23,7 +23,7 @@ use Rattle.walrus_context.specs.OpenTrees.{OpenTrees, env_of}
 use Rattle.walrus_parser.specs.Advancing.{Keeps, Advances, IsFate, IsStep}
 use Rattle.walrus_parser.specs.BodyParsers.{state_with, state_of, with_appended, IsSameBody}
 use Rattle.walrus_context.specs.Placing.{placing}
-use Rattle.walrus_parser.proofs.Frames.{taken, taken_alive, taken_dead}
+use Rattle.walrus_parser.proofs.Frames.{taken, taken_alive, taken_unreachable}
 use Rattle.walrus_parser.proofs.Labels.{holds_length, AreSeenAs, holds_seen}
 use Rattle.walrus_parser.proofs.NextSequences.{some_open}
 use Rattle.walrus_parser.proofs.Placements.{placed_named, placed_refused}
@@ -34,60 +34,60 @@ use Rattle.walrus_parser.proofs.Steps.{steps_alone, steps_dropped}
 abbrev nop_operation : {L B : Type 0} → Operation L B
 nop_operation = operation (Byte 0x01) []
 
-is_diverging : (action : Action) (diverging : Bool) (t : _) → t ≡ fate_by diverging → IsFate t diverging
-is_diverging action true t e = subst (λ u. IsFate u true) (sym e) refl
-is_diverging action false t e = subst (λ u. IsFate u false) (sym e) refl
+makes_unreachable : (action : Action) (unreachable_after : Bool) (t : _) → t ≡ fate_by unreachable_after → IsFate t unreachable_after
+makes_unreachable action true t e = subst (λ u. IsFate u true) (sym e) refl
+makes_unreachable action false t e = subst (λ u. IsFate u false) (sym e) refl
 
-taken_as : (x : _) (diverging : Bool) (f : OpenFrame) → with_appended x diverging f ≡ taken x diverging f
-taken_as x true f = sym (taken_dead x f)
+taken_as : (x : _) (unreachable_after : Bool) (f : OpenFrame) → with_appended x unreachable_after f ≡ taken x unreachable_after f
+taken_as x true f = sym (taken_unreachable x f)
 taken_as x false f = sym (taken_alive x f)
 
-module _ (env : Environment) (o : RawOperation) (diverging : Bool) (role : fate_of_role (role_of o.opcode) ≡ Some (fate_by diverging)) where
+module _ (env : Environment) (o : RawOperation) (unreachable_after : Bool) (role : fate_of_role (role_of o.opcode) ≡ Some (fate_by unreachable_after)) where
   -- the name does the same to the control as the operator
-  named_does : (fs : List (Frame Occurrence)) (named : NamedOperation) → translate (naming env fs) o ≡ Ok named → DoesAs (control_of named) (fate_by diverging)
+  named_does : (fs : List (SequenceFrame Occurrence)) (named : NamedOperation) → translate (naming env fs) o ≡ Ok named → DoesAs (control_of named) (fate_by unreachable_after)
   named_does fs named e =
       let made = bound (translate_immediates (naming env fs) o.immediates) (λ is. Ok (record { opcode = o.opcode; immediates = is })) named e in
       let is : named ≡ record { opcode = o.opcode; immediates = made.0 } = cc made.2 in
-      let does = does_as (role_of o.opcode) (fate_by diverging) made.0 role in
+      let does = does_as (role_of o.opcode) (fate_by unreachable_after) made.0 role in
       record { action = does.action; does = ap control_of is ∙ does.does; has_fate = does.has_fate }
 
   named_as_translated : (ls : List (Layer Occurrence)) → named_in env (frames_of ls) o ≡ translate (naming env (frames_of ls)) o
   named_as_translated ls = by_frames ls
     where
-      raw : DoesAs (control_of o) (fate_by diverging)
-      raw = does_as (role_of o.opcode) (fate_by diverging) o.immediates role
+      raw : DoesAs (control_of o) (fate_by unreachable_after)
+      raw = does_as (role_of o.opcode) (fate_by unreachable_after) o.immediates role
 
       by_frames : (ks : List (Layer Occurrence)) → named_in env (frames_of ks) o ≡ translate (naming env (frames_of ks)) o
       by_frames [] = named_alone env OfFunction [] o raw.action raw.does (λ named e. let d = named_does (OfFunction ∷ []) named e in (d.action, d.does))
       by_frames (k ∷ ks) =
           named_alone env (frame_of k.construct) (frames_of ks) o raw.action raw.does (λ named e. let d = named_does (frame_of k.construct ∷ frames_of ks) named e in (d.action, d.does))
 
-module _ (c d : OpenTrees) (ifs : List IfElseState) (ls : List (Layer Occurrence)) (s : Sequence Occurrence) (o : RawOperation) (place location : ℕ) (diverging : Bool)
-    (role : fate_of_role (role_of o.opcode) ≡ Some (fate_by diverging)) (keeps : Keeps (env_of c) (state_with c ifs) ls s) where
+module _ (c d : OpenTrees) (ifs : List IfElseState) (ls : List (Layer Occurrence)) (s : Sequence Occurrence) (o : RawOperation) (place location : ℕ) (unreachable_after : Bool)
+    (role : fate_of_role (role_of o.opcode) ≡ Some (fate_by unreachable_after)) (keeps : Keeps (env_of c) (state_with c ifs) ls s) where
   seen : AreSeenAs (frames_of ls) c.frames
   seen = holds_seen (env_of c) c.builder.sequences ls s (length c.builder.sequences) c.frames ifs keeps
 
   -- an id or a label isn't found
   pub refused_alone : (e : ParseError) → translate (placing (env_of c) c.frames) o ≡ Err e → named_in (env_of c) (frames_of ls) o ≡ Err e
-  refused_alone e is = named_as_translated (env_of c) o diverging role ls ∙ placed_refused (env_of c) (frames_of ls) c.frames seen o e is
+  refused_alone e is = named_as_translated (env_of c) o unreachable_after role ls ∙ placed_refused (env_of c) (frames_of ls) c.frames seen o e is
 
   module _ (i : Instr) (placed : translate (placing (env_of c) c.frames) o ≡ Ok (operation_of i)) (alone : slots_in i ≡ []) (no_clauses : clauses_of_try i ≡ []) where
-    kept_alone : (f : OpenFrame) (fs : List OpenFrame) → c.frames ≡ f ∷ fs → d ≡ record c { frames = changed_at 0 (with_appended (i, location) diverging) c.frames } → Advances (env_of c) (state_with d ifs) ls s o place location
+    kept_alone : (f : OpenFrame) (fs : List OpenFrame) → c.frames ≡ f ∷ fs → d ≡ record c { frames = changed_at 0 (with_appended (i, location) unreachable_after) c.frames } → Advances (env_of c) (state_with d ifs) ls s o place location
     kept_alone f fs frames is =
         let n = placed_named (env_of c) (frames_of ls) c.frames seen o (operation_of i) placed in
-        let does = named_does (env_of c) o diverging role (frames_of ls) n.named n.is_named in
-        steps_alone (env_of c) (state_with c ifs) ls s o place location keeps (state_with d ifs) f fs n.named does.action i diverging frames
-        (named_as_translated (env_of c) o diverging role ls ∙ n.is_named) does.does (is_diverging does.action diverging _ does.has_fate) alone no_clauses n.kept
+        let does = named_does (env_of c) o unreachable_after role (frames_of ls) n.named n.is_named in
+        steps_alone (env_of c) (state_with c ifs) ls s o place location keeps (state_with d ifs) f fs n.named does.action i unreachable_after frames
+        (named_as_translated (env_of c) o unreachable_after role ls ∙ n.is_named) does.does (makes_unreachable does.action unreachable_after _ does.has_fate) alone no_clauses n.kept
         (ap (λ z. state_with z ifs) is
-        ∙ ap (λ gs. state_with (record c { frames = changed_at 0 (with_appended (i, location) diverging) gs }) ifs) frames
-        ∙ ap (λ g. state_with (record c { frames = g ∷ fs }) ifs) (taken_as (i, location) diverging f))
+        ∙ ap (λ gs. state_with (record c { frames = changed_at 0 (with_appended (i, location) unreachable_after) gs }) ifs) frames
+        ∙ ap (λ g. state_with (record c { frames = g ∷ fs }) ifs) (taken_as (i, location) unreachable_after f))
 
     -- the instruction is appended, or memory runs out
-    pub appended_alone : (r : Result (Unit {0}) ParseError) → OnOk r ((0 < length c.frames) × (d ≡ record c { frames = changed_at 0 (with_appended (i, location) diverging) c.frames })) →
+    pub appended_alone : (r : Result (Unit {0}) ParseError) → OnOk r ((0 < length c.frames) × (d ≡ record c { frames = changed_at 0 (with_appended (i, location) unreachable_after) c.frames })) →
         IfErr r (λ e. (e ≡ Memory) ⊎ ((e ≡ NoFrame) × (length c.frames ≤ 0))) → IsStep (env_of c) (state_with d ifs) ls s o place location r
     appended_alone (Ok u) ok err = by_frames c.frames refl ok
       where
-        by_frames : (fs : List OpenFrame) → c.frames ≡ fs → (0 < length c.frames) × (d ≡ record c { frames = changed_at 0 (with_appended (i, location) diverging) c.frames }) → Advances (env_of c) (state_with d ifs) ls s o place location
+        by_frames : (fs : List OpenFrame) → c.frames ≡ fs → (0 < length c.frames) × (d ≡ record c { frames = changed_at 0 (with_appended (i, location) unreachable_after) c.frames }) → Advances (env_of c) (state_with d ifs) ls s o place location
         by_frames [] e h = absurd (some_open (env_of c) (state_with c ifs) ls s keeps e)
         by_frames (f ∷ fs) e h = kept_alone f fs e h.1
     appended_alone (Err e) ok (inl is) = inl is
@@ -111,10 +111,10 @@ passes_nop c ifs ls s place location keeps = by_frames c.frames refl
     by_frames (f ∷ fs) e = steps_dropped (env_of c) (state_with c ifs) ls s nop_operation place location keeps f fs nop_operation Nop e (is_named ls) refl refl
 
 -- the parse is still that of the same body
-pub same_body : (c d : OpenTrees) (x : LocatedInstr) (diverging : Bool) (r : Result (Unit {0}) ParseError) →
-    OnOk r ((0 < length c.frames) × (d ≡ record c { frames = changed_at 0 (with_appended x diverging) c.frames })) → OnOk r (IsSameBody c d)
-same_body c d x diverging (Ok u) h = record { env = ap env_of h.1; entry = ap (λ (t : OpenTrees). t.builder.entry) h.1 }
-same_body c d x diverging (Err e) h = tt
+pub same_body : (c d : OpenTrees) (x : LocatedInstr) (unreachable_after : Bool) (r : Result (Unit {0}) ParseError) →
+    OnOk r ((0 < length c.frames) × (d ≡ record c { frames = changed_at 0 (with_appended x unreachable_after) c.frames })) → OnOk r (IsSameBody c d)
+same_body c d x unreachable_after (Ok u) h = record { env = ap env_of h.1; entry = ap (λ (t : OpenTrees). t.builder.entry) h.1 }
+same_body c d x unreachable_after (Err e) h = tt
 
 -- ---- how many frames are open
 

@@ -10,7 +10,7 @@ use Rattle.walrus_ir.specs.declared.control.LegacyCatch.{LegacyCatch}
 use Rattle.walrus_ir.specs.declared.control.LegacyCatch.TheVariants.{Catch, CatchAll, Delegate}
 use Rattle.wasm_types.specs.declared.val_type.ValType.{ValType}
 use Rattle.walrus_ir.specs.Tree.{no_items, item, no_sequences, sequence}
-use Rattle.walrus_ir.specs.Unfolding.{SequenceAt, LocatedInstr, handler_of, slots_in, AreItems, AreSequences, are_no_items, are_items, are_no_sequences, are_sequences}
+use Rattle.walrus_ir.specs.Unfolding.{SequenceAt, LocatedInstr, handler_of, slots_in, AreTreeItems, AreSequences, are_no_items, are_items, are_no_sequences, are_sequences}
 use Rattle.wasm_operators.specs.Operations.{RawOperation}
 use Rattle.wasm_body.specs.Control.{Action, Construct, Does, Opens, If, control_of}
 use Rattle.wasm_body.specs.SourceTree.{Sequence, Empty, Single, TryDelegate, Wrapper, OfBlock, OfLoop, OfTryTable, construct_of, map_sequence}
@@ -18,9 +18,9 @@ use Rattle.wasm_body.specs.Naming.{Environment, NamedOperation, Occurrence, bloc
 use Rattle.walrus_ir.specs.Types.{signature, pick}
 use Rattle.walrus_ir.specs.declared.val_type.InstrSeqType.TheVariants.{Simple}
 use Rattle.walrus_ir.specs.Locations.{default_location}
-use Rattle.wasm_body.specs.NormalForm.{Fate, Drops, Stays, Diverges, fate, with_fate, construct_type, handler_type, normal, typing_of, kept_operation, instruction, name_at, normal_form, named_body}
+use Rattle.wasm_body.specs.NormalForm.{Fate, Drops, Stays, MakesUnreachable, fate, with_fate, construct_type, handler_type, normal, typing_of, kept_operation, instruction, name_at, normal_form, named_body}
 use Rattle.wasm_body.specs.FunctionTree.{Instruction, handles, handles_all, delegates}
-use Rattle.wasm_body.specs.Keeping.{dead_after}
+use Rattle.wasm_body.specs.Keeping.{unreachable_after}
 use Rattle.wasm_body.specs.InstructionTable.{operation_of, legacy_clause, clauses_of_try}
 use Rattle.wasm_body.specs.TreeOfFunction.{with_targets, instruction_in, items_in, HasTree}
 use Rattle.wasm_body.specs.Intervals.{RiseIn}
@@ -28,9 +28,9 @@ use Rattle.wasm_body.specs.Parsing.Progress.{append, closed, closed_clause, with
 use Rattle.wasm_body.proofs.NormalForm.ArenaLemmas.{all_rise-range, items-same, all_reached-fresh}
 use Rattle.walrus_context.specs.declared.frame.IfElseState.{IfElseState}
 use Rattle.walrus_context.specs.OpenFrames.{OpenFrame, new_frame, changed_at, with_instr}
-use Rattle.walrus_context.specs.Keeping.{slots, TakesParameters, the_if, IsAny, IsTry, Encloses, IsAppended, OpensWith, IsWithin, Holds}
+use Rattle.walrus_context.specs.Keeping.{slots, TakesParameters, the_if, IsAny, IsTry, Encloses, IsAppended, OpensWith, IsWithinFrames, Holds}
 use Rattle.walrus_context.specs.OpenConstructs.{map_closed, kind_in, type_in, sequences_closed, added_in, opener_in, clauses_in, closed_in, map_open_construct}
-use Rattle.walrus_parser.specs.Advancing.{IsFate, DivergesAs, ParseState, Keeps, KeepsProgress, occurrence, Advances}
+use Rattle.walrus_parser.specs.Advancing.{IsFate, MakesUnreachableAs, ParseState, Keeps, KeepsProgress, occurrence, Advances}
 use Rattle.walrus_parser.proofs.Frames.{holds_same, slots_changed, AreNormal, taken, holds_takes, holds_passes}
 use Rattle.walrus_parser.proofs.ConstructKinds.{MayHaveClause, by_if, by_else, by_try, by_clause}
 use Rattle.walrus_parser.proofs.Closing.{clauses_more, closed_by_catch}
@@ -56,39 +56,39 @@ module _ (env : Environment) (old : ParseState) (ls : List (Layer Occurrence)) (
     keeps = keeps_as old named (Does action) control
         (subst (λ gs. Holds env old.arena ls (append s (Single (at named) action Empty)) (length old.arena) gs old.ifs) (sym frames)
         (holds_passes env old.arena ls s (Single (at named) action Empty) (length old.arena) f fs old.ifs
-        (ap (λ t. dead_after t false) drops) (ap (λ t. with_fate t (instruction (name_at (at named)) []) no_items) drops)
+        (ap (λ t. unreachable_after t false) drops) (ap (λ t. with_fate t (instruction (name_at (at named)) []) no_items) drops)
         (subst (λ gs. Holds env old.arena ls s (length old.arena) gs old.ifs) frames keeps)));
   }
 
   -- one more instruction
-  pub steps_alone : (new : ParseState) (f : OpenFrame) (fs : List OpenFrame) (named : NamedOperation) (action : Action) (i : Instr) (diverging : Bool) → old.frames ≡ f ∷ fs → named_in env (frames_of ls) o ≡ Ok named → control_of named ≡ Does action → DivergesAs action diverging →
+  pub steps_alone : (new : ParseState) (f : OpenFrame) (fs : List OpenFrame) (named : NamedOperation) (action : Action) (i : Instr) (unreachable_there : Bool) → old.frames ≡ f ∷ fs → named_in env (frames_of ls) o ≡ Ok named → control_of named ≡ Does action → MakesUnreachableAs action unreachable_there →
       slots_in i ≡ [] → clauses_of_try i ≡ [] → with_targets (slots old.frames) (operation_of i) ≡ kept_operation named →
-      new ≡ record old { frames = taken (i, location) diverging f ∷ fs } → Advances env new ls s o place location
-  steps_alone new f fs named action i diverging frames is control diverges alone no_clauses retargeted is_new = record {
+      new ≡ record old { frames = taken (i, location) unreachable_there f ∷ fs } → Advances env new ls s o place location
+  steps_alone new f fs named action i unreachable_there frames is control unreachable_after alone no_clauses retargeted is_new = record {
     named = named;
     is_named = is;
     keeps = subst (λ q. KeepsProgress env q (further_within (control_of named) (at named) ls s)) (sym is_new)
-        (keeps_as (record old { frames = taken (i, location) diverging f ∷ fs }) named (Does action) control
-        (holds_takes env old.arena ls s (Single (at named) action Empty) (length old.arena) (length old.arena) f fs old.ifs (i, location) diverging (omega arith) (dead_as (fate action) diverging diverges)
+        (keeps_as (record old { frames = taken (i, location) unreachable_there f ∷ fs }) named (Does action) control
+        (holds_takes env old.arena ls s (Single (at named) action Empty) (length old.arena) (length old.arena) f fs old.ifs (i, location) unreachable_there (omega arith) (unreachable_as (fate action) unreachable_there unreachable_after)
         (record {
           items = item (i, location) no_sequences no_items;
           are_items = are_items (subst (λ ps. AreSequences old.arena ps no_sequences) (sym alone) are_no_sequences) are_no_items;
           rise = (length old.arena, (let n : length old.arena ≤ length old.arena = omega arith in n), (let n : length old.arena ≤ length old.arena = omega arith in n));
           is_normal = (λ k. item (record { op = subst (λ gs. with_targets (slots gs) (operation_of i) ≡ kept_operation named) frames retargeted k; clauses = no_clauses k; location = location }) no_sequences no_items)
-              ∙ sym (kept_as (fate action) diverging (instruction (name_at (at named)) []) diverges);
+              ∙ sym (kept_as (fate action) unreachable_there (instruction (name_at (at named)) []) unreachable_after);
         })
         (subst (λ gs. Holds env old.arena ls s (length old.arena) gs old.ifs) frames keeps)));
   }
     where
-      dead_as : (t : Fate) (c : Bool) → IsFate t c → dead_after t false ≡ c
-      dead_as Drops c h = absurd h
-      dead_as Stays c h = sym h
-      dead_as Diverges c h = sym h
+      unreachable_as : (t : Fate) (c : Bool) → IsFate t c → unreachable_after t false ≡ c
+      unreachable_as Drops c h = absurd h
+      unreachable_as Stays c h = sym h
+      unreachable_as MakesUnreachable c h = sym h
 
       kept_as : (t : Fate) (c : Bool) (x : Instruction) → IsFate t c → with_fate t x no_items ≡ item x no_sequences no_items
       kept_as Drops c x h = absurd h
       kept_as Stays c x h = refl
-      kept_as Diverges c x h = refl
+      kept_as MakesUnreachable c x h = refl
 
   -- ---- a construct is opened
 
@@ -158,14 +158,14 @@ sealed env b c low f around before p closing o h =
     }
 
 module _ (env : Environment) (old : ParseState) (l : Layer Occurrence) (ls : List (Layer Occurrence)) (s : Sequence Occurrence) (f : OpenFrame) (fs : List OpenFrame) (frames : old.frames ≡ f ∷ fs) (keeps : Keeps env old (l ∷ ls) s) where
-  abbrev innermost : IsWithin env old.arena (length old.arena) f fs old.ifs l.construct s (Holds env old.arena ls l.before)
+  abbrev innermost : IsWithinFrames env old.arena (length old.arena) f fs old.ifs l.construct s (Holds env old.arena ls l.before)
   innermost = subst (λ gs. Holds env old.arena (l ∷ ls) s (length old.arena) gs old.ifs) frames keeps
 
   abbrev Outside : ℕ → List OpenFrame → List IfElseState → Type 0
   Outside = Holds env old.arena ls l.before
 
   abbrev Inside : OpenConstruct Occurrence → Type 0
-  Inside p = IsWithin env old.arena (length old.arena) f fs old.ifs p s Outside
+  Inside p = IsWithinFrames env old.arena (length old.arena) f fs old.ifs p s Outside
 
   -- a construct whose instruction is already there
   ended_as : (p : OpenConstruct Occurrence) (IsOpener : Instr → Type 0) (new : ParseState) (e : Occurrence) (h : Inside p) → added_in (typing_of env) (map_open_construct name_at p) ≡ no_sequences →
@@ -404,7 +404,7 @@ pub ends_body : (env : Environment) (b c : List InstrSeq) (f : OpenFrame) (fs : 
 ends_body env b c f fs ifs s e w h =
     let k = h.kept in
     let at_first : f.sequence ≡ 0 = h.first in
-    let inside : AreItems c w.seq.instrs k.items = subst (λ xs. AreItems c xs k.items) (sym w.instrs)
+    let inside : AreTreeItems c w.seq.instrs k.items = subst (λ xs. AreTreeItems c xs k.items) (sym w.instrs)
     (items-same c (suc f.sequence) (length b) (λ q l m. w.written.elsewhere q (λ e. let d : q ≡ f.sequence = e in omega arith)) k.rise k.are_items) in
     let wide : RiseIn (suc f.sequence) k.items (length c) = subst (RiseIn (suc f.sequence) k.items) (sym w.written.as_many) k.rise in
     let in_arena : slice_get c 0 ≡ Some w.seq = subst (λ p. slice_get c p ≡ Some w.seq) at_first w.written.here in

@@ -12,7 +12,7 @@ use Rattle.wasm_operators.specs.Operations.{CatchClause, block, clauses, operati
 use Rattle.wasm_body.specs.declared.error.ParseError.{ParseError}
 use Rattle.wasm_body.specs.declared.error.ParseError.TheVariants.{TypeMissing}
 use Rattle.wasm_body.specs.Control.{TryTable, Opens as OpensConstruct, catching, control_of}
-use Rattle.wasm_body.specs.Frames.{Frame}
+use Rattle.wasm_body.specs.Frames.{SequenceFrame}
 use Rattle.wasm_body.specs.SourceTree.{Sequence}
 use Rattle.wasm_body.specs.Translation.{translate, translate_clause}
 use Rattle.wasm_body.specs.Naming.{Environment, NamedOperation, Occurrence, name_block, naming, block_signature, has_pick, has_types, named_in}
@@ -41,7 +41,7 @@ module _ (b : BlockType) (cs : List (CatchClause ℕ)) where
     named_table (l ∷ ls) = refl
 
     -- its name, from the signature of its block type
-    table_named : (fs : List (Frame Occurrence)) (s : Signature) (named : NamedOperation) → name_block env b ≡ Ok s → translate (naming env fs) table_operation ≡ Ok named →
+    table_named : (fs : List (SequenceFrame Occurrence)) (s : Signature) (named : NamedOperation) → name_block env b ≡ Ok s → translate (naming env fs) table_operation ≡ Ok named →
         (ds : List (CatchClause ℕ)) × (named ≡ operation (Byte 0x1f) (block s ∷ clauses ds ∷ []))
     table_named fs s named is e = by_clauses (each (translate_clause (naming env fs)) cs) refl
       where

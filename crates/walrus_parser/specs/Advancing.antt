@@ -7,7 +7,7 @@ use Rattle.wasm_body.specs.declared.error.ParseError.TheVariants.{Memory}
 use Rattle.wasm_body.specs.Control.{Action}
 use Rattle.wasm_body.specs.SourceTree.{Sequence}
 use Rattle.wasm_body.specs.Naming.{Environment, NamedOperation, Occurrence, named_in}
-use Rattle.wasm_body.specs.NormalForm.{Fate, Drops, Stays, Diverges, fate}
+use Rattle.wasm_body.specs.NormalForm.{Fate, Drops, Stays, MakesUnreachable, fate}
 use Rattle.wasm_body.specs.Parsing.Accepted.{mark}
 use Rattle.wasm_body.specs.Parsing.Progress.{Layer, Progress, Within, frames_of, further}
 use Rattle.walrus_context.specs.declared.frame.IfElseState.{IfElseState}
@@ -43,11 +43,11 @@ abbrev pub IsStep : Environment → ParseState → List (Layer Occurrence) → S
 IsStep env new ls s o place location (Ok u) = Advances env new ls s o place location
 IsStep env new ls s o place location (Err e) = (e ≡ Memory) ⊎ (named_in env (frames_of ls) o ≡ Err e)
 
--- an operator that makes an instruction by itself isn't dropped, and `diverging` says whether what follows it is
+-- an operator that makes an instruction by itself isn't dropped, and `unreachable_after` says whether what follows it is
 abbrev pub IsFate : Fate → Bool → Type 0
-IsFate Drops diverging = ⊥
-IsFate Stays diverging = diverging ≡ false
-IsFate Diverges diverging = diverging ≡ true
+IsFate Drops unreachable_after = ⊥
+IsFate Stays unreachable_after = unreachable_after ≡ false
+IsFate MakesUnreachable unreachable_after = unreachable_after ≡ true
 
-abbrev pub DivergesAs : Action → Bool → Type 0
-DivergesAs action diverging = IsFate (fate action) diverging
+abbrev pub MakesUnreachableAs : Action → Bool → Type 0
+MakesUnreachableAs action unreachable_after = IsFate (fate action) unreachable_after

@@ -14,7 +14,7 @@ use Rattle.wasm_body.specs.TreeOfFunction.{HasTree}
 use Rattle.wasm_body.specs.Parsing.Progress.{Layer}
 use Rattle.walrus_parser.specs.declared.body_parser.BodyParser.{BodyParser}
 use Rattle.walrus_context.specs.declared.frame.IfElseState.{IfElseState}
-use Rattle.walrus_context.specs.OpenFrames.{OpenFrame, changed_at, marked_dead, with_instr}
+use Rattle.walrus_context.specs.OpenFrames.{OpenFrame, changed_at, marked_unreachable, with_instr}
 use Rattle.walrus_context.specs.OpenTrees.{OpenTrees, env_of}
 use Rattle.walrus_context.specs.Placing.{placing}
 use Rattle.walrus_parser.specs.Advancing.{ParseState, Keeps, IsStep}
@@ -26,7 +26,7 @@ abbrev pub state_of : BodyParser → ParseState
 state_of p = state_with p.context (reverse p.if_else.items)
 
 -- Nothing is read yet.
-pub record Begins (p : BodyParser) : Type 0 where
+pub record BeginsParse (p : BodyParser) : Type 0 where
   pub keeps : Keeps (env_of p.context) (state_of p) [] Empty
   pub entry : p.context.builder.entry ≡ Some 0
 
@@ -77,23 +77,23 @@ pub record IsSameBody (old new : OpenTrees) : Type 0 where
   pub entry : new.builder.entry ≡ old.builder.entry
 
 -- one more instruction; what follows it is dropped if it cuts
-abbrev pub with_appended : LocatedInstr → (diverges : Bool) → OpenFrame → OpenFrame
-with_appended x diverges f = cond diverges (marked_dead (with_instr x f)) (with_instr x f)
+abbrev pub with_appended : LocatedInstr → (unreachable_after : Bool) → OpenFrame → OpenFrame
+with_appended x unreachable_after f = cond unreachable_after (marked_unreachable (with_instr x f)) (with_instr x f)
 
 -- The builder has the normal form of the body that consists of the operators and the function's own `end`.
-pub record Finishes (old : BodyParser) (location : ℕ) (new : Function) : Type 0 where
+pub record FinishesParse (old : BodyParser) (location : ℕ) (new : Function) : Type 0 where
   pub type : new.type ≡ old.context.builder.type
   pub entry : new.entry ≡ old.context.builder.entry
   pub holds : (s : Sequence Occurrence) (e : Occurrence) → e.location ≡ location → Keeps (env_of old.context) (state_of old) [] s →
       HasTree new.sequences 0 (normal_form (typing_of (env_of old.context)) (named_body (record { sequence = s; close = e })))
 
 -- The state is that after one more operator; or memory ran out, or this is the operator's first fault.
-abbrev pub Steps : BodyParser → BodyParser → RawOperation → (location : ℕ) → Result (Unit {0}) ParseError → Type 0
-Steps old new o location r =
+abbrev pub ParsesStep : BodyParser → BodyParser → RawOperation → (location : ℕ) → Result (Unit {0}) ParseError → Type 0
+ParsesStep old new o location r =
     (ls : List (Layer Occurrence)) (s : Sequence Occurrence) (place : ℕ) →
     Keeps (env_of old.context) (state_of old) ls s → IsStep (env_of old.context) (state_of new) ls s o place location r
 
 -- The operator was taken at once; or it wasn't, and nothing changed.
 abbrev pub TakesAtOnce : BodyParser → BodyParser → RawOperation → (location : ℕ) → (taken : Bool) → Type 0
-TakesAtOnce old new o location true = Steps old new o location (Ok tt) × IsSameBody old.context new.context
+TakesAtOnce old new o location true = ParsesStep old new o location (Ok tt) × IsSameBody old.context new.context
 TakesAtOnce old new o location false = new ≡ old

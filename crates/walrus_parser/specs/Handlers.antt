@@ -28,9 +28,9 @@ abbrev pub handler_kind : Option ℕ → BlockKind
 handler_kind (Some tag) = kind.Catch
 handler_kind None = kind.CatchAll
 
-abbrev pub clause_of : Option ℕ → (place : ℕ) → LegacyCatch
-clause_of (Some tag) place = Catch tag place
-clause_of None place = CatchAll place
+abbrev pub handler_clause : Option ℕ → (place : ℕ) → LegacyCatch
+handler_clause (Some tag) place = Catch tag place
+handler_clause None place = CatchAll place
 
 -- whether a clause is allowed after a sequence of this kind
 abbrev pub has_clauses : BlockKind → Bool

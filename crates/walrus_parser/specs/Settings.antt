@@ -31,14 +31,14 @@ abbrev pub operators_of : Body Occurrence → List Occurrence
 operators_of b = map (λ m. m.shown) (body_text b)
 
 -- the location of a place, or 0 if the mapping has none
-abbrev pub found : List (ℕ × ℕ) → ℕ → ℕ
-found [] k = 0
-found (p ∷ ps) k = if p.0 == k then p.1 else found ps k
+abbrev pub location_found : List (ℕ × ℕ) → ℕ → ℕ
+location_found [] k = 0
+location_found (p ∷ ps) k = if p.0 == k then p.1 else location_found ps k
 
 -- the location function of a mapping: it returns the mapping's location for each place
 abbrev pub locations_in : {F : Type 0} → Option F → (offset : ℕ) → List (ℕ × ℕ) → Option (ℕ → ℕ)
 locations_in None offset mapping = None
-locations_in (Some f) offset mapping = Some (λ place. found mapping (place - offset))
+locations_in (Some f) offset mapping = Some (λ place. location_found mapping (place - offset))
 
 -- the places rise, from `from` on and below `below`
 abbrev pub RiseFrom : List Occurrence → (from below : ℕ) → Type 0

@@ -5,12 +5,12 @@
 ghost use Rattle.std.specs.Prelude.{◌≡◌, ◌<◌, [], Ok, true};
 ghost use Rattle.wasm_operators.specs.declared.operator.Op.TheVariants as op;
 ghost use Rattle.wasm_operators.specs.Meaning.{meaning};
-ghost use Rattle.wasm_ops.specs.CommonOperators.{listed};
+ghost use Rattle.wasm_ops.specs.CommonOperators.{common_listed};
 ghost use Rattle.wasm_encode.specs.Writable.{IsWritable};
 ghost use Rattle.walrus_ir.specs.Unfolding.{slots_in};
 ghost use Rattle.wasm_body.specs.InstructionTable.{operation_of, clauses_of_try};
 ghost use Rattle.walrus_instructions.specs.OperatorKinds.{is_instruction};
-ghost use Rattle.walrus_parser.specs.OperatorKinds.{is_diverging};
+ghost use Rattle.walrus_parser.specs.OperatorKinds.{makes_unreachable};
 ghost use Rattle.walrus_parser.specs.BodyParsers.{TakesAtOnce, placed_in};
 
 use crate::body_parser::BodyParser;
@@ -29,29 +29,29 @@ impl BodyParser<'_> {
         common: CommonOperator,
         instr: Instr,
         location: InstrLocId,
-        diverges: bool,
+        unreachable_after: bool,
     ) -> bool
-        requires kind { is_instruction (listed common) ≡ true }
-        requires diverges { diverges ≡ is_diverging (listed common) }
-        requires placed { placed_in self.old (meaning (listed common)) ≡ Ok (operation_of instr) }
+        requires kind { is_instruction (common_listed common) ≡ true }
+        requires unreachable_after { unreachable_after ≡ makes_unreachable (common_listed common) }
+        requires placed { placed_in self.old (meaning (common_listed common)) ≡ Ok (operation_of instr) }
         requires plain { (slots_in instr ≡ []) × (clauses_of_try instr ≡ []) }
-        ensures { TakesAtOnce self.old self.new (meaning (listed common)) location result }
+        ensures { TakesAtOnce self.old self.new (meaning (common_listed common)) location result }
     {
         if !self.context.append_innermost(instr, location) {
             return false;
         }
-        if !diverges {
+        if !unreachable_after {
             return true;
         }
-        self.context.kill_innermost();
+        self.context.mark_innermost_unreachable();
         true
     }
 
     /// Takes a `local.get`.
     #[inline(always)]
     fn take_local_get(&mut self, common: CommonOperator, index: u32, location: InstrLocId) -> bool
-        requires { listed common ≡ op.LocalGet index }
-        ensures { TakesAtOnce self.old self.new (meaning (listed common)) location result }
+        requires { common_listed common ≡ op.LocalGet index }
+        ensures { TakesAtOnce self.old self.new (meaning (common_listed common)) location result }
     {
         match self.context.local_at(index) {
             Some(local) => {
@@ -65,8 +65,8 @@ impl BodyParser<'_> {
     /// Takes a `local.set`.
     #[inline(always)]
     fn take_local_set(&mut self, common: CommonOperator, index: u32, location: InstrLocId) -> bool
-        requires { listed common ≡ op.LocalSet index }
-        ensures { TakesAtOnce self.old self.new (meaning (listed common)) location result }
+        requires { common_listed common ≡ op.LocalSet index }
+        ensures { TakesAtOnce self.old self.new (meaning (common_listed common)) location result }
     {
         match self.context.local_at(index) {
             Some(local) => {
@@ -80,8 +80,8 @@ impl BodyParser<'_> {
     /// Takes a `local.tee`.
     #[inline(always)]
     fn take_local_tee(&mut self, common: CommonOperator, index: u32, location: InstrLocId) -> bool
-        requires { listed common ≡ op.LocalTee index }
-        ensures { TakesAtOnce self.old self.new (meaning (listed common)) location result }
+        requires { common_listed common ≡ op.LocalTee index }
+        ensures { TakesAtOnce self.old self.new (meaning (common_listed common)) location result }
     {
         match self.context.local_at(index) {
             Some(local) => {
@@ -101,9 +101,9 @@ impl BodyParser<'_> {
         memarg: RawMemArg,
         location: InstrLocId,
     ) -> bool
-        requires is { listed common ≡ op.Load kind memarg }
+        requires is { common_listed common ≡ op.Load kind memarg }
         requires exponent { memarg.exponent < 32 }
-        ensures { TakesAtOnce self.old self.new (meaning (listed common)) location result }
+        ensures { TakesAtOnce self.old self.new (meaning (common_listed common)) location result }
     {
         match self.context.indices().get_memory(memarg.memory) {
             Ok(memory) => {
@@ -124,9 +124,9 @@ impl BodyParser<'_> {
         memarg: RawMemArg,
         location: InstrLocId,
     ) -> bool
-        requires is { listed common ≡ op.Store kind memarg }
+        requires is { common_listed common ≡ op.Store kind memarg }
         requires exponent { memarg.exponent < 32 }
-        ensures { TakesAtOnce self.old self.new (meaning (listed common)) location result }
+        ensures { TakesAtOnce self.old self.new (meaning (common_listed common)) location result }
     {
         match self.context.indices().get_memory(memarg.memory) {
             Ok(memory) => {
@@ -141,8 +141,8 @@ impl BodyParser<'_> {
     /// Takes a `call`.
     #[inline(always)]
     fn push_call(&mut self, common: CommonOperator, index: u32, location: InstrLocId) -> bool
-        requires { listed common ≡ op.Call index }
-        ensures { TakesAtOnce self.old self.new (meaning (listed common)) location result }
+        requires { common_listed common ≡ op.Call index }
+        ensures { TakesAtOnce self.old self.new (meaning (common_listed common)) location result }
     {
         match self.context.indices().get_func(index) {
             Ok(func) => {
@@ -156,8 +156,8 @@ impl BodyParser<'_> {
     /// Takes a `global.get`.
     #[inline(always)]
     fn push_global_get(&mut self, common: CommonOperator, index: u32, location: InstrLocId) -> bool
-        requires { listed common ≡ op.GlobalGet index }
-        ensures { TakesAtOnce self.old self.new (meaning (listed common)) location result }
+        requires { common_listed common ≡ op.GlobalGet index }
+        ensures { TakesAtOnce self.old self.new (meaning (common_listed common)) location result }
     {
         match self.context.indices().get_global(index) {
             Ok(global) => {
@@ -171,8 +171,8 @@ impl BodyParser<'_> {
     /// Takes a `global.set`.
     #[inline(always)]
     fn push_global_set(&mut self, common: CommonOperator, index: u32, location: InstrLocId) -> bool
-        requires { listed common ≡ op.GlobalSet index }
-        ensures { TakesAtOnce self.old self.new (meaning (listed common)) location result }
+        requires { common_listed common ≡ op.GlobalSet index }
+        ensures { TakesAtOnce self.old self.new (meaning (common_listed common)) location result }
     {
         match self.context.indices().get_global(index) {
             Ok(global) => {
@@ -186,8 +186,8 @@ impl BodyParser<'_> {
     /// Takes a `br`.
     #[inline(always)]
     fn take_br(&mut self, common: CommonOperator, label: u32, location: InstrLocId) -> bool
-        requires { listed common ≡ op.Br label }
-        ensures { TakesAtOnce self.old self.new (meaning (listed common)) location result }
+        requires { common_listed common ≡ op.Br label }
+        ensures { TakesAtOnce self.old self.new (meaning (common_listed common)) location result }
     {
         match self.context.block_at(label as usize) {
             Some(block) => {
@@ -201,8 +201,8 @@ impl BodyParser<'_> {
     /// Takes a `br_if`.
     #[inline(always)]
     fn push_br_if(&mut self, common: CommonOperator, label: u32, location: InstrLocId) -> bool
-        requires { listed common ≡ op.BrIf label }
-        ensures { TakesAtOnce self.old self.new (meaning (listed common)) location result }
+        requires { common_listed common ≡ op.BrIf label }
+        ensures { TakesAtOnce self.old self.new (meaning (common_listed common)) location result }
     {
         match self.context.block_at(label as usize) {
             Some(block) => {
@@ -216,8 +216,8 @@ impl BodyParser<'_> {
     /// Takes a common operator.
     #[inline(always)]
     pub fn take_common(&mut self, common: CommonOperator, location: InstrLocId) -> bool
-        requires { IsWritable (meaning (listed common)) }
-        ensures { TakesAtOnce self.old self.new (meaning (listed common)) location result }
+        requires { IsWritable (meaning (common_listed common)) }
+        ensures { TakesAtOnce self.old self.new (meaning (common_listed common)) location result }
     {
         match common {
             CommonOperator::LocalGet { local } => self.take_local_get(common, local, location),

@@ -7,7 +7,7 @@ ghost use Rattle.wasm_operators.specs.declared.operator.Op.TheVariants as op;
 ghost use Rattle.wasm_operators.specs.Meaning.{meaning};
 ghost use Rattle.wasm_encode.specs.Writable.{IsWritable};
 ghost use Rattle.walrus_instructions.specs.OperatorKinds.{is_instruction};
-ghost use Rattle.walrus_parser.specs.OperatorKinds.{is_diverging};
+ghost use Rattle.walrus_parser.specs.OperatorKinds.{makes_unreachable};
 ghost use Rattle.wasm_body.specs.declared.error.ParseError.{ParseError as ParseFault};
 ghost use Rattle.wasm_body.specs.Control.{end_operation, else_operation};
 ghost use Rattle.walrus_ir.specs.Unfolding.{slots_in};
@@ -16,7 +16,7 @@ ghost use Rattle.wasm_body.specs.Naming.{entry_type_id as entry_type_of};
 ghost use Rattle.walrus_maps.specs.Environments.{environment_of};
 ghost use Rattle.walrus_context.specs.OpenFrames.{changed_at};
 ghost use Rattle.walrus_context.specs.OpenTrees.{env_of, AddsEmpty};
-ghost use Rattle.walrus_parser.specs.BodyParsers.{Begins, IsSameBody, Steps, with_alternative, AppendsIf, HasNoIf, Finishes, with_appended, placed_in};
+ghost use Rattle.walrus_parser.specs.BodyParsers.{BeginsParse, IsSameBody, ParsesStep, with_alternative, AppendsIf, HasNoIf, FinishesParse, with_appended, placed_in};
 
 use std::alloc::Global;
 use std::mem;
@@ -65,7 +65,7 @@ impl<'a> BodyParser<'a> {
         requires { entry_type_of (environment_of «module».now indices.now function ty) ≡ Ok entry }
         ensures env { IfOk result (λ p.
             env_of p.context ≡ environment_of «module».now indices.now function ty) }
-        ensures ok { IfOk result Begins }
+        ensures ok { IfOk result BeginsParse }
         ensures err { IfErr result (λ e. e ≡ ParseFault.Memory) }
     {
         let mut builder = FunctionBuilder::without_entry(alloc, ty);
@@ -96,7 +96,7 @@ impl BodyParser<'_> {
 
     /// Takes a `block`.
     fn open_block(&mut self, ty: BlockType, location: InstrLocId) -> Result<(), ParseError>
-        ensures step { Steps self.old self.new (operation (Byte 0x02) (block ty ∷ []))
+        ensures step { ParsesStep self.old self.new (operation (Byte 0x02) (block ty ∷ []))
             location result }
         ensures rest { OnOk result (IsSameBody self.old.context self.new.context) }
     {
@@ -111,7 +111,7 @@ impl BodyParser<'_> {
 
     /// Takes a `loop`.
     fn open_loop(&mut self, ty: BlockType, location: InstrLocId) -> Result<(), ParseError>
-        ensures step { Steps self.old self.new (operation (Byte 0x03) (block ty ∷ []))
+        ensures step { ParsesStep self.old self.new (operation (Byte 0x03) (block ty ∷ []))
             location result }
         ensures rest { OnOk result (IsSameBody self.old.context self.new.context) }
     {
@@ -126,7 +126,7 @@ impl BodyParser<'_> {
 
     /// Takes an `if`, whose instruction is appended at its `end`.
     fn open_if(&mut self, ty: BlockType, start: InstrLocId) -> Result<(), ParseError>
-        ensures step { Steps self.old self.new (operation (Byte 0x04) (block ty ∷ []))
+        ensures step { ParsesStep self.old self.new (operation (Byte 0x04) (block ty ∷ []))
             start result }
         ensures rest { OnOk result (IsSameBody self.old.context self.new.context) }
     {
@@ -156,7 +156,7 @@ impl BodyParser<'_> {
 
     /// Takes an `else`.
     fn begin_else(&mut self, location: InstrLocId) -> Result<(), ParseError>
-        ensures step { Steps self.old self.new else_operation location result }
+        ensures step { ParsesStep self.old self.new else_operation location result }
         ensures rest { OnOk result (IsSameBody self.old.context self.new.context) }
     {
         let (frame, consequent) = match self.context.pop_control() {
@@ -218,7 +218,7 @@ impl BodyParser<'_> {
     /// Takes an `end` that closes a construct.
     fn end_construct(&mut self, location: InstrLocId) -> Result<(), ParseError>
         requires inside { 1 < length self.old.context.frames }
-        ensures step { Steps self.old self.new end_operation location result }
+        ensures step { ParsesStep self.old self.new end_operation location result }
         ensures rest { OnOk result (IsSameBody self.old.context self.new.context) }
     {
         let (frame, block) = match self.context.pop_control() {
@@ -245,18 +245,18 @@ impl BodyParser<'_> {
         &mut self,
         instr: Instr,
         location: InstrLocId,
-        diverges: bool,
+        unreachable_after: bool,
     ) -> Result<(), ParseError>
         ensures ok { OnOk result ((0 < length self.old.context.frames)
             × (self.new.context ≡ record self.old.context {
-              frames = changed_at 0 (with_appended (instr, location) diverges) self.old.context.frames;
+              frames = changed_at 0 (with_appended (instr, location) unreachable_after) self.old.context.frames;
             })) }
         ensures err { IfErr result (λ e. (e ≡ ParseFault.Memory)
             ⊎ ((e ≡ ParseFault.NoFrame) × (length self.old.context.frames ≤ 0))) }
         ensures ifs { self.new.if_else ≡ self.old.if_else }
     {
         match self.context.alloc_instr(instr, location) {
-            Ok(()) if diverges => self.context.unreachable(),
+            Ok(()) if unreachable_after => self.context.unreachable(),
             result => result,
         }
     }
@@ -268,16 +268,16 @@ impl BodyParser<'_> {
         operator: &Operator<'_>,
         instr: Instr,
         location: InstrLocId,
-        diverges: bool,
+        unreachable_after: bool,
     ) -> Result<(), ParseError>
         requires kind { is_instruction operator.now ≡ true }
-        requires diverges { diverges ≡ is_diverging operator.now }
+        requires unreachable_after { unreachable_after ≡ makes_unreachable operator.now }
         requires placed { placed_in self.old (meaning operator.now) ≡ Ok (operation_of instr) }
         requires plain { (slots_in instr ≡ []) × (clauses_of_try instr ≡ []) }
-        ensures step { Steps self.old self.new (meaning operator.now) location result }
+        ensures step { ParsesStep self.old self.new (meaning operator.now) location result }
         ensures rest { OnOk result (IsSameBody self.old.context self.new.context) }
     {
-        self.append_instr(instr, location, diverges)
+        self.append_instr(instr, location, unreachable_after)
     }
 
     /// Takes an operator, other than `nop`, that makes an instruction by itself.
@@ -285,11 +285,11 @@ impl BodyParser<'_> {
     fn push_any(&mut self, operator: &Operator<'_>, location: InstrLocId) -> Result<(), ParseError>
         requires kind { is_instruction operator.now ≡ true }
         requires writable { IsWritable (meaning operator.now) }
-        ensures step { Steps self.old self.new (meaning operator.now) location result }
+        ensures step { ParsesStep self.old self.new (meaning operator.now) location result }
         ensures rest { OnOk result (IsSameBody self.old.context self.new.context) }
     {
         match instruction(*self.if_else.allocator(), &self.context, operator) {
-            Ok(instr) => self.push_instr(operator, instr, location, is_diverging(operator)),
+            Ok(instr) => self.push_instr(operator, instr, location, makes_unreachable(operator)),
             Err(error) => Err(error),
         }
     }
@@ -299,7 +299,7 @@ impl BodyParser<'_> {
     pub fn step(&mut self, operator: &Operator<'_>, location: InstrLocId) -> Result<(), ParseError>
         requires inside { operator.now ≡ op.End → 1 < length self.old.context.frames }
         requires writable { IsWritable (meaning operator.now) }
-        ensures step { Steps self.old self.new (meaning operator.now) location result }
+        ensures step { ParsesStep self.old self.new (meaning operator.now) location result }
         ensures rest { OnOk result (IsSameBody self.old.context self.new.context) }
     {
         match operator {
@@ -325,7 +325,7 @@ impl BodyParser<'_> {
         location: InstrLocId,
         lent: &mut Vec<(Instr, InstrLocId)>,
     ) -> Result<FunctionBuilder, ParseError>
-        ensures ok { IfOk result (Finishes self.entry location) }
+        ensures ok { IfOk result (FinishesParse self.entry location) }
         ensures err { IfErr result (λ e. (e ≡ ParseFault.Memory)
             ⊎ ((e ≡ ParseFault.NoFrame) × (self.entry.context.frames ≡ []))) }
     {
@@ -342,8 +342,8 @@ impl BodyParser<'_> {
 }
 
 /// Whether what follows the operator in its sequence is dropped.
-fn is_diverging(operator: &Operator<'_>) -> bool
-    ensures { result ≡ is_diverging operator.now }
+fn makes_unreachable(operator: &Operator<'_>) -> bool
+    ensures { result ≡ makes_unreachable operator.now }
 {
     matches!(
         operator,

@@ -3,8 +3,8 @@ ghost use Rattle.std.specs.Prelude.{◌≡◌, ℕ, [], ◌∷◌, OnOk};
 ghost use Rattle.wasm_operators.specs.declared.types.Opcode.TheVariants.{Byte};
 ghost use Rattle.wasm_operators.specs.Operations.{operation, block};
 ghost use Rattle.wasm_body.specs.Control.{delegate_operation};
-ghost use Rattle.walrus_parser.specs.BodyParsers.{IsSameBody, Steps};
-ghost use Rattle.walrus_parser.specs.Handlers.{clause_operation, caught, handler_kind, clause_of, has_clauses};
+ghost use Rattle.walrus_parser.specs.BodyParsers.{IsSameBody, ParsesStep};
+ghost use Rattle.walrus_parser.specs.Handlers.{clause_operation, caught, handler_kind, handler_clause, has_clauses};
 ghost use Rattle.walrus_context.specs.OpenTrees.{env_of};
 ghost use Rattle.wasm_numbers.specs.Results.{Gives};
 
@@ -32,7 +32,7 @@ fn handler_kind(tag: Option<TagId>) -> BlockKind
 
 /// The clause whose handler is this sequence.
 fn clause_of(tag: Option<TagId>, handler: InstrSeqId) -> LegacyCatch
-    ensures { result ≡ clause_of tag handler }
+    ensures { result ≡ handler_clause tag handler }
 {
     match tag {
         Some(tag) => LegacyCatch::Catch { tag, handler },
@@ -77,7 +77,7 @@ impl<'a> BodyParser<'a> {
 impl BodyParser<'_> {
     /// Takes a `try`, which has no clauses yet.
     pub fn open_try(&mut self, ty: BlockType, location: InstrLocId) -> Result<(), ParseError>
-        ensures step { Steps self.old self.new (operation (Byte 0x06) (block ty ∷ []))
+        ensures step { ParsesStep self.old self.new (operation (Byte 0x06) (block ty ∷ []))
             location result }
         ensures rest { OnOk result (IsSameBody self.old.context self.new.context) }
     {
@@ -94,7 +94,7 @@ impl BodyParser<'_> {
     /// Takes a clause of a legacy `try`: the `catch` of the tag with this old index, or
     /// `catch_all`.
     pub fn begin_clause(&mut self, tag: Option<u32>, location: InstrLocId) -> Result<(), ParseError>
-        ensures step { Steps self.old self.new (clause_operation tag) location result }
+        ensures step { ParsesStep self.old self.new (clause_operation tag) location result }
         ensures rest { OnOk result (IsSameBody self.old.context self.new.context) }
     {
         let (frame, ended) = match self.context.pop_control() {
@@ -125,7 +125,7 @@ impl BodyParser<'_> {
     /// counts from outside the `try`. The sequence gets no end location.
     pub fn close_delegate(&mut self, relative_depth: u32) -> Result<(), ParseError>
         ensures step { (location : ℕ)
-            → Steps self.old self.new (delegate_operation relative_depth) location result }
+            → ParsesStep self.old self.new (delegate_operation relative_depth) location result }
         ensures rest { OnOk result (IsSameBody self.old.context self.new.context) }
     {
         let kind = match self.context.kind_at(0) {

@@ -4,7 +4,7 @@ ghost use Rattle.wasm_body.specs.declared.error.ParseError.TheVariants as parse;
 ghost use Rattle.wasm_body.specs.Parsing.Lists.{failure as failure_at};
 ghost use Rattle.walrus_validators.specs.Locating.{MayCall, end_of};
 ghost use Rattle.walrus_context.specs.OpenTrees.{env_of};
-ghost use Rattle.walrus_parser.specs.BodyParsers.{Begins};
+ghost use Rattle.walrus_parser.specs.BodyParsers.{BeginsParse};
 ghost use Rattle.walrus_parser.specs.NextOperator.{ParsesAtOnce};
 ghost use Rattle.walrus_parser.specs.Bodies.{input_of, operators_input, ParsesOperators, AcceptsBody, RefusesBody};
 
@@ -138,7 +138,7 @@ fn parse_operators<V: OpCheck, F: Fn(&usize) -> InstrLocId>(
     code_offset: usize,
     lent: &mut Vec<(Instr, InstrLocId)>,
 ) -> Result<ParsedOperators, ParseFailure>
-    requires fresh { Begins parser }
+    requires fresh { BeginsParse parser }
     requires offset { code_offset ≤ reader.old.place }
     requires may_call { MayCall F.pre on_instr_pos reader.old.place (end_of reader.old) }
     ensures { ParsesOperators F.Fn (operators_input (env_of parser.entry.context) reader.old

@@ -5,7 +5,7 @@ ghost use Rattle.wasm_operators.specs.declared.types.Opcode.TheVariants.{Byte};
 ghost use Rattle.wasm_operators.specs.Operations.{operation, block, clauses};
 ghost use Rattle.wasm_body.specs.declared.error.ParseError.{ParseError as ParseFault};
 ghost use Rattle.wasm_body.specs.InstructionTable.{table_clause};
-ghost use Rattle.walrus_parser.specs.BodyParsers.{IsSameBody, Steps, clause_in};
+ghost use Rattle.walrus_parser.specs.BodyParsers.{IsSameBody, ParsesStep, clause_in};
 
 use crate::body_parser::BodyParser;
 use walrus_context::push_or_fail;
@@ -71,7 +71,7 @@ impl BodyParser<'_> {
         catches: &CatchList<'_>,
         location: InstrLocId,
     ) -> Result<(), ParseError>
-        ensures step { Steps self.old self.new
+        ensures step { ParsesStep self.old self.new
             (operation (Byte 0x1f) (block ty ∷ clauses catches.now ∷ [])) location result }
         ensures rest { OnOk result (IsSameBody self.old.context self.new.context) }
     {

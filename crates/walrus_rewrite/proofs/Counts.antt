@@ -11,7 +11,7 @@ use Rattle.wasm_body.specs.Translation.{Located}
 use Rattle.wasm_body.specs.Naming.{NamedOperation, Environment, Occurrence}
 use Rattle.wasm_body.specs.Parsing.Accepted.{placed, IsBody}
 use Rattle.wasm_body.specs.FunctionTree.{Head, Instruction, delegates}
-use Rattle.wasm_body.specs.NormalForm.{Typing, typing_of, Fate, Drops, Stays, Diverges, fate, with_fate, instruction, head, construct_type, handler_type, closed_at, legacy_clauses, normal, handlers, name_at, named_body, body_tree}
+use Rattle.wasm_body.specs.NormalForm.{Typing, typing_of, Fate, Drops, Stays, Diverges, fate, with_fate, instruction, head, construct_type, handler_type, closed_at, legacy_clauses, normal, handler_sequences, name_at, named_body, body_tree}
 use Rattle.wasm_body.specs.TextLaws.{mark_named}
 use Rattle.wasm_body.proofs.Structure.Mapped.{is_named_body}
 use Rattle.walrus_facts.specs.Facts.{instructions, instructions_inside, count}
@@ -69,7 +69,7 @@ module _ (m : Typing) where
         )
     bound (TryCatch a b cs r) k =
         let h = head (construct_type m a.op) (closed_at cs) in
-        let others = handlers m a.op cs in
+        let others = handler_sequences m a.op cs in
         omega (
           arith,
           one_more (instruction a (legacy_clauses cs)) (sequence h (normal m b) others) (normal m r),
@@ -89,11 +89,11 @@ module _ (m : Typing) where
           bound r k,
         )
 
-    clauses_bound : (o : NamedOperation) (cs : Clauses Named) (k : List (Marked Named)) → inside_count (handlers m o cs) + length k ≤ length (clauses_text cs k)
+    clauses_bound : (o : NamedOperation) (cs : Clauses Named) (k : List (Marked Named)) → inside_count (handler_sequences m o cs) + length k ≤ length (clauses_text cs k)
     clauses_bound o (Ended e) k = omega arith
     clauses_bound o (Catches a t b cs) k =
         let h = head (handler_type m o (m.tag_parameters t)) (closed_at cs) in
-        omega (arith, first_inside h (normal m b) (handlers m o cs), bound b (clauses_text cs k), clauses_bound o cs k)
+        omega (arith, first_inside h (normal m b) (handler_sequences m o cs), bound b (clauses_text cs k), clauses_bound o cs k)
     clauses_bound o (CatchesAll a b e) k =
         let h = head (handler_type m o []) e.location in
         omega (arith, first_inside h (normal m b) no_sequences, bound b (with_control e End ∷ k))

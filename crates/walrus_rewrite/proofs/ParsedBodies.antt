@@ -16,13 +16,13 @@ use Rattle.wasm_body.specs.SourceTree.{Body}
 use Rattle.wasm_body.specs.Naming.{Environment, Occurrence}
 use Rattle.wasm_body.specs.Parsing.Accepted.{HasSpelling, Lawful}
 use Rattle.wasm_body.specs.NormalForm.{body_tree}
-use Rattle.wasm_body.specs.LocalNumbers.{Local, ids_of, number_of_local, declarations, declared, runs, types_of, with_locals}
+use Rattle.wasm_body.specs.LocalNumbers.{Local, ids_of, number_of_local, declarations, declared, runs, types_of, numbering_locals}
 use Rattle.wasm_body.specs.EmissionFaults.{IsNumber, AreIdNumbers}
 use Rattle.wasm_body.proofs.Bytes.Faults.{emission_faults, declaration_faults}
 use Rattle.wasm_body.proofs.LocalNumbers.{last_place_get}
 use Rattle.walrus_maps.specs.declared.ids_to_indices.IdsToIndices.{IdsToIndices}
 use Rattle.walrus_maps.specs.IndexMaps.{numbers_in}
-use Rattle.walrus_numbering.specs.NumberMaps.{fitting, numbers_by}
+use Rattle.walrus_numbering.specs.NumberMaps.{fitting_number, numbers_by}
 use Rattle.walrus_rewrite.specs.RawBodies.{EmitInput, HasNoRawBody, undeclared, unwritten, HasNoParsedBody}
 use Rattle.walrus_rewrite.proofs.RawBodyLemmas.{passed}
 
@@ -32,7 +32,7 @@ by_test : (space : Space) (n : ℕ) (b : Bool) → nat_lt n (2 ^ 32) ≡ b → I
 by_test space n true e = ltb-true n (2 ^ 32) e
 by_test space n false e = tt
 
-by_number : (space : Space) (o : Option ℕ) → IsNumber (with_fault Index (some_or o (Unnumbered space) >>= fitting (Unnumbered space)))
+by_number : (space : Space) (o : Option ℕ) → IsNumber (with_fault Index (some_or o (Unnumbered space) >>= fitting_number (Unnumbered space)))
 by_number space (Some n) = by_test space n (nat_lt n (2 ^ 32)) refl
 by_number space None = tt
 
@@ -68,6 +68,6 @@ no_parsed_body env xs b spelt lawful by ids e (unwritten others ds declared_are 
     record {
       has_none = unwritten others ds declared_are declarations_are fault;
       is_of_parsed =
-          emission_faults env xs b spelt lawful (with_locals by.to by.args (ids_of others))
+          emission_faults env xs b spelt lawful (numbering_locals by.to by.args (ids_of others))
           (record { ids = ids; locals = λ id. local_fits by.args others id few (number_of_local by.args (ids_of others) id) refl }) e fault;
     }

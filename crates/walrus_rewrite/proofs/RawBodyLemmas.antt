@@ -18,7 +18,7 @@ use Rattle.wasm_body.specs.declared.error.EmitError.TheVariants.{Memory, TooLarg
 use Rattle.wasm_body.specs.Bytes.{Numbers, numbered_text, bytes_of, tree_bytes}
 use Rattle.wasm_body.specs.Translation.{Located}
 use Rattle.wasm_body.specs.FunctionTree.{FunctionTree}
-use Rattle.wasm_body.specs.LocalNumbers.{Local, ids_of, AreDeclared, number_of_local, declaration, declarations, declared, runs, types_of, uses_local, with_locals}
+use Rattle.wasm_body.specs.LocalNumbers.{Local, ids_of, AreDeclared, number_of_local, declaration, declarations, declared, runs, types_of, uses_local, numbering_locals}
 use Rattle.wasm_body.specs.Pairs.{Pair, pairs_from, tree_pairs, AddsPairs}
 use Rattle.wasm_body.specs.TreeOfFunction.{tree_of, HasTree}
 use Rattle.wasm_body.proofs.Translation.Steps.{bound, length-each}
@@ -31,7 +31,7 @@ use Rattle.walrus_numbering.specs.NumberMaps.{numbers_by}
 use Rattle.walrus_emitter.specs.TreeWriting.Trees.{Appends}
 use Rattle.walrus_facts.proofs.LocalsOfTrees.{locals_of_tree}
 use Rattle.walrus_rewrite.proofs.OneTree.{one_function}
-use Rattle.walrus_rewrite.specs.RawBodies.{EmitInput, HasNoRawBody, undeclared, unwritten, IsRawBodyOf, Begins, IsNotBegun, Writes, Declines, not_begun, not_written}
+use Rattle.walrus_rewrite.specs.RawBodies.{EmitInput, HasNoRawBody, undeclared, unwritten, IsRawBodyOf, BeginsRawBody, IsNotBegun, WritesRawBody, DeclinesRawBody, not_begun, not_written}
 
 -- ---- declarations
 
@@ -56,7 +56,7 @@ few_declarations to arguments others ds h =
 
 -- a map that has the numbers of locals
 pub same_numbers : (ms : List ModuleType) (out : IdsToIndices) (entries : List (ℕ × ℕ)) (args others : List ℕ) → ((id : ℕ) → number_in entries id ≡ number_of_local args others id)
-    → numbers_by ms out entries ≡ with_locals (numbers_by ms out []) args others
+    → numbers_by ms out entries ≡ numbering_locals (numbers_by ms out []) args others
 same_numbers ms out entries args others h =
     λ k. record {
       number_of = (numbers_by ms out []).number_of;
@@ -70,22 +70,22 @@ module _ (ms : List ModuleType) (out : IdsToIndices) (types : List (ValType ℕ)
   abbrev by : EmitInput
   by = record { to = numbers_by ms out []; types = types; args = args }
 
-  module _ (encoder : List ℕ) (entries : List (ℕ × ℕ)) (b : Begins by used encoder entries) where
-    abbrev numbered : numbers_by ms out entries ≡ with_locals (numbers_by ms out []) args (ids_of b.declares.others)
+  module _ (encoder : List ℕ) (entries : List (ℕ × ℕ)) (b : BeginsRawBody by used encoder entries) where
+    abbrev numbered : numbers_by ms out entries ≡ numbering_locals (numbers_by ms out []) args (ids_of b.declares.others)
     numbered = same_numbers ms out entries args (ids_of b.declares.others) b.declares.numbers_are
 
-    abbrev pub writes : (bytes : List ℕ) (lists : Option (List Pair × List Pair)) → Appends f.sequences (first_slot f) (numbers_by ms out entries) encoder bytes lists → Writes by used f bytes lists
+    abbrev pub writes : (bytes : List ℕ) (lists : Option (List Pair × List Pair)) → Appends f.sequences (first_slot f) (numbers_by ms out entries) encoder bytes lists → WritesRawBody by used f bytes lists
     writes bytes lists h = record {
       others = b.declares.others;
       are_declared = b.declares.are_declared;
       declarations = b.declarations;
       declarations_are = b.declares.declarations_are;
       is_written =
-          subst (λ o. Appends f.sequences (first_slot f) (with_locals (numbers_by ms out []) args (ids_of b.declares.others)) o bytes lists) b.encoder_is
+          subst (λ o. Appends f.sequences (first_slot f) (numbering_locals (numbers_by ms out []) args (ids_of b.declares.others)) o bytes lists) b.encoder_is
           (subst (λ to. Appends f.sequences (first_slot f) to encoder bytes lists) numbered h);
     }
 
-    pub declines : (e : EmitError) → IsNotEmitted f (numbers_by ms out entries) e → Declines by used f e
+    pub declines : (e : EmitError) → IsNotEmitted f (numbers_by ms out entries) e → DeclinesRawBody by used f e
     declines e u =
         not_written b.declares.others b.declarations b.declares.are_declared b.declares.declarations_are (subst (λ to. IsNotEmitted f to e) numbered u)
 
@@ -107,8 +107,8 @@ module _ (f : Function) (u : Tree SequenceAt LocatedInstr) (is_tree : IsTree f.s
     declared_so others h = subst (λ (g : ℕ → Bool). AreDeclared by.types by.args g others) used_is h
 
     abbrev its_raw_body : (others : List Local) (ds : List (ℕ × ValType ℕ)) → AreDeclared by.types by.args (uses_local (tree_of u)) others → declared by.to (length by.args) others ≡ Ok ds
-        → (operators bytes : List ℕ) (pairs : List Pair) → tree_bytes (with_locals by.to by.args (ids_of others)) (tree_of u) ≡ Ok operators
-        → bytes ≡ encoded.declaration_bytes ds ++ operators → tree_pairs (with_locals by.to by.args (ids_of others)) (tree_of u) (length (encoded.declaration_bytes ds)) ≡ Ok pairs
+        → (operators bytes : List ℕ) (pairs : List Pair) → tree_bytes (numbering_locals by.to by.args (ids_of others)) (tree_of u) ≡ Ok operators
+        → bytes ≡ encoded.declaration_bytes ds ++ operators → tree_pairs (numbering_locals by.to by.args (ids_of others)) (tree_of u) (length (encoded.declaration_bytes ds)) ≡ Ok pairs
         → IsRawBodyOf by f bytes pairs
     its_raw_body others ds a d operators bytes pairs o b p = record {
       tree = tree_of u;
@@ -126,9 +126,9 @@ module _ (f : Function) (u : Tree SequenceAt LocatedInstr) (is_tree : IsTree f.s
     }
 
     -- the pairs of the raw body are appended to the list
-    abbrev pub of_written : (bytes : List ℕ) (lists : Option (List Pair × List Pair)) → Writes by used f bytes lists → (ps : List Pair) × IsRawBodyOf by f bytes ps × AddsPairs ps lists
+    abbrev pub of_written : (bytes : List ℕ) (lists : Option (List Pair × List Pair)) → WritesRawBody by used f bytes lists → (ps : List Pair) × IsRawBodyOf by f bytes ps × AddsPairs ps lists
     of_written bytes lists w =
-        let to = with_locals by.to by.args (ids_of w.others) in
+        let to = numbering_locals by.to by.args (ids_of w.others) in
         let made = w.is_written in
         let same = only_tree made.tree made.has_tree in
         let before = length (encoded.declaration_bytes w.declarations) in (
@@ -140,7 +140,7 @@ module _ (f : Function) (u : Tree SequenceAt LocatedInstr) (is_tree : IsTree f.s
         )
 
     -- they are all that was appended to an empty one
-    pub of_both : (bytes : List ℕ) (pairs : List Pair) → Writes by used f bytes (Some ([], pairs)) → IsRawBodyOf by f bytes pairs
+    pub of_both : (bytes : List ℕ) (pairs : List Pair) → WritesRawBody by used f bytes (Some ([], pairs)) → IsRawBodyOf by f bytes pairs
     of_both bytes pairs w = let made = of_written bytes (Some ([], pairs)) w in subst (λ ps. IsRawBodyOf by f bytes ps) (sym made.2) made.1
 
     abbrev Why : EmitError → Type 0
@@ -152,14 +152,14 @@ module _ (f : Function) (u : Tree SequenceAt LocatedInstr) (is_tree : IsTree f.s
     why_not_begun e (inr h) = inr (tree_of u, has_tree, undeclared (subst (λ (g : ℕ → Bool). HasNoDeclarations by.to by.types by.args g e) used_is h))
 
     why_not_written : (e : EmitError) (others : List Local) (ds : List (ℕ × ValType ℕ)) → AreDeclared by.types by.args used others → declared by.to (length by.args) others ≡ Ok ds
-        → IsNotEmitted f (with_locals by.to by.args (ids_of others)) e → Why e
+        → IsNotEmitted f (numbering_locals by.to by.args (ids_of others)) e → Why e
     why_not_written e others ds a d (inl memory) = inl memory
     why_not_written e others ds a d (inr (inl walk)) = absurd (tree_has_no_fault f.sequences (first_slot f) u walk.0 is_tree walk.1)
     why_not_written e others ds a d (inr (inr fault)) =
-        let to = with_locals by.to by.args (ids_of others) in
+        let to = numbering_locals by.to by.args (ids_of others) in
         inr (tree_of u, has_tree, unwritten others ds (declared_so others a) d (subst (λ t. tree_bytes to t ≡ Err e) (only_tree fault.0 fault.1) fault.2))
 
-    pub why_not : (e : EmitError) → Declines by used f e → Why e
+    pub why_not : (e : EmitError) → DeclinesRawBody by used f e → Why e
     why_not e (not_begun h) = why_not_begun e h
     why_not e (not_written others ds a d h) = why_not_written e others ds a d h
 
@@ -177,7 +177,7 @@ pairs_within (x ∷ xs) place end h =
 pub raw_pairs_within : (by : EmitInput) (f : Function) (bytes : List ℕ) (pairs : List Pair) → IsRawBodyOf by f bytes pairs → AreWithin (length bytes) pairs
 raw_pairs_within by f bytes pairs r =
     let w = r.is_raw_body in
-    let to = with_locals by.to by.args (ids_of w.others) in
+    let to = numbering_locals by.to by.args (ids_of w.others) in
     let before = length (encoded.declaration_bytes w.declarations) in
     let xs = bound (numbered_text to r.tree) (λ xs. Ok (pairs_from before xs)) pairs w.pairs_are in
     let ys = bound (numbered_text to r.tree) (λ ys. Ok (bytes_of ys)) w.operators w.operators_are in

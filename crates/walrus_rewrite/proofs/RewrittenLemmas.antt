@@ -21,7 +21,7 @@ use Rattle.wasm_body.specs.RewrittenTree.{rewritten_text}
 use Rattle.wasm_body.specs.LocationLaws.{BalanceAlike}
 use Rattle.wasm_body.specs.EmissionFaults.{AreIdNumbers}
 use Rattle.wasm_body.specs.Bytes.{Numbers}
-use Rattle.wasm_body.specs.LocalNumbers.{ids_of, with_locals}
+use Rattle.wasm_body.specs.LocalNumbers.{ids_of, numbering_locals}
 use Rattle.wasm_body.specs.Pairs.{Pair, tree_pairs}
 use Rattle.wasm_body.specs.Parsing.Accepted.{HasSpelling, Lawful, placed}
 use Rattle.wasm_body.proofs.Bytes.LawfulTyped.{lawful_named}
@@ -94,7 +94,7 @@ module _ {S F : Type 0} (calls : Shared F (Bor ℕ × Unit {0}) ℕ) (i : ParseI
         raw = bytes;
         pairs = pairs;
         is_raw_body = raw;
-        keeps = keeps_source i.environment a.accepted.operators a.body its_spellings a.accepted.lawful (with_locals by.to by.args (ids_of raw.others)) alike (length (encoded.declaration_bytes raw.declarations)) pairs raw.pairs_are;
+        keeps = keeps_source i.environment a.accepted.operators a.body its_spellings a.accepted.lawful (numbering_locals by.to by.args (ids_of raw.others)) alike (length (encoded.declaration_bytes raw.declarations)) pairs raw.pairs_are;
         bytes = appends;
         appends_pairs = appends_pairs;
       }

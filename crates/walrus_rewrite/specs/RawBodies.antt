@@ -14,7 +14,7 @@ use Rattle.wasm_body.specs.declared.error.ParseFailure.{ParseFailure}
 use Rattle.wasm_body.specs.Bytes.{Numbers, tree_bytes}
 use Rattle.wasm_body.specs.EmissionFaults.{HasNoNumber}
 use Rattle.wasm_body.specs.FunctionTree.{FunctionTree}
-use Rattle.wasm_body.specs.LocalNumbers.{Local, ids_of, AreDeclared, declared, uses_local, with_locals}
+use Rattle.wasm_body.specs.LocalNumbers.{Local, ids_of, AreDeclared, declared, uses_local, numbering_locals}
 use Rattle.wasm_body.specs.Pairs.{Pair, tree_pairs, AddsPairs}
 use Rattle.wasm_body.specs.TreeOfFunction.{HasTree, fault_of_walk}
 use Rattle.walrus_maps.specs.declared.ids_to_indices.IdsToIndices.{IdsToIndices}
@@ -50,9 +50,9 @@ pub record IsRawBody (by : EmitInput) (t : FunctionTree) (bytes : List ℕ) (pai
   pub declarations : List (ℕ × ValType ℕ)
   pub declarations_are : declared by.to (length by.args) others ≡ Ok declarations
   pub operators : List ℕ
-  pub operators_are : tree_bytes (with_locals by.to by.args (ids_of others)) t ≡ Ok operators
+  pub operators_are : tree_bytes (numbering_locals by.to by.args (ids_of others)) t ≡ Ok operators
   pub bytes_are : bytes ≡ encoded.declaration_bytes declarations ++ operators
-  pub pairs_are : tree_pairs (with_locals by.to by.args (ids_of others)) t (length (encoded.declaration_bytes declarations)) ≡ Ok pairs
+  pub pairs_are : tree_pairs (numbering_locals by.to by.args (ids_of others)) t (length (encoded.declaration_bytes declarations)) ≡ Ok pairs
 
 -- This is why a tree has no raw body: a used local isn't known, or else the declarations have this first fault, or else the
 -- operators.
@@ -60,7 +60,7 @@ pub data HasNoRawBody (by : EmitInput) (t : FunctionTree) (e : EmitError) : Type
   undeclared : HasNoDeclarations by.to by.types by.args (uses_local t) e → HasNoRawBody by t e
   unwritten :
       (others : List Local) (declarations : List (ℕ × ValType ℕ)) → AreDeclared by.types by.args (uses_local t) others →
-      declared by.to (length by.args) others ≡ Ok declarations → tree_bytes (with_locals by.to by.args (ids_of others)) t ≡ Err e →
+      declared by.to (length by.args) others ≡ Ok declarations → tree_bytes (numbering_locals by.to by.args (ids_of others)) t ≡ Err e →
       HasNoRawBody by t e
 
 -- The tree of a parsed body has no raw body for these reasons only: a used local isn't known; the declarations count too many
@@ -84,13 +84,13 @@ pub record IsRawBodyOf (by : EmitInput) (f : Function) (bytes : List ℕ) (pairs
   pub is_raw_body : IsRawBody by tree bytes pairs
 
 -- a pair whose place is moved up by this number of bytes
-abbrev pub moved : ℕ → Pair → Pair
-moved n p = (p.0, n + p.1)
+abbrev pub moved_pair : ℕ → Pair → Pair
+moved_pair n p = (p.0, n + p.1)
 
 -- ---- of a function, with the list of its used locals given
 
 -- These locals are declared so in an encoder, and they and the arguments have these numbers.
-pub record Begins (by : EmitInput) (used : ℕ → Bool) (encoder : List ℕ) (numbers : List (ℕ × ℕ)) : Type 0 where
+pub record BeginsRawBody (by : EmitInput) (used : ℕ → Bool) (encoder : List ℕ) (numbers : List (ℕ × ℕ)) : Type 0 where
   pub declarations : List (ℕ × ValType ℕ)
   pub declares : Declares by.to by.types by.args used declarations numbers
   pub encoder_is : encoder ≡ encoded.declaration_bytes declarations
@@ -100,19 +100,19 @@ IsNotBegun by used e = IsNotDeclared by.to by.types by.args used e
 
 -- The operators, written with the numbers of the locals, follow the declarations, and the pairs are appended to the list, if
 -- there is one.
-pub record Writes (by : EmitInput) (used : ℕ → Bool) (f : Function) (bytes : List ℕ) (lists : Option (List Pair × List Pair)) : Type 0 where
+pub record WritesRawBody (by : EmitInput) (used : ℕ → Bool) (f : Function) (bytes : List ℕ) (lists : Option (List Pair × List Pair)) : Type 0 where
   pub others : List Local
   pub are_declared : AreDeclared by.types by.args used others
   pub declarations : List (ℕ × ValType ℕ)
   pub declarations_are : declared by.to (length by.args) others ≡ Ok declarations
-  pub is_written : trees.Appends f.sequences (first_slot f) (with_locals by.to by.args (ids_of others)) (encoded.declaration_bytes declarations) bytes lists
+  pub is_written : trees.Appends f.sequences (first_slot f) (numbering_locals by.to by.args (ids_of others)) (encoded.declaration_bytes declarations) bytes lists
 
-pub data Declines (by : EmitInput) (used : ℕ → Bool) (f : Function) (e : EmitError) : Type 0 where
-  not_begun : IsNotBegun by used e → Declines by used f e
+pub data DeclinesRawBody (by : EmitInput) (used : ℕ → Bool) (f : Function) (e : EmitError) : Type 0 where
+  not_begun : IsNotBegun by used e → DeclinesRawBody by used f e
   not_written :
       (others : List Local) (declarations : List (ℕ × ValType ℕ)) → AreDeclared by.types by.args used others →
-      declared by.to (length by.args) others ≡ Ok declarations → IsNotEmitted f (with_locals by.to by.args (ids_of others)) e →
-      Declines by used f e
+      declared by.to (length by.args) others ≡ Ok declarations → IsNotEmitted f (numbering_locals by.to by.args (ids_of others)) e →
+      DeclinesRawBody by used f e
 
 -- ---- appended
 
@@ -146,7 +146,7 @@ pub record WritesEntry (by : EmitInput) (f : Function) (before : ℕ) (written :
   pub has_entry : HasEntry f
   pub pairs : List Pair
   pub is_raw_body : IsRawBodyOf by f written.bytes pairs
-  pub are_moved : written.code_transform ≡ map (moved before) pairs
+  pub are_moved : written.code_transform ≡ map (moved_pair before) pairs
 
 -- Both are appended.
 pub record AppendsEntry (by : EmitInput) (f : Function) (old new : List ℕ) (old_pairs new_pairs : List Pair) : Type 0 where

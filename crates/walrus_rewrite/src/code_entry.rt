@@ -2,7 +2,7 @@
 ghost use Rattle.std.specs.Prelude.{◌≡◌, ◌+◌, ◌<◌, ◌≤◌, length, map, OnOk, OnErr, IfOk, IfErr};
 ghost use Rattle.std.specs.List.{AllByRecursion};
 ghost use Rattle.walrus_body.specs.LocalFunctions.{HasEntry};
-ghost use Rattle.walrus_rewrite.specs.RawBodies.{emit_input, moved, WritesEntry, RefusesEntry, AppendsEntry};
+ghost use Rattle.walrus_rewrite.specs.RawBodies.{emit_input, moved_pair, WritesEntry, RefusesEntry, AppendsEntry};
 
 use crate::raw_body::raw_body_with_map;
 use crate::whole_body::append_both;
@@ -18,7 +18,7 @@ fn moved_pairs(
     end: usize,
 ) -> Result<Vec<(InstrLocId, usize)>, AllocError>
     requires { AllByRecursion (λ p. base + p.1 ≤ end) pairs.now }
-    ensures { IfOk result (λ made. made.items ≡ map (moved base) pairs.now) }
+    ensures { IfOk result (λ made. made.items ≡ map (moved_pair base) pairs.now) }
 {
     let mut made = Vec::new(alloc);
     let mut left = pairs;

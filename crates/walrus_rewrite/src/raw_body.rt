@@ -2,7 +2,7 @@
 ghost use Rattle.std.specs.Prelude.{◌==◌, Some, None, IfOk, IfErr};
 ghost use Rattle.std.specs.HashSet.{contains};
 ghost use Rattle.walrus_body.specs.LocalFunctions.{HasEntry};
-ghost use Rattle.walrus_rewrite.specs.RawBodies.{emit_input, Begins, IsNotBegun, Writes, Declines};
+ghost use Rattle.walrus_rewrite.specs.RawBodies.{emit_input, BeginsRawBody, IsNotBegun, WritesRawBody, DeclinesRawBody};
 
 use std::alloc::Global;
 use walrus_body::{EmitError, IdsToIndices, LocalFunction};
@@ -22,7 +22,7 @@ pub fn begin_body(
     module: &Module,
     indices: &IdsToIndices,
 ) -> Result<(FunctionEncoder, IdHashMap<LocalId, u32>), EmitError>
-    ensures ok { IfOk result (λ made. Begins (emit_input indices.now «module».now function.now)
+    ensures ok { IfOk result (λ made. BeginsRawBody (emit_input indices.now «module».now function.now)
         (contains (λ x y. x == y) used.now) made.0 made.1.entries) }
     ensures err { IfErr result (IsNotBegun (emit_input indices.now «module».now function.now)
         (contains (λ x y. x == y) used.now)) }
@@ -50,9 +50,9 @@ pub(crate) fn raw_body(
     indices: &IdsToIndices,
 ) -> Result<Vec<u8>, EmitError>
     requires { HasEntry function.now.builder }
-    ensures ok { IfOk result (λ raw. Writes (emit_input indices.now «module».now function.now)
+    ensures ok { IfOk result (λ raw. WritesRawBody (emit_input indices.now «module».now function.now)
         (contains (λ x y. x == y) used.now) function.now.builder raw.items None) }
-    ensures err { IfErr result (Declines (emit_input indices.now «module».now function.now)
+    ensures err { IfErr result (DeclinesRawBody (emit_input indices.now «module».now function.now)
         (contains (λ x y. x == y) used.now) function.now.builder) }
 {
     let (mut encoder, numbers) = match begin_body(alloc, function, used, module, indices) {
@@ -80,10 +80,10 @@ pub(crate) fn raw_body_with_map(
     map: &mut Vec<(InstrLocId, usize)>,
 ) -> Result<Vec<u8>, EmitError>
     requires { HasEntry function.now.builder }
-    ensures ok { IfOk result (λ raw. Writes (emit_input indices.now «module».now function.now)
+    ensures ok { IfOk result (λ raw. WritesRawBody (emit_input indices.now «module».now function.now)
         (contains (λ x y. x == y) used.now) function.now.builder raw.items
         (Some (map.old.items, map.new.items))) }
-    ensures err { IfErr result (Declines (emit_input indices.now «module».now function.now)
+    ensures err { IfErr result (DeclinesRawBody (emit_input indices.now «module».now function.now)
         (contains (λ x y. x == y) used.now) function.now.builder) }
 {
     let (mut encoder, numbers) = match begin_body(alloc, function, used, module, indices) {

@@ -23,7 +23,7 @@ use Rattle.wasm_body.specs.Naming.{Occurrence}
 use Rattle.wasm_body.specs.FunctionTree.{FunctionTree}
 use Rattle.wasm_body.specs.NormalForm.{typing_of, name_at, body_tree}
 use Rattle.wasm_body.specs.Parsing.Accepted.{mark, Lawful}
-use Rattle.wasm_body.specs.LocalNumbers.{Local, ids_of, types_of, locals_among, locals_of, uses_local, AreDeclared, last_place, number_of_local, one_more, runs, declaration, declarations, declared, with_locals}
+use Rattle.wasm_body.specs.LocalNumbers.{Local, ids_of, types_of, locals_among, locals_of, uses_local, AreDeclared, last_place, number_of_local, one_more, runs, declaration, declarations, declared, numbering_locals}
 use Rattle.wasm_body.specs.Bytes.{Numbers, in_32_bits, numbered_block, tree_bytes}
 use Rattle.wasm_body.proofs.LocalNumbers.{Below, Ascends, ascends, IsLocalIn, holds_of_local, local_among, last_place_get}
 use Rattle.wasm_body.proofs.Bytes.LawfulTyped.{NamedSomewhere, named_somewhere}
@@ -243,7 +243,7 @@ module _ (xs : List Occurrence) (b : Body Occurrence) (texts : AllByRecursion Ha
           | false ↦ λ e. d.are_all id ∙ (ap (λ u. u && not (among id demo_args)) used ∙ ap (λ b. not (b || false)) e)
         ] refl
 
-    pub can_write : IsOk (tree_bytes (with_locals demo_numbers demo_args (ids_of others)) tree)
+    pub can_write : IsOk (tree_bytes (numbering_locals demo_numbers demo_args (ids_of others)) tree)
     can_write =
         let to = full (ids_of others) few_ids in
         subst (λ r. IsOk r)
@@ -255,4 +255,4 @@ module _ (xs : List Occurrence) (b : Body Occurrence) (texts : AllByRecursion Ha
   pub has_raw_body : (e : EmitError) → HasNoRawBody (record { to = demo_numbers; types = demo_locals; args = demo_args }) tree e → ⊥
   has_raw_body e (undeclared (inl h)) = none_unknown h.1
   has_raw_body e (undeclared (inr h)) = not_ok (declared demo_numbers 1 h.others) e (can_declare h.others h.are_declared) h.fault_is
-  has_raw_body e (unwritten others declarations d h w) = not_ok (tree_bytes (with_locals demo_numbers demo_args (ids_of others)) tree) e (can_write others d) w
+  has_raw_body e (unwritten others declarations d h w) = not_ok (tree_bytes (numbering_locals demo_numbers demo_args (ids_of others)) tree) e (can_write others d) w

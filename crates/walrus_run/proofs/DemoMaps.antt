@@ -18,7 +18,7 @@ use Rattle.wasm_numbers.specs.Results.{◌>>=◌, unless, with_fault, some_or}
 use Rattle.walrus_maps.specs.IndexMaps.{ids_in, locals_in, with_locals, numbers_in, with_numbers, numbered}
 use Rattle.walrus_maps.specs.Numbering.{pushed}
 use Rattle.walrus_maps.proofs.NumberingLemmas.{get-numbered}
-use Rattle.walrus_numbering.specs.NumberMaps.{fitting, numbers_by}
+use Rattle.walrus_numbering.specs.NumberMaps.{fitting_number, numbers_by}
 use Rattle.walrus_run.specs.Demo.{demo_types, demo_indices, demo_numbers}
 
 -- a value that was put into a map is in it
@@ -88,7 +88,7 @@ space_numbered m h Tags = ap (λ e. in_turn e 2) (h Tags)
 
 -- the result for an id that has this number in its space
 abbrev given_as : Space → Option ℕ → Result ℕ EmitError
-given_as space o = with_fault Index (some_or o (Unnumbered space) >>= fitting (Unnumbered space))
+given_as space o = with_fault Index (some_or o (Unnumbered space) >>= fitting_number (Unnumbered space))
 
 few_ids : (space : Space) → length (ids_in demo_indices space) ≤ 4
 few_ids Tables = omega arith

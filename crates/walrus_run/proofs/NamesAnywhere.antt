@@ -11,7 +11,7 @@ use Rattle.wasm_body.specs.declared.error.ParseError.{ParseError}
 use Rattle.wasm_body.specs.declared.error.ParseError.TheVariants.{NoSuchLabel, RethrowOutsideHandler}
 use Rattle.wasm_body.specs.Control.{Marked}
 use Rattle.wasm_body.specs.SourceTree.{Body}
-use Rattle.wasm_body.specs.Frames.{Frame, handler_at, outside}
+use Rattle.wasm_body.specs.Frames.{SequenceFrame, handler_at, outside}
 use Rattle.wasm_body.specs.Translation.{translate, translate_immediates}
 use Rattle.wasm_body.specs.Naming.{Environment, NamedOperation, Occurrence, block_types, open_label, handler_label, naming, named_in}
 use Rattle.wasm_body.specs.Parsing.Accepted.{mark, Lawful}
@@ -24,10 +24,10 @@ use Rattle.walrus_run.specs.Namers.{anywhere, HasName}
 
 -- ---- the label of an open construct is unchanged
 
-open_stays : {A : Type 0} (fs : List (Frame A)) (n l : ℕ) → open_label fs n ≡ Ok l → (let r : Result ℕ ParseError = Ok n in r) ≡ Ok l
+open_stays : {A : Type 0} (fs : List (SequenceFrame A)) (n l : ℕ) → open_label fs n ≡ Ok l → (let r : Result ℕ ParseError = Ok n in r) ≡ Ok l
 open_stays fs n l e = (bind_ok (unless (nat_lt n (length fs)) NoSuchLabel) (λ u. Ok n) l e).2
 
-handler_stays : {A : Type 0} (fs : List (Frame A)) (n l : ℕ) → handler_label fs n ≡ Ok l → (let r : Result ℕ ParseError = Ok n in r) ≡ Ok l
+handler_stays : {A : Type 0} (fs : List (SequenceFrame A)) (n l : ℕ) → handler_label fs n ≡ Ok l → (let r : Result ℕ ParseError = Ok n in r) ≡ Ok l
 handler_stays fs n l e =
     let opened = bind_ok (open_label fs n) (λ m. unless (handler_at fs n) RethrowOutsideHandler >>= λ u. Ok n) l e in
     (bind_ok (unless (handler_at fs n) RethrowOutsideHandler) (λ u. Ok n) l opened.2).2
@@ -35,7 +35,7 @@ handler_stays fs n l e =
 -- ---- so an operator that has a name in some frames has it in any
 
 module _ (env : Environment) where
-  leads : (fs : List (Frame Occurrence)) → LeadAll (naming env fs) same (anywhere env)
+  leads : (fs : List (SequenceFrame Occurrence)) → LeadAll (naming env fs) same (anywhere env)
   leads fs = record {
     indices = λ space n id e. sym e;
     locals = λ n id e. sym e;
@@ -47,7 +47,7 @@ module _ (env : Environment) where
     counts = λ n u e. refl;
   }
 
-  named_anywhere : (fs : List (Frame Occurrence)) (o : RawOperation) (named : NamedOperation) → translate (naming env fs) o ≡ Ok named → translate (anywhere env) o ≡ Ok named
+  named_anywhere : (fs : List (SequenceFrame Occurrence)) (o : RawOperation) (named : NamedOperation) → translate (naming env fs) o ≡ Ok named → translate (anywhere env) o ≡ Ok named
   named_anywhere fs o named e =
       let made : List (Immediate ℕ Signature) → Result NamedOperation ParseError = λ is. Ok (operation o.opcode is) in
       let is = bind_ok (translate_immediates (naming env fs) o.immediates) made named e in
@@ -55,7 +55,7 @@ module _ (env : Environment) where
       let stays = translate_leads (naming env fs) same (anywhere env) o.immediates (lead_all (naming env fs) same (anywhere env) (leads fs) o.immediates blocks) is.0 is.1 in
       ap (λ r. r >>= made) (sym stays ∙ translate_same is.0) ∙ is.2
 
-  have_names : (xs : List Occurrence) → AllByRecursion (λ (x : Marked Occurrence). (fs : List (Frame Occurrence)) × (named_in env fs x.shown.spelt ≡ Ok x.shown.named)) (map mark xs) → AllByRecursion (HasName env) xs
+  have_names : (xs : List Occurrence) → AllByRecursion (λ (x : Marked Occurrence). (fs : List (SequenceFrame Occurrence)) × (named_in env fs x.shown.spelt ≡ Ok x.shown.named)) (map mark xs) → AllByRecursion (HasName env) xs
   have_names [] h = tt
   have_names (x ∷ xs) h = (named_anywhere h.0.0 x.spelt x.named (named_parts env h.0.0 x.spelt x.named h.0.1).translated, have_names xs h.1)
 

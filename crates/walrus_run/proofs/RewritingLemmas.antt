@@ -23,7 +23,7 @@ use Rattle.wasm_body.specs.Naming.{Occurrence}
 use Rattle.wasm_body.specs.FunctionTree.{FunctionTree}
 use Rattle.wasm_body.specs.TreeOfFunction.{tree_of, HasTree}
 use Rattle.wasm_body.specs.NormalForm.{body_tree}
-use Rattle.wasm_body.specs.LocalNumbers.{ids_of, uses_local, AreDeclared, with_locals}
+use Rattle.wasm_body.specs.LocalNumbers.{ids_of, uses_local, AreDeclared, numbering_locals}
 use Rattle.wasm_body.specs.Pairs.{Pair}
 use Rattle.wasm_body.specs.Parsing.Accepted.{Accepted, FirstFault, placed}
 use Rattle.wasm_body.specs.Parsing.Lists.{parsed}
@@ -44,7 +44,7 @@ use Rattle.walrus_rewrite.specs.declared.error.RewriteError.{RewriteError}
 use Rattle.walrus_rewrite.specs.declared.error.RewriteError.TheVariants.{Parse}
 use Rattle.walrus_run.specs.Demo.{demo_module, demo_types, demo_indices, demo_locals, demo_args, demo_environment, demo, demo_numbers}
 use Rattle.walrus_rewrite.specs.RawBodies.{EmitInput, emit_input, IsRawBodyOf, HasNoRawBody}
-use Rattle.walrus_run.specs.Rewriting.{IsNormalBytes, IsRewritten, IsParsed, IsFaulty}
+use Rattle.walrus_run.specs.Rewriting.{IsNormalBytes, IsRewrittenDemo, IsParsedDemo, IsFaulty}
 use Rattle.walrus_rewrite.specs.Errors.{IsOutOfMemory}
 use Rattle.walrus_rewrite.proofs.Counts.{few_instructions}
 use Rattle.walrus_run.proofs.DemoLocals.{has_raw_body}
@@ -69,7 +69,7 @@ accepted_texts ops b a = listed_texts a.operators _ ops [] a.all.spelt
 abbrev pub demo_emit_input : EmitInput
 demo_emit_input = record { to = demo_numbers; types = demo_locals; args = demo_args }
 
-module _ (f : Function) (p : IsParsed f) where
+module _ (f : Function) (p : IsParsedDemo f) where
   abbrev tree : FunctionTree
   tree = demo_tree p.body
 
@@ -109,8 +109,8 @@ module _ (f : Function) (p : IsParsed f) where
         others = w.others;
         are_declared = subst (λ (h : EmitInput). AreDeclared h.types h.args (uses_local (demo_tree b)) w.others) same (subst (λ t. AreDeclared g.types g.args (uses_local t) w.others) tree_is w.are_declared);
         bytes_are =
-            subst (λ (h : EmitInput). tree_bytes (with_locals h.to h.args (ids_of w.others)) (demo_tree b) ≡ Ok w.operators) same
-            (subst (λ t. tree_bytes (with_locals g.to g.args (ids_of w.others)) t ≡ Ok w.operators) tree_is w.operators_are)
+            subst (λ (h : EmitInput). tree_bytes (numbering_locals h.to h.args (ids_of w.others)) (demo_tree b) ≡ Ok w.operators) same
+            (subst (λ t. tree_bytes (numbering_locals g.to g.args (ids_of w.others)) t ≡ Ok w.operators) tree_is w.operators_are)
             ∙ ap Ok (sym written);
       }
 
@@ -147,7 +147,7 @@ demo_refuses m i function type m_is i_is function_is type_is ops f (inr fault) =
 -- ---- each body and each fault
 
 -- the bytes of an accepted body are returned; it is refused only if memory runs out
-pub body_returned : (ops out : List ℕ) (b : Body Occurrence) → Accepted demo ops b → IsRewritten ops out → IsNormalBytes b out
+pub body_returned : (ops out : List ℕ) (b : Body Occurrence) → Accepted demo ops b → IsRewrittenDemo ops out → IsNormalBytes b out
 body_returned ops out b a w =
     subst (λ (c : Body Occurrence). IsNormalBytes c out)
     (same_result (parsed demo ops) w.0 b (accepted_parsed demo reading_agrees ops w.0 w.1) (accepted_parsed demo reading_agrees ops b a)) w.2
@@ -157,7 +157,7 @@ body_not_refused ops e b a (inl memory) = memory
 body_not_refused ops e b a (inr f) = absurd (not_both (parsed demo ops) b f.0 (accepted_parsed demo reading_agrees ops b a) (fault_parsed demo reading_agrees ops f.0 f.1))
 
 -- a body with a first fault is refused for it
-pub fault_not_written : (ops out : List ℕ) (f : ParseFailure) → FirstFault demo ops f → IsRewritten ops out → ⊥
+pub fault_not_written : (ops out : List ℕ) (f : ParseFailure) → FirstFault demo ops f → IsRewrittenDemo ops out → ⊥
 fault_not_written ops out f fault w = not_both (parsed demo ops) w.0 f (accepted_parsed demo reading_agrees ops w.0 w.1) (fault_parsed demo reading_agrees ops f fault)
 
 pub fault_returned : (ops : List ℕ) (e : RewriteError) (f : ParseFailure) → FirstFault demo ops f → IsOutOfMemory e ⊎ IsFaulty ops e → IsOutOfMemory e ⊎ (e ≡ Parse f)

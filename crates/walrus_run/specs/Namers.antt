@@ -13,8 +13,8 @@ use Rattle.walrus_maps.specs.Environments.{environment_of}
 use Rattle.walrus_run.specs.NamedBodies.{BodyNames}
 use Rattle.walrus_run.specs.declared.naming.Namer.{Namer}
 
-abbrev pub env_of : Namer → Environment
-env_of n = environment_of n.«module».now n.indices.now n.function n.ty
+abbrev pub env_of_namer : Namer → Environment
+env_of_namer n = environment_of n.«module».now n.indices.now n.function n.ty
 
 -- naming without the rules of labels
 abbrev pub anywhere : Environment → Translation ℕ BlockType ℕ Signature ParseError

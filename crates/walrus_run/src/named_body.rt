@@ -10,7 +10,7 @@ ghost use Rattle.walrus_parser.specs.Bodies.{body_operators};
 ghost use Rattle.walrus_parser.specs.Settings.{operators_of};
 ghost use Rattle.walrus_machine.specs.NamedOperators.{named_operation};
 ghost use Rattle.walrus_run.specs.NamedBodies.{names_of, reading};
-ghost use Rattle.walrus_run.specs.Namers.{env_of, AreLeft, with_next};
+ghost use Rattle.walrus_run.specs.Namers.{env_of_namer, AreLeft, with_next};
 
 use crate::naming::Namer;
 use std::alloc::Global;
@@ -136,7 +136,7 @@ impl NamedBody {
 
     /// Names all operators that remain in a reader.
     fn named(namer: &Namer<'_>, reader: &mut Reader<'_>) -> Result<NamedBody, ParseFailure>
-        ensures { (xs : List Occurrence) → AreLeft (env_of namer.now) reader.old xs
+        ensures { (xs : List Occurrence) → AreLeft (env_of_namer namer.now) reader.old xs
             → IfErr result (λ f. f.error ≡ ParseFault.Memory)
             × IfOk result (λ made. made ≡ names_of xs) }
     {
@@ -157,9 +157,9 @@ impl NamedBody {
     /// Takes the next operator of a reader.
     fn take(&mut self, namer: &Namer<'_>, reader: &mut Reader<'_>) -> Result<(), ParseError>
         ensures takes { (x : Occurrence) (xs : List Occurrence)
-            → AreLeft (env_of namer.now) reader.old (x ∷ xs)
+            → AreLeft (env_of_namer namer.now) reader.old (x ∷ xs)
             → IfErr result (λ e. e ≡ ParseFault.Memory)
-            × OnOk result (AreLeft (env_of namer.now) reader.new xs
+            × OnOk result (AreLeft (env_of_namer namer.now) reader.new xs
             × (self.new ≡ with_next self.old x.named x.place)) }
         ensures moves { OnOk result (length reader.new.rest < length reader.old.rest) }
     {

@@ -12,7 +12,7 @@ ghost use Rattle.wasm_body.specs.Naming.{name_block};
 ghost use Rattle.wasm_body.specs.Translation.{translate, translate_access, translate_cast, translate_clause, translate_immediate, translate_immediates, translate_tag};
 ghost use Rattle.walrus_instructions.specs.Placed.{GivesOrMemory};
 ghost use Rattle.walrus_machine.specs.NamedOperators.{named_index, named_access, named_block, named_clause, named_cast, named_immediates, named_operation};
-ghost use Rattle.walrus_run.specs.Namers.{env_of, anywhere};
+ghost use Rattle.walrus_run.specs.Namers.{env_of_namer, anywhere};
 
 use std::alloc::Global;
 use walrus_body::{IndicesToIds, ParseError, heap_type_of, value_type};
@@ -64,7 +64,7 @@ impl Namer<'_> {
     /// The id of an index in a space.
     fn index(&self, space: Space, index: u32) -> Result<NamedIndex, ParseError>
         ensures { Gives named_index result
-            (translate_immediate (anywhere (env_of self.now)) (an_index space index)) }
+            (translate_immediate (anywhere (env_of_namer self.now)) (an_index space index)) }
     {
         let indices = self.indices;
         match space {
@@ -82,7 +82,7 @@ impl Namer<'_> {
     /// A memory argument.
     fn memory_argument(&self, memarg: RawMemArg) -> Result<NamedMemArg, ParseError>
         ensures { Gives named_access result
-            (translate_access (anywhere (env_of self.now)) (access_of memarg)) }
+            (translate_access (anywhere (env_of_namer self.now)) (access_of memarg)) }
     {
         Ok(NamedMemArg {
             exponent: memarg.exponent,
@@ -94,7 +94,7 @@ impl Namer<'_> {
     /// The immediates of a branch on a cast, with both types.
     fn cast(&self, cast: RawCast) -> Result<NamedCast, ParseError>
         ensures { Gives named_cast result
-            (translate_cast (anywhere (env_of self.now)) (cast_of cast)) }
+            (translate_cast (anywhere (env_of_namer self.now)) (cast_of cast)) }
     {
         let source = match heap_type_of(self.indices, cast.source) {
             Ok(source) => source,
@@ -114,7 +114,7 @@ impl Namer<'_> {
 
     /// A block type with its parameters and results.
     fn block(&self, ty: BlockType) -> Result<NamedBlockType, ParseError>
-        ensures { GivesOrMemory named_block result (name_block (env_of self.now) ty) }
+        ensures { GivesOrMemory named_block result (name_block (env_of_namer self.now) ty) }
     {
         match ty {
             BlockType::Empty => block_type(self.alloc, &[], &[]),
@@ -136,7 +136,7 @@ impl Namer<'_> {
 
     /// The id of a tag, if there is one.
     fn tag(&self, index: Option<u32>) -> Result<Option<TagId>, ParseError>
-        ensures { result ≡ translate_tag (anywhere (env_of self.now)).index index }
+        ensures { result ≡ translate_tag (anywhere (env_of_namer self.now)).index index }
     {
         match index {
             Some(index) => Ok(Some(self.indices.get_tag(index)?)),
@@ -146,10 +146,10 @@ impl Namer<'_> {
 
     /// The clauses of a `try_table`.
     fn clauses(&self, catches: &CatchList<'_>) -> Result<Vec<NamedCatch>, ParseError>
-        ensures ok { IfOk result (λ made. each (translate_clause (anywhere (env_of self.now)))
+        ensures ok { IfOk result (λ made. each (translate_clause (anywhere (env_of_namer self.now)))
             catches.now ≡ Ok (map named_clause made.items)) }
         ensures err { IfErr result (λ e. (e ≡ ParseFault.Memory)
-            ⊎ (each (translate_clause (anywhere (env_of self.now))) catches.now ≡ Err e)) }
+            ⊎ (each (translate_clause (anywhere (env_of_namer self.now))) catches.now ≡ Err e)) }
     {
         let mut made = Vec::new(self.alloc);
         let mut raw = catches.iter();
@@ -188,7 +188,7 @@ impl Namer<'_> {
         immediates: Immediates<BrTable<'_>, CatchList<'_>>,
     ) -> Result<NamedImmediates, ParseError>
         ensures { GivesOrMemory named_immediates result
-            (translate_immediates (anywhere (env_of self.now)) (immediates_of immediates.entry)) }
+            (translate_immediates (anywhere (env_of_namer self.now)) (immediates_of immediates.entry)) }
     {
         match immediates {
             Immediates::Nothing => Ok(NamedImmediates::Nothing),
@@ -241,7 +241,7 @@ impl Namer<'_> {
     /// they are labels of open constructs if a parse accepts the operator.
     pub fn name(&self, operator: &Operator<'_>) -> Result<NamedOp, ParseError>
         ensures { GivesOrMemory named_operation result
-            (translate (anywhere (env_of self.now)) (meaning operator.now)) }
+            (translate (anywhere (env_of_namer self.now)) (meaning operator.now)) }
     {
         let (opcode, immediates) = operator.parts();
         match self.immediates(immediates) {

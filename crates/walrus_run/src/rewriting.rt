@@ -9,7 +9,7 @@ ghost use Rattle.walrus_parser.specs.Bodies.{IsFunction};
 ghost use Rattle.walrus_numbering.specs.NumberMaps.{numbers_by};
 ghost use Rattle.walrus_rewrite.specs.declared.error.RewriteError.TheVariants.{Parse};
 ghost use Rattle.walrus_run.specs.Demo.{demo, demo_module, demo_types, demo_indices, demo_args, demo_environment, demo_numbers};
-ghost use Rattle.walrus_run.specs.Rewriting.{IsNormalBytes, IsRewritten, IsParsed, IsFaulty};
+ghost use Rattle.walrus_run.specs.Rewriting.{IsNormalBytes, IsRewrittenDemo, IsParsedDemo, IsFaulty};
 ghost use Rattle.walrus_rewrite.specs.Errors.{IsOutOfMemory};
 
 use crate::demo;
@@ -44,7 +44,7 @@ fn written_operators(
     requires module_is { «module».now ≡ demo_module }
     requires numbers_are { numbers_by demo_types numbers.now [] ≡ demo_numbers }
     requires args_are { function.now.args ≡ demo_args }
-    requires is_parsed { IsParsed function.now.builder }
+    requires is_parsed { IsParsedDemo function.now.builder }
     ensures ok { IfOk result (λ out. (b : Body Occurrence)
         → IsFunction function.now.builder (body_tree demo_environment b)
         → IsNormalBytes b out.items) }
@@ -77,7 +77,7 @@ fn rewrite(
     requires module_is { «module».now ≡ demo_module }
     requires indices_are { indices.now ≡ demo_indices }
     requires numbers_are { numbers_by demo_types numbers.now [] ≡ demo_numbers }
-    ensures ok { IfOk result (λ out. IsRewritten ops.now out.items) }
+    ensures ok { IfOk result (λ out. IsRewrittenDemo ops.now out.items) }
     ensures err { IfErr result (λ e. IsOutOfMemory e ⊎ IsFaulty ops.now e) }
 {
     let body = FunctionBody {
@@ -118,7 +118,7 @@ fn rewrite(
 pub fn rewrite_demo(alloc: Global, ops: &[u8]) -> Result<Vec<u8>, RewriteError>
     // The result is the bytes of an accepted body's normal form, and a refusal is for the first
     // fault.
-    ensures written { IfOk result (λ out. IsRewritten ops.now out.items) }
+    ensures written { IfOk result (λ out. IsRewrittenDemo ops.now out.items) }
     ensures refused { IfErr result (λ e. IsOutOfMemory e ⊎ IsFaulty ops.now e) }
 
     // Unless memory runs out, each accepted body is rewritten and each first fault is reported.

@@ -8,7 +8,7 @@ ghost use Rattle.wasm_body.specs.Parsing.Lists.{failure};
 ghost use Rattle.walrus_validators.specs.Checking.{Checks, placed_at, fault_of, fault_of_refusal};
 ghost use Rattle.walrus_validators.specs.Locating.{MayCall, Locates, HasNoLocation};
 ghost use Rattle.walrus_validators.specs.Admitting.{AdmitsAs, IsAdmitted};
-ghost use Rattle.wasm_ops.specs.CommonOperators.{listed};
+ghost use Rattle.wasm_ops.specs.CommonOperators.{common_listed};
 ghost use Rattle.wasm_ops.specs.Position.{IsAfter};
 
 use crate::check::{CheckError, OpCheck};
@@ -123,7 +123,7 @@ pub fn check_common<V: OpCheck>(
     at: usize,
     common: CommonOperator,
 ) -> Result<(), CheckError>
-    ensures { Checks V.check (V.state validator.old) (placed_at (meaning (listed common)) at)
+    ensures { Checks V.check (V.state validator.old) (placed_at (meaning (common_listed common)) at)
         result (V.state validator.new) }
 {
     match common {

@@ -55,12 +55,12 @@ numbering to = record {
 }
 
 -- with numbers, and the numbers of types
-abbrev pub with_numbers : Numbers → Writing ℕ BlockType
-with_numbers to = record { translation = then_by (numbering to); balanced = to.balanced }
+abbrev pub writing_numbers : Numbers → Writing ℕ BlockType
+writing_numbers to = record { translation = then_by (numbering to); balanced = to.balanced }
 
 -- the operators of a tree as they are encoded, each at its location
 abbrev pub numbered_text : Numbers → FunctionTree → Result (List (Located RawOperation)) EmitError
-numbered_text to t = tree_text (with_numbers to) t
+numbered_text to t = tree_text (writing_numbers to) t
 
 -- the shortest encodings of the operators, one after the other
 abbrev pub bytes_of : List (Located RawOperation) → List ℕ

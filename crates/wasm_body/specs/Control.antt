@@ -132,10 +132,10 @@ branches _ = TableBranch [] 0
 abbrev pub catching : CatchClause ℕ → Clause
 catching c = record { tag = c.tag; label = c.label }
 
-abbrev pub catches : {B : Type 0} → List (Immediate ℕ B) → List Clause
-catches [] = []
-catches (clauses cs ∷ is) = map catching cs
-catches (i ∷ is) = catches is
+abbrev pub catch_list : {B : Type 0} → List (Immediate ℕ B) → List Clause
+catch_list [] = []
+catch_list (clauses cs ∷ is) = map catching cs
+catch_list (i ∷ is) = catch_list is
 
 abbrev pub control_by : {B : Type 0} → Role → List (Immediate ℕ B) → Control
 control_by an_unreachable is = Does Unreachable
@@ -157,7 +157,7 @@ control_by a_return is = Does Return
 control_by a_tail_call is = Does TailCall
 control_by a_delegate is = Delegate (first_depth is)
 control_by a_catch_all is = CatchAll
-control_by a_try_table is = Opens (TryTable (catches is))
+control_by a_try_table is = Opens (TryTable (catch_list is))
 control_by a_plain is = Does Plain
 
 abbrev pub control_of : {B : Type 0} → Operation ℕ B → Control

@@ -19,8 +19,8 @@ abbrev pub controls : List (Located NamedOperation) → List Control
 controls xs = map (λ x. control_of x.op) xs
 
 -- the operators that a list executes
-abbrev pub operators_of : List (Located NamedOperation) → List Outcome → (turns : ℕ) → Run (Option NamedOperation)
-operators_of xs outcomes turns = shown_by (map (λ x. x.op) xs) (run_by_place (controls xs) outcomes turns)
+abbrev pub executed_operators : List (Located NamedOperation) → List Outcome → (turns : ℕ) → Run (Option NamedOperation)
+executed_operators xs outcomes turns = shown_by (map (λ x. x.op) xs) (run_by_place (controls xs) outcomes turns)
 
 -- the locations of the operators that a list executes
 abbrev pub locations_of : List (Located NamedOperation) → List Outcome → (turns : ℕ) → Run (Option ℕ)
@@ -28,7 +28,7 @@ locations_of xs outcomes turns = shown_by (map (λ x. x.location) xs) (run_by_pl
 
 -- The two lists execute the same operators, at the same locations, and end in the same way: for all outcomes and turns.
 pub record ExecuteAlike (xs ys : List (Located NamedOperation)) : Type 0 where
-  pub operators : (outcomes : List Outcome) (turns : ℕ) → operators_of xs outcomes turns ≡ operators_of ys outcomes turns
+  pub operators : (outcomes : List Outcome) (turns : ℕ) → executed_operators xs outcomes turns ≡ executed_operators ys outcomes turns
   pub locations : (outcomes : List Outcome) (turns : ℕ) → locations_of xs outcomes turns ≡ locations_of ys outcomes turns
 
 -- The tree has a text, which executes alike with these operators.
@@ -52,7 +52,7 @@ ExecutionsKept =
 -- Each event of a run by place has its operator: the operators at the places of the run are those that the machine shows when
 -- it runs on the operators themselves.
 pub record ShowsOperators (xs : List (Located NamedOperation)) (outcomes : List Outcome) (turns : ℕ) : Type 0 where
-  pub operators : operators_of xs outcomes turns ≡ show_run (λ x. Some x.op) (run (map mark_named xs) outcomes turns)
+  pub operators : executed_operators xs outcomes turns ≡ show_run (λ x. Some x.op) (run (map mark_named xs) outcomes turns)
   pub locations : locations_of xs outcomes turns ≡ show_run (λ x. Some x.location) (run (map mark_named xs) outcomes turns)
 
 abbrev pub RunsShowOperators : Type 0

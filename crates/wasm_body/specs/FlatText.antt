@@ -70,21 +70,21 @@ abbrev mutual
 -- ---- the operators that close the sequences of an instruction
 
 -- lawful clauses of a `try`: any number of handlers by tag, then at most one of all tags; or one delegate alone
-abbrev pub is_empty : List LegacyClause → Bool
-is_empty [] = true
-is_empty (c ∷ cs) = false
+abbrev pub has_no_clauses : List LegacyClause → Bool
+has_no_clauses [] = true
+has_no_clauses (c ∷ cs) = false
 
 abbrev pub are_handlers : List LegacyClause → Bool
 are_handlers [] = true
 are_handlers (handles t ∷ cs) = are_handlers cs
-are_handlers (handles_all ∷ cs) = is_empty cs
+are_handlers (handles_all ∷ cs) = has_no_clauses cs
 are_handlers (delegates n ∷ cs) = false
 
 abbrev pub are_lawful : List LegacyClause → Bool
 are_lawful [] = true
 are_lawful (handles t ∷ cs) = are_handlers cs
-are_lawful (handles_all ∷ cs) = is_empty cs
-are_lawful (delegates n ∷ cs) = is_empty cs
+are_lawful (handles_all ∷ cs) = has_no_clauses cs
+are_lawful (delegates n ∷ cs) = has_no_clauses cs
 
 -- the body of a `try` and each handler end where the next clause begins, and the last one ends at the `end`
 abbrev pub try_closers : List LegacyClause → List TextOperation
@@ -113,31 +113,31 @@ abbrev pub written : {M C : Type 0} → TextTranslation M C → TextOperation �
 written w o l = translate w o >>= λ x. Ok (at_location x l)
 
 -- the same translation, with this block type for each
-abbrev pub typed : {M C : Type 0} → TextTranslation M C → InstrSeqType → Translation Target (Unit {0}) M C EmitError
-typed w t = relabelled w w.label (λ b. w.block t) w.alignment
+abbrev pub with_block_type : {M C : Type 0} → TextTranslation M C → InstrSeqType → Translation Target (Unit {0}) M C EmitError
+with_block_type w t = relabelled w w.label (λ b. w.block t) w.alignment
 
 abbrev pub first_type : Sequences Head Instruction → InstrSeqType
 first_type no_sequences = Simple None
 first_type (sequence h is r) = h.type
 
 -- an instruction's own operator
-abbrev pub opened : {M C : Type 0} → TextTranslation M C → Instruction → InstrSeqType → Result (Located (Operation M C)) EmitError
-opened w i t = if are_lawful i.clauses then (translate (typed w t) i.op >>= λ x. Ok (at_location x i.location)) else Err BadClauses
+abbrev pub opener_text : {M C : Type 0} → TextTranslation M C → Instruction → InstrSeqType → Result (Located (Operation M C)) EmitError
+opener_text w i t = if are_lawful i.clauses then (translate (with_block_type w t) i.op >>= λ x. Ok (at_location x i.location)) else Err BadClauses
 
 -- each sequence, and after it the operator that closes it, at the location of its end
 abbrev mutual
-  pub text : {M C : Type 0} → TextTranslation M C → Items Head Instruction → List (Result (Located (Operation M C)) EmitError) → List (Result (Located (Operation M C)) EmitError)
-  text w no_items k = k
-  text w (item i ss r) k = opened w i (first_type ss) ∷ texts w (closers (role_of i.op.opcode) i.clauses ss) ss (text w r k)
+  pub items_text : {M C : Type 0} → TextTranslation M C → Items Head Instruction → List (Result (Located (Operation M C)) EmitError) → List (Result (Located (Operation M C)) EmitError)
+  items_text w no_items k = k
+  items_text w (item i ss r) k = opener_text w i (first_type ss) ∷ sequences_text w (closers (role_of i.op.opcode) i.clauses ss) ss (items_text w r k)
 
-  pub texts : {M C : Type 0} → TextTranslation M C → List TextOperation → Sequences Head Instruction → List (Result (Located (Operation M C)) EmitError) → List (Result (Located (Operation M C)) EmitError)
-  texts w cs no_sequences k = k
-  texts w [] (sequence h is r) k = k
-  texts w (c ∷ cs) (sequence h is r) k = text w is (written w c h.end_location ∷ texts w cs r k)
+  pub sequences_text : {M C : Type 0} → TextTranslation M C → List TextOperation → Sequences Head Instruction → List (Result (Located (Operation M C)) EmitError) → List (Result (Located (Operation M C)) EmitError)
+  sequences_text w cs no_sequences k = k
+  sequences_text w [] (sequence h is r) k = k
+  sequences_text w (c ∷ cs) (sequence h is r) k = items_text w is (written w c h.end_location ∷ sequences_text w cs r k)
 
 -- the operators of the tree, or the first fault in the order of writing
 abbrev pub tree_text : {M C : Type 0} → Writing M C → FunctionTree → Result (List (Located (Operation M C))) EmitError
-tree_text w t = gather (texts w.translation (end_operation ∷ []) (written_sequences w.balanced (alone t)) [])
+tree_text w t = gather (sequences_text w.translation (end_operation ∷ []) (written_sequences w.balanced (alone t)) [])
 
 -- ---- ways of writing
 
@@ -170,9 +170,9 @@ abbrev pub then_by : {M C : Type 0} → Translation ℕ InstrSeqType M C EmitErr
 then_by f = relabelled f (λ t. depth_of t >>= λ n. f.label n) f.block (λ n. f.alignment (exponent_of n))
 
 -- from ids and types of sequences to names, if the module has the types
-abbrev pub names : Typing → Translation ℕ InstrSeqType ℕ Signature EmitError
-names m = keeping_numbers (λ n. Ok n) (λ t. some_or (m.signature_of t) (Index (Unnumbered Types))) (λ e. e)
+abbrev pub naming_translation : Typing → Translation ℕ InstrSeqType ℕ Signature EmitError
+naming_translation m = keeping_numbers (λ n. Ok n) (λ t. some_or (m.signature_of t) (Index (Unnumbered Types))) (λ e. e)
 
 -- with ids, and parameters and results
 abbrev pub with_names : Typing → Writing ℕ Signature
-with_names m = record { translation = then_by (names m); balanced = balances m }
+with_names m = record { translation = then_by (naming_translation m); balanced = balances m }

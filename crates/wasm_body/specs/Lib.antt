@@ -8,7 +8,7 @@ pub mod Frames
 -- accepted bodies and first faults: the relations, parsing on lists, and the laws that connect both
 pub mod Parsing
 -- the tree of a function, by operators; the operator of each instruction; the tree in a builder; the normal form; the tree of
--- the operators that are written; dead sequences; typed operators; slots in walk order
+-- the operators that are written; unreachable sequences; typed operators; slots in walk order
 pub mod FunctionTree
 pub mod InstructionTable
 pub mod TreeOfFunction

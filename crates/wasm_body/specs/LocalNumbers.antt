@@ -31,17 +31,17 @@ locals_among (local n ∷ is) = n ∷ locals_among is
 locals_among (i ∷ is) = locals_among is
 
 abbrev mutual
-  pub locals_in : Items Head Instruction → List ℕ
-  locals_in no_items = []
-  locals_in (item i inside rest) = locals_among i.op.immediates ++ (locals_inside inside ++ locals_in rest)
+  pub locals_in_items : Items Head Instruction → List ℕ
+  locals_in_items no_items = []
+  locals_in_items (item i inside rest) = locals_among i.op.immediates ++ (locals_inside inside ++ locals_in_items rest)
 
   pub locals_inside : Sequences Head Instruction → List ℕ
   locals_inside no_sequences = []
-  locals_inside (sequence head items rest) = locals_in items ++ locals_inside rest
+  locals_inside (sequence head items rest) = locals_in_items items ++ locals_inside rest
 
 -- the locals that the operators of a tree name, in walk order, with repetitions
 abbrev pub locals_of : FunctionTree → List ℕ
-locals_of t = locals_in t.items
+locals_of t = locals_in_items t.items
 
 abbrev pub uses_local : FunctionTree → ℕ → Bool
 uses_local t id = among id (locals_of t)
@@ -77,8 +77,8 @@ abbrev pub number_of_local : (args others : List ℕ) → ℕ → Option ℕ
 number_of_local args others id = last_place (args ++ others) id
 
 -- the same numbers of other ids, and these numbers of locals
-abbrev pub with_locals : Numbers → (args others : List ℕ) → Numbers
-with_locals to args others = record {
+abbrev pub numbering_locals : Numbers → (args others : List ℕ) → Numbers
+numbering_locals to args others = record {
   number_of = to.number_of;
   local_number = λ id. some_or (number_of_local args others id) UnnumberedLocal;
   balanced = to.balanced;

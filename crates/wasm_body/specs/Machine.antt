@@ -61,14 +61,14 @@ pub data Shape : Type 0 where
   Closer : Shape
   Other : Shape
 
-abbrev pub shape_of : Control → Shape
-shape_of (Does action) = Other
-shape_of (Opens construct) = Opener
-shape_of Else = Part
-shape_of (Catch tag) = Part
-shape_of CatchAll = Part
-shape_of End = Closer
-shape_of (Delegate n) = Closer
+abbrev pub control_shape : Control → Shape
+control_shape (Does action) = Other
+control_shape (Opens construct) = Opener
+control_shape Else = Part
+control_shape (Catch tag) = Part
+control_shape CatchAll = Part
+control_shape End = Closer
+control_shape (Delegate n) = Closer
 
 -- The search starts after an opener; since then there were `depth` more openers than closers. The closer of the opener is the
 -- next closer at depth zero, and its parts are the parts at depth zero before that. The search finds the first part that passes
@@ -91,7 +91,7 @@ seek_at Part (suc depth) p i here on = on (suc depth) i
 
 abbrev pub seek : {A : Type 0} → (Control → Bool) → (depth : ℕ) → ℕ → List (Marked A) → Found A
 seek test depth i [] = found i []
-seek test depth i (x ∷ xs) = seek_at (shape_of x.control) depth (test x.control) i (x ∷ xs) (λ d j. seek test d j xs)
+seek test depth i (x ∷ xs) = seek_at (control_shape x.control) depth (test x.control) i (x ∷ xs) (λ d j. seek test d j xs)
 
 abbrev pub tail : {A : Type 0} → List A → List A
 tail [] = []

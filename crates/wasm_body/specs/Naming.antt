@@ -14,7 +14,7 @@ use Rattle.wasm_body.specs.declared.error.ParseError.{ParseError}
 use Rattle.wasm_body.specs.declared.error.ParseError.TheVariants.{Index, NoSuchLabel, NotAFunctionType, TypeMissing, EntryTypeMissing, ElseOutsideIf, CatchOutsideTry, DelegateOutsideTry, RethrowOutsideHandler, UnknownId}
 use Rattle.wasm_numbers.specs.Results.{◌>>=◌, unless, some_or, with_fault}
 use Rattle.wasm_body.specs.Control.{Control, Does, Opens, Else, Catch, CatchAll, End, Delegate, control_of}
-use Rattle.wasm_body.specs.Frames.{Frame, handler_at, outside, opener_of, is_allowed}
+use Rattle.wasm_body.specs.Frames.{SequenceFrame, handler_at, outside, opener_of, is_allowed}
 use Rattle.wasm_body.specs.Translation.{Translation, keeping_numbers, translate, translate_value}
 
 -- An operator by its name: with ids for indices, and with parameters and results for a block type. Depths stay as they are.
@@ -44,7 +44,7 @@ position_fault Else = ElseOutsideIf
 position_fault (Delegate n) = DelegateOutsideTry
 position_fault _ = CatchOutsideTry
 
-abbrev pub allowed : {A : Type 0} → List (Frame A) → Control → Result (Unit {0}) ParseError
+abbrev pub allowed : {A : Type 0} → List (SequenceFrame A) → Control → Result (Unit {0}) ParseError
 allowed fs c = unless (is_allowed fs c) (position_fault c)
 
 -- ---- 2: the immediates, in the order in which they are written
@@ -62,13 +62,13 @@ name_block env (Value t) = translate_value (id_at env) t >>= λ u. Ok (signature
 name_block env (FuncType n) = id_at env Types n >>= λ id. function_type env id
 
 -- a label is open if it is less than the number of sequences around the operator, the function's own included
-abbrev pub open_label : {A : Type 0} → List (Frame A) → ℕ → Result ℕ ParseError
+abbrev pub open_label : {A : Type 0} → List (SequenceFrame A) → ℕ → Result ℕ ParseError
 open_label fs n = unless (nat_lt n (length fs)) NoSuchLabel >>= λ u. Ok n
 
-abbrev pub handler_label : {A : Type 0} → List (Frame A) → ℕ → Result ℕ ParseError
+abbrev pub handler_label : {A : Type 0} → List (SequenceFrame A) → ℕ → Result ℕ ParseError
 handler_label fs n = open_label fs n >>= λ m. unless (handler_at fs n) RethrowOutsideHandler >>= λ u. Ok n
 
-abbrev pub naming : {A : Type 0} → Environment → List (Frame A) → Translation ℕ BlockType ℕ Signature ParseError
+abbrev pub naming : {A : Type 0} → Environment → List (SequenceFrame A) → Translation ℕ BlockType ℕ Signature ParseError
 naming env fs = record (keeping_numbers (open_label fs) (name_block env) (λ e. e)) {
   index = id_at env;
   local = λ n. with_fault Index (env.local_of n);
@@ -91,13 +91,13 @@ abbrev pub block_signature : NamedOperation → Signature
 block_signature o = first_signature (block_types o.immediates)
 
 -- the results of the innermost construct
-abbrev pub results_of : Option Occurrence → List (ValType ℕ)
-results_of (Some x) = (block_signature x.named).results
-results_of None = []
+abbrev pub results_around : Option Occurrence → List (ValType ℕ)
+results_around (Some x) = (block_signature x.named).results
+results_around None = []
 
-abbrev pub construct_results : List (Frame Occurrence) → List (ValType ℕ)
+abbrev pub construct_results : List (SequenceFrame Occurrence) → List (ValType ℕ)
 construct_results [] = []
-construct_results (f ∷ fs) = results_of (opener_of f)
+construct_results (f ∷ fs) = results_around (opener_of f)
 
 -- the module has a type of a sequence with this signature
 abbrev pub has_pick : Environment → Signature → Result (Unit {0}) ParseError
@@ -108,7 +108,7 @@ tag_type env tag = some_or (slice_get env.tags tag) UnknownId >>= λ type. funct
 
 -- The module has the type of the sequence that an operator opens. The sequence of a construct has the parameters and results
 -- of its block type. A handler has the parameters of its tag, or none if it catches all, and the results of its `try`.
-abbrev pub has_types : Environment → List (Frame Occurrence) → Control → NamedOperation → Result (Unit {0}) ParseError
+abbrev pub has_types : Environment → List (SequenceFrame Occurrence) → Control → NamedOperation → Result (Unit {0}) ParseError
 has_types env fs (Opens construct) o = has_pick env (block_signature o)
 has_types env fs (Catch tag) o = tag_type env tag >>= λ s. has_pick env (signature s.parameters (construct_results fs))
 has_types env fs CatchAll o = has_pick env (signature [] (construct_results fs))
@@ -120,7 +120,7 @@ has_types env fs (Delegate n) o = Ok tt
 -- ---- an operator in its place
 
 -- The name of an operator inside these frames, or the fault of the first rule that it breaks.
-abbrev pub named_in : Environment → List (Frame Occurrence) → RawOperation → Result NamedOperation ParseError
+abbrev pub named_in : Environment → List (SequenceFrame Occurrence) → RawOperation → Result NamedOperation ParseError
 named_in env fs o =
     allowed fs (control_of o) >>= λ _.
     translate (naming env fs) o >>= λ named.

@@ -35,9 +35,9 @@ is_balanced_type None = false
 abbrev pub balances : Typing → InstrSeqType → Bool
 balances m t = is_balanced_type (m.signature_of t)
 
-abbrev pub parameters_of : Option Signature → List (ValType ℕ)
-parameters_of (Some s) = s.parameters
-parameters_of None = []
+abbrev pub parameters_or_none : Option Signature → List (ValType ℕ)
+parameters_or_none (Some s) = s.parameters
+parameters_or_none None = []
 
 abbrev pub entry_type : Result ℕ ParseError → InstrSeqType
 entry_type (Ok id) = MultiValue id
@@ -48,7 +48,7 @@ abbrev pub typing_of : Environment → Typing
 typing_of env = record {
   picked = λ s. unwrap_or (pick env.types s) (Simple None);
   signature_of = signature_of_type env.types;
-  tag_parameters = λ tag. parameters_of (option_and_then (signature_of env.types) (slice_get env.tags tag));
+  tag_parameters = λ tag. parameters_or_none (option_and_then (signature_of env.types) (slice_get env.tags tag));
   entry = entry_type (entry_type_id env);
 }
 
@@ -77,26 +77,26 @@ instruction a cs = record { op = kept_operation a.op; clauses = cs; location = a
 pub data Fate : Type 0 where
   Drops : Fate
   Stays : Fate
-  Diverges : Fate
+  MakesUnreachable : Fate
 
 abbrev pub fate : Action → Fate
 fate Nop = Drops
 fate Plain = Stays
-fate (Branch n) = Diverges
+fate (Branch n) = MakesUnreachable
 fate (ConditionalBranch n) = Stays
-fate (TableBranch ts d) = Diverges
-fate Return = Diverges
-fate Unreachable = Diverges
-fate (Throw t) = Diverges
-fate ThrowRef = Diverges
-fate (Rethrow n) = Diverges
+fate (TableBranch ts d) = MakesUnreachable
+fate Return = MakesUnreachable
+fate Unreachable = MakesUnreachable
+fate (Throw t) = MakesUnreachable
+fate ThrowRef = MakesUnreachable
+fate (Rethrow n) = MakesUnreachable
 fate TailCall = Stays
 
 -- an operator that is not a construct, before the normal form of the rest of its sequence
 abbrev pub with_fate : Fate → Instruction → Items Head Instruction → Items Head Instruction
 with_fate Drops i rest = rest
 with_fate Stays i rest = item i no_sequences rest
-with_fate Diverges i rest = item i no_sequences no_items
+with_fate MakesUnreachable i rest = item i no_sequences no_items
 
 -- ---- trees
 
@@ -133,15 +133,15 @@ abbrev mutual
       (sequence (head (construct_type m a.op) e.location) (normal m c) no_sequences))
       (normal m r)
   normal m (TryCatch a b cs r) =
-      item (instruction a (legacy_clauses cs)) (sequence (head (construct_type m a.op) (closed_at cs)) (normal m b) (handlers m a.op cs)) (normal m r)
+      item (instruction a (legacy_clauses cs)) (sequence (head (construct_type m a.op) (closed_at cs)) (normal m b) (handler_sequences m a.op cs)) (normal m r)
   normal m (TryDelegate a b e n r) =
       item (instruction a (delegates n ∷ [])) (sequence (head (construct_type m a.op) default_location) (normal m b) no_sequences) (normal m r)
 
   -- the handlers of the `try` that o opens
-  pub handlers : Typing → NamedOperation → Clauses (Located NamedOperation) → Sequences Head Instruction
-  handlers m o (Ended e) = no_sequences
-  handlers m o (Catches a t b cs) = sequence (head (handler_type m o (m.tag_parameters t)) (closed_at cs)) (normal m b) (handlers m o cs)
-  handlers m o (CatchesAll a b e) = sequence (head (handler_type m o []) e.location) (normal m b) no_sequences
+  pub handler_sequences : Typing → NamedOperation → Clauses (Located NamedOperation) → Sequences Head Instruction
+  handler_sequences m o (Ended e) = no_sequences
+  handler_sequences m o (Catches a t b cs) = sequence (head (handler_type m o (m.tag_parameters t)) (closed_at cs)) (normal m b) (handler_sequences m o cs)
+  handler_sequences m o (CatchesAll a b e) = sequence (head (handler_type m o []) e.location) (normal m b) no_sequences
 
 abbrev pub normal_form : Typing → Body (Located NamedOperation) → FunctionTree
 normal_form m b = record { head = head m.entry b.close.location; items = normal m b.sequence }

@@ -10,7 +10,7 @@ use Rattle.wasm_body.specs.SourceTree.{Sequence, Empty, Single, Wrapped, IfThen,
 use Rattle.wasm_body.specs.Translation.{Located, at_location}
 use Rattle.wasm_body.specs.Naming.{NamedOperation}
 use Rattle.wasm_body.specs.FunctionTree.{last_location}
-use Rattle.wasm_body.specs.NormalForm.{Typing, balances, construct_type, Fate, Drops, Stays, Diverges, fate}
+use Rattle.wasm_body.specs.NormalForm.{Typing, balances, construct_type, Fate, Drops, Stays, MakesUnreachable, fate}
 
 -- ---- the operators that part and close constructs, each made anew, with this location
 
@@ -36,17 +36,17 @@ delegate_at n l = at_location (delegate_operation n) l
 abbrev pub single_with_fate : Fate → Located NamedOperation → Action → Sequence (Located NamedOperation) → Sequence (Located NamedOperation)
 single_with_fate Drops a action rest = rest
 single_with_fate Stays a action rest = Single a action rest
-single_with_fate Diverges a action rest = Single a action Empty
+single_with_fate MakesUnreachable a action rest = Single a action Empty
 
 -- whether nothing of a sequence is written
-abbrev pub is_empty : Sequence (Located NamedOperation) → Bool
-is_empty Empty = true
-is_empty (Single a action r) = false
-is_empty (Wrapped a w b e r) = false
-is_empty (IfThen a b e r) = false
-is_empty (IfElse a b l c e r) = false
-is_empty (TryCatch a b cs r) = false
-is_empty (TryDelegate a b e n r) = false
+abbrev pub is_empty_sequence : Sequence (Located NamedOperation) → Bool
+is_empty_sequence Empty = true
+is_empty_sequence (Single a action r) = false
+is_empty_sequence (Wrapped a w b e r) = false
+is_empty_sequence (IfThen a b e r) = false
+is_empty_sequence (IfElse a b l c e r) = false
+is_empty_sequence (TryCatch a b cs r) = false
+is_empty_sequence (TryDelegate a b e n r) = false
 
 -- An `if` whose consequent is closed at the first of two locations, and its alternative at the second. A short one is written
 -- without `else`: its `end` has the second location, and the first only if the second is the default location. Any other is
@@ -73,7 +73,7 @@ abbrev mutual
   rewritten balanced (IfThen a b e r) =
       written_if (balanced a.op) a (rewritten balanced b) e.location Empty default_location (rewritten balanced r)
   rewritten balanced (IfElse a b l c e r) =
-      written_if (balanced a.op && is_empty (rewritten balanced c)) a (rewritten balanced b) l.location (rewritten balanced c) e.location (rewritten balanced r)
+      written_if (balanced a.op && is_empty_sequence (rewritten balanced c)) a (rewritten balanced b) l.location (rewritten balanced c) e.location (rewritten balanced r)
   rewritten balanced (TryCatch a b cs r) = TryCatch a (rewritten balanced b) (rewritten_clauses balanced cs) (rewritten balanced r)
   rewritten balanced (TryDelegate a b e n r) =
       TryDelegate a (rewritten balanced b) (delegate_at n default_location) n (rewritten balanced r)

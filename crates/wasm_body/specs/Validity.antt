@@ -107,10 +107,10 @@ may_catch OfCatch = true
 may_catch _ = false
 
 -- whether `rethrow` may name it
-abbrev pub is_handler : Opened → Bool
-is_handler OfCatch = true
-is_handler OfCatchAll = true
-is_handler _ = false
+abbrev pub is_catch : Opened → Bool
+is_catch OfCatch = true
+is_catch OfCatchAll = true
+is_catch _ = false
 
 -- ---- operators after which code can't be reached: those whose rule is "unreachable()" at its end
 
@@ -130,10 +130,10 @@ transfers TailCall = true
 -- ---- clauses
 
 -- those of a `try_table`
-abbrev pub clauses_of : List (Immediate ℕ Signature) → List (CatchClause ℕ)
-clauses_of [] = []
-clauses_of (clauses cs ∷ is) = cs
-clauses_of (i ∷ is) = clauses_of is
+abbrev pub try_table_clauses : List (Immediate ℕ Signature) → List (CatchClause ℕ)
+try_table_clauses [] = []
+try_table_clauses (clauses cs ∷ is) = cs
+try_table_clauses (i ∷ is) = try_table_clauses is
 
 abbrev pub tag_types : Typing → Option ℕ → List (ValType ℕ)
 tag_types m None = []
@@ -175,10 +175,10 @@ abbrev pub up_to : {X : Type 0} → ℕ → List X → List X
 up_to h xs = drop (length xs - h) xs
 
 -- the frame that a label names: "error_if(ctrls.size() < n)"
-abbrev pub label : List ControlFrame → ℕ → Checked ControlFrame
-label [] n = Err refused
-label (c ∷ cs) zero = Ok c
-label (c ∷ cs) (suc n) = label cs n
+abbrev pub labelled_frame : List ControlFrame → ℕ → Checked ControlFrame
+labelled_frame [] n = Err refused
+labelled_frame (c ∷ cs) zero = Ok c
+labelled_frame (c ∷ cs) (suc n) = labelled_frame cs n
 
 abbrev pub types_by : Opened → ControlFrame → List (ValType ℕ)
 types_by OfLoop c = c.start_types
@@ -262,7 +262,7 @@ module _ {T : Type 0} (m : Typing) (r : OperandRules T) where
   abbrev pub targets : ControlFrame → List ControlFrame → List (Operand T) → ℕ → List ℕ → Checked (Unit {0})
   targets c cs xs arity [] = Ok tt
   targets c cs xs arity (n ∷ ns) =
-      label cs n >>= λ d. demand (nat_eq (length (label_types d)) arity) >>= λ u. pop_all c (label_types d) xs >>= λ q. targets c cs xs arity ns
+      labelled_frame cs n >>= λ d. demand (nat_eq (length (label_types d)) arity) >>= λ u. pop_all c (label_types d) xs >>= λ q. targets c cs xs arity ns
 
   abbrev pub popping : ControlFrame → List (ValType ℕ) → Stacks T → Checked (Stacks T)
   popping c ts s = pop_all c ts s.operands >>= λ xs. Ok (with_operands s xs)
@@ -277,15 +277,15 @@ module _ {T : Type 0} (m : Typing) (r : OperandRules T) where
   abbrev pub taken : Action → NamedOperation → ControlFrame → List ControlFrame → Stacks T → Checked (Stacks T)
   taken Nop o c cs s = Ok s
   taken Plain o c cs s = required (r.plain o (point c s)) >>= λ k. Ok (changed c k s)
-  taken (Branch n) o c cs s = label cs n >>= λ d. popping c (label_types d) s
-  taken (ConditionalBranch n) o c cs s = label cs n >>= λ d. required (r.conditional o (label_types d) (point c s)) >>= λ k. Ok (changed c k s)
+  taken (Branch n) o c cs s = labelled_frame cs n >>= λ d. popping c (label_types d) s
+  taken (ConditionalBranch n) o c cs s = labelled_frame cs n >>= λ d. required (r.conditional o (label_types d) (point c s)) >>= λ k. Ok (changed c k s)
   taken (TableBranch ns n) o c cs s =
-      pop c i32 s.operands >>= λ xs. label cs n >>= λ d. targets c cs xs (length (label_types d)) ns >>= λ u. popping c (label_types d) (with_operands s xs)
+      pop c i32 s.operands >>= λ xs. labelled_frame cs n >>= λ d. targets c cs xs (length (label_types d)) ns >>= λ u. popping c (label_types d) (with_operands s xs)
   taken Return o c cs s = popping c (results cs) s
   taken Unreachable o c cs s = Ok s
   taken (Throw tag) o c cs s = popping c (m.tag_parameters tag) s
   taken ThrowRef o c cs s = pop c exnref s.operands >>= λ xs. Ok (with_operands s xs)
-  taken (Rethrow n) o c cs s = label cs n >>= λ d. demand (is_handler d.opened) >>= λ u. Ok s
+  taken (Rethrow n) o c cs s = labelled_frame cs n >>= λ d. demand (is_catch d.opened) >>= λ u. Ok s
   taken TailCall o c cs s = demand (r.tail_call o (results cs) (point c s)) >>= λ u. Ok s
 
   -- "unreachable()": the operands are dropped down to the height
@@ -307,12 +307,12 @@ module _ {T : Type 0} (m : Typing) (r : OperandRules T) where
   abbrev pub hand : List ControlFrame → Stacks T → List (CatchClause ℕ) → Checked (Unit {0})
   hand cs s [] = Ok tt
   hand cs s (k ∷ ks) =
-      label cs k.label >>= λ d.
+      labelled_frame cs k.label >>= λ d.
       pop_control (control s OfCatch (handed m k) (label_types d)) (with_operands s (push_each (handed m k) s.operands)) >>= λ t. hand cs s ks
 
-  abbrev pub catching : Construct → NamedOperation → List ControlFrame → Stacks T → Checked (Unit {0})
-  catching (TryTable ks) o cs s = hand cs s (clauses_of o.immediates)
-  catching _ o cs s = Ok tt
+  abbrev pub checks_catches : Construct → NamedOperation → List ControlFrame → Stacks T → Checked (Unit {0})
+  checks_catches (TryTable ks) o cs s = hand cs s (try_table_clauses o.immediates)
+  checks_catches _ o cs s = Ok tt
 
   -- "pop_vals([t1*])"
   abbrev pub taken_by : Construct → NamedOperation → ControlFrame → Stacks T → Checked (Stacks T)
@@ -320,14 +320,14 @@ module _ {T : Type 0} (m : Typing) (r : OperandRules T) where
 
   -- "push_ctrl(opcode, [t1*], [t2*])"
   abbrev pub opens : Construct → NamedOperation → Stacks T → List ControlFrame → Checked (State T)
-  opens construct o s cs = catching construct o cs s >>= λ u. Ok (push_control (opened_by construct) (block_signature o).parameters (block_signature o).results s cs)
+  opens construct o s cs = checks_catches construct o cs s >>= λ u. Ok (push_control (opened_by construct) (block_signature o).parameters (block_signature o).results s cs)
 
   -- ---- operators that part or close a construct
 
   -- The `end` of an `if` without `else` is read as `else end` (section 5.4, binary format of control instructions).
-  abbrev pub ends : Opened → ControlFrame → Stacks T → Checked (Stacks T)
-  ends OfIf c s = pop_control (control s OfElse c.start_types c.end_types) (with_operands s (push_each c.start_types s.operands))
-  ends _ c s = Ok s
+  abbrev pub checks_end : Opened → ControlFrame → Stacks T → Checked (Stacks T)
+  checks_end OfIf c s = pop_control (control s OfElse c.start_types c.end_types) (with_operands s (push_each c.start_types s.operands))
+  checks_end _ c s = Ok s
 
   -- After an operator that closes the frame c in the frames cs, by "pop_ctrl()":
   --   else: "error_if(frame.opcode =/= if); push_ctrl(else, frame.start_types, frame.end_types)"
@@ -338,8 +338,8 @@ module _ {T : Type 0} (m : Typing) (r : OperandRules T) where
   next_sequence Else c s cs = demand (is_if c.opened) >>= λ u. Ok (push_control OfElse c.start_types c.end_types s cs)
   next_sequence (Catch tag) c s cs = demand (may_catch c.opened) >>= λ u. Ok (push_control OfCatch (m.tag_parameters tag) c.end_types s cs)
   next_sequence CatchAll c s cs = demand (may_catch c.opened) >>= λ u. Ok (push_control OfCatchAll [] c.end_types s cs)
-  next_sequence End c s cs = ends c.opened c s >>= λ t. Ok (given c.end_types t cs)
-  next_sequence (Delegate n) c s cs = demand (is_try c.opened) >>= λ u. label cs n >>= λ d. Ok (given c.end_types s cs)
+  next_sequence End c s cs = checks_end c.opened c s >>= λ t. Ok (given c.end_types t cs)
+  next_sequence (Delegate n) c s cs = demand (is_try c.opened) >>= λ u. labelled_frame cs n >>= λ d. Ok (given c.end_types s cs)
   next_sequence _ c s cs = Err refused
 
   -- ---- validation

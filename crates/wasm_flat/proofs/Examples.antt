@@ -18,7 +18,7 @@ use Rattle.wasm_body.specs.TextLaws.{mark_named}
 use Rattle.wasm_body.proofs.Examples.Operators.{unreachable, nop, block, loop, if, else, try, catch, throw, end, br, br_if, return, call, return_call, delegate, catch_all, drop, local_get, local_set, const}
 use Rattle.wasm_body.proofs.Examples.Modules.{nothing, number, demo, demo_numbers, numbers_of_locals, odd, odd_numbers}
 use Rattle.wasm_body.proofs.Examples.Rows.{located_names}
-use Rattle.wasm_flat.specs.Flat.{Named, Live, Waits, Dead, Dropped, Kept, FlatState, state, first_state, flat, state_behind, numbered, first_deadness, deadness, deadness_behind, locals_read}
+use Rattle.wasm_flat.specs.Flat.{Named, Live, Waits, Unreachable, Dropped, Kept, FlatState, flat_state, first_state, flat, state_behind, numbered_at_location, first_unreachability, unreachability, unreachability_behind, locals_read}
 
 -- ---- names and locations
 
@@ -40,19 +40,19 @@ after_return : written demo (return ∷ const 7 ∷ drop ∷ end ∷ []) ≡ at_
 after_return = refl
 
 -- 02 40 0c 00 41 07 1a 0b 41 05 1a 0b: the operators after the block are written
-after_dead_block : written demo (block Empty ∷ br 0 ∷ const 7 ∷ drop ∷ end ∷ const 5 ∷ drop ∷ end ∷ [])
+after_unreachable_block : written demo (block Empty ∷ br 0 ∷ const 7 ∷ drop ∷ end ∷ const 5 ∷ drop ∷ end ∷ [])
     ≡ at_location (block nothing) 0 ∷ at_location (br 0) 1 ∷ at_location end 4 ∷ at_location (const 5) 5 ∷ at_location drop 6 ∷ at_location end 7 ∷ []
-after_dead_block = refl
+after_unreachable_block = refl
 
--- 0c 00 02 40 01 0b 0b: a construct in dead code, and one inside of it
-dead_block : written demo (br 0 ∷ block Empty ∷ loop Empty ∷ nop ∷ end ∷ end ∷ const 7 ∷ end ∷ []) ≡ at_location (br 0) 0 ∷ at_location end 7 ∷ []
-dead_block = refl
+-- 0c 00 02 40 01 0b 0b: a construct in unreachable code, and one inside of it
+unreachable_block : written demo (br 0 ∷ block Empty ∷ loop Empty ∷ nop ∷ end ∷ end ∷ const 7 ∷ end ∷ []) ≡ at_location (br 0) 0 ∷ at_location end 7 ∷ []
+unreachable_block = refl
 
--- 0f 04 40 05 00 0b 06 40 07 00 19 0b 06 40 18 00 0b: the operators that part and close constructs in dead code
-dead_constructs : written demo
+-- 0f 04 40 05 00 0b 06 40 07 00 19 0b 06 40 18 00 0b: the operators that part and close constructs in unreachable code
+unreachable_constructs : written demo
     (return ∷ if Empty ∷ else ∷ unreachable ∷ end ∷ try Empty ∷ catch 0 ∷ catch_all ∷ end ∷ try Empty ∷ delegate 0 ∷ end ∷ [])
     ≡ at_location return 0 ∷ at_location end 11 ∷ []
-dead_constructs = refl
+unreachable_constructs = refl
 
 -- 12 00 41 07 1a 0b and 41 00 0d 00 0b: what comes after a tail call, or a branch that may not be taken, is written
 after_tail_call : written demo (return_call 0 ∷ const 7 ∷ drop ∷ end ∷ []) ≡ at_location (return_call 0) 0 ∷ at_location (const 7) 1 ∷ at_location drop 2 ∷ at_location end 3 ∷ []
@@ -79,7 +79,7 @@ full_else : written demo (const 7 ∷ if Empty ∷ else ∷ nop ∷ unreachable 
     ≡ at_location (const 7) 0 ∷ at_location (if nothing) 1 ∷ at_location else 2 ∷ at_location unreachable 4 ∷ at_location end 6 ∷ at_location end 7 ∷ []
 full_else = refl
 
--- 04 40 0f 01 05 02 40 0b 0b 0b: after a dead consequent, before a construct
+-- 04 40 0f 01 05 02 40 0b 0b 0b: after an unreachable consequent, before a construct
 else_before_block : written demo (if Empty ∷ return ∷ nop ∷ else ∷ block Empty ∷ end ∷ end ∷ end ∷ [])
     ≡ at_location (if nothing) 0 ∷ at_location return 1 ∷ at_location else 3 ∷ at_location (block nothing) 4 ∷ at_location end 5 ∷ at_location end 6
     ∷ at_location end 7 ∷ []
@@ -96,11 +96,11 @@ added_else : written demo (const 7 ∷ if (Value I32) ∷ const 2 ∷ end ∷ dr
     ∷ at_location drop 4 ∷ at_location end 5 ∷ []
 added_else = refl
 
--- the same where the consequent is dead: 41 07 04 7f 0f 01 0b 1a 0b
-added_else_dead : written demo (const 7 ∷ if (Value I32) ∷ return ∷ nop ∷ end ∷ drop ∷ end ∷ [])
+-- the same where the consequent is unreachable: 41 07 04 7f 0f 01 0b 1a 0b
+added_else_unreachable : written demo (const 7 ∷ if (Value I32) ∷ return ∷ nop ∷ end ∷ drop ∷ end ∷ [])
     ≡ at_location (const 7) 0 ∷ at_location (if number) 1 ∷ at_location return 2 ∷ at_location else 4 ∷ at_location end default_location ∷ at_location drop 5
     ∷ at_location end 6 ∷ []
-added_else_dead = refl
+added_else_unreachable = refl
 
 -- 41 07 04 7f 41 02 05 01 0b 1a 0b: an `else` that is needed is written, though nothing of its alternative is
 needed_else : written demo (const 7 ∷ if (Value I32) ∷ const 2 ∷ else ∷ nop ∷ end ∷ drop ∷ end ∷ [])
@@ -111,7 +111,7 @@ needed_else = refl
 moved_delegate : written demo (try Empty ∷ delegate 0 ∷ end ∷ []) ≡ at_location (try nothing) 0 ∷ at_location (delegate 0) default_location ∷ at_location end 2 ∷ []
 moved_delegate = refl
 
--- 06 40 08 00 01 41 07 07 00 19 0b 0b: clauses end dead code
+-- 06 40 08 00 01 41 07 07 00 19 0b 0b: clauses end unreachable code
 clauses : written demo (try Empty ∷ throw 0 ∷ nop ∷ const 7 ∷ catch 0 ∷ catch_all ∷ end ∷ end ∷ [])
     ≡ at_location (try nothing) 0 ∷ at_location (throw 0) 1 ∷ at_location (catch 0) 4 ∷ at_location catch_all 5 ∷ at_location end 6 ∷ at_location end 7 ∷ []
 clauses = refl
@@ -132,26 +132,26 @@ abbrev state_after : Environment → List RawOperation → FlatState
 state_after env os = state_behind (is_balanced env) first_state (operators env os)
 
 -- inside of an `if` that needs an `else`; after it; and after an `else` that waits
-before_needed_else : state_after demo (const 7 ∷ if (Value I32) ∷ return ∷ []) ≡ state Dead (Kept true ∷ Kept false ∷ [])
+before_needed_else : state_after demo (const 7 ∷ if (Value I32) ∷ return ∷ []) ≡ flat_state Unreachable (Kept true ∷ Kept false ∷ [])
 before_needed_else = refl
 
-after_needed_else : state_after demo (const 7 ∷ if (Value I32) ∷ return ∷ else ∷ []) ≡ state Live (Kept false ∷ Kept false ∷ [])
+after_needed_else : state_after demo (const 7 ∷ if (Value I32) ∷ return ∷ else ∷ []) ≡ flat_state Live (Kept false ∷ Kept false ∷ [])
 after_needed_else = refl
 
-after_waiting_else : state_after demo (const 7 ∷ if Empty ∷ else ∷ nop ∷ []) ≡ state (Waits 2) (Kept false ∷ Kept false ∷ [])
+after_waiting_else : state_after demo (const 7 ∷ if Empty ∷ else ∷ nop ∷ []) ≡ flat_state (Waits 2) (Kept false ∷ Kept false ∷ [])
 after_waiting_else = refl
 
--- inside of constructs in dead code, and after the body
-in_dead_code : state_after demo (return ∷ block Empty ∷ if Empty ∷ else ∷ []) ≡ state Dead (Dropped ∷ Dropped ∷ Kept false ∷ [])
-in_dead_code = refl
+-- inside of constructs in unreachable code, and after the body
+in_unreachable_code : state_after demo (return ∷ block Empty ∷ if Empty ∷ else ∷ []) ≡ flat_state Unreachable (Dropped ∷ Dropped ∷ Kept false ∷ [])
+in_unreachable_code = refl
 
-after_body : state_after demo (block Empty ∷ return ∷ end ∷ end ∷ []) ≡ state Live []
+after_body : state_after demo (block Empty ∷ return ∷ end ∷ end ∷ []) ≡ flat_state Live []
 after_body = refl
 
 -- ---- with numbers
 
 abbrev encoded : Environment → Numbers → List RawOperation → Result (List (Located RawOperation)) EmitError
-encoded env to os = gather (map (numbered to (typing_of env)) (flat (λ o. to.balanced (construct_type (typing_of env) o)) first_state (operators env os)))
+encoded env to os = gather (map (numbered_at_location to (typing_of env)) (flat (λ o. to.balanced (construct_type (typing_of env) o)) first_state (operators env os)))
 
 -- 41 01 02 03 1a 0b 0b: the first function type with these lists; it was the fourth
 picked_type : encoded demo demo_numbers (const 1 ∷ block (FuncType 3) ∷ drop ∷ end ∷ end ∷ [])
@@ -187,17 +187,17 @@ no_fault = refl
 
 -- ---- the locals that live operators name
 
--- 20 02 21 01 02 40 0f 20 03 1a 0b 20 02 1a 0b: in order, with repetitions, and none of dead code
-live_names : locals_read first_deadness (operators demo (local_get 2 ∷ local_set 1 ∷ block Empty ∷ return ∷ local_get 3 ∷ drop ∷ end ∷ local_get 2 ∷ drop ∷ end ∷ []))
+-- 20 02 21 01 02 40 0f 20 03 1a 0b 20 02 1a 0b: in order, with repetitions, and none of unreachable code
+live_names : locals_read first_unreachability (operators demo (local_get 2 ∷ local_set 1 ∷ block Empty ∷ return ∷ local_get 3 ∷ drop ∷ end ∷ local_get 2 ∷ drop ∷ end ∷ []))
     ≡ 2 ∷ 1 ∷ 2 ∷ []
 live_names = refl
 
 -- 04 40 0f 02 40 20 01 0b 05 20 03 0b 0b: of the consequent none, and that of the alternative
-names_of_alternative : locals_read first_deadness (operators demo (if Empty ∷ return ∷ block Empty ∷ local_get 1 ∷ end ∷ else ∷ local_get 3 ∷ end ∷ end ∷ [])) ≡ 3 ∷ []
+names_of_alternative : locals_read first_unreachability (operators demo (if Empty ∷ return ∷ block Empty ∷ local_get 1 ∷ end ∷ else ∷ local_get 3 ∷ end ∷ end ∷ [])) ≡ 3 ∷ []
 names_of_alternative = refl
 
-dead_inside : deadness_behind first_deadness (operators demo (block Empty ∷ return ∷ loop Empty ∷ [])) ≡ deadness true (true ∷ false ∷ false ∷ [])
-dead_inside = refl
+unreachable_inside : unreachability_behind first_unreachability (operators demo (block Empty ∷ return ∷ loop Empty ∷ [])) ≡ unreachability true (true ∷ false ∷ false ∷ [])
+unreachable_inside = refl
 
-live_after : deadness_behind first_deadness (operators demo (block Empty ∷ return ∷ loop Empty ∷ end ∷ end ∷ [])) ≡ deadness false (false ∷ [])
+live_after : unreachability_behind first_unreachability (operators demo (block Empty ∷ return ∷ loop Empty ∷ end ∷ end ∷ [])) ≡ unreachability false (false ∷ [])
 live_after = refl

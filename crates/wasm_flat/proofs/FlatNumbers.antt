@@ -9,12 +9,12 @@ use Rattle.wasm_body.specs.Naming.{NamedOperation}
 use Rattle.wasm_body.specs.NormalForm.{Typing, balances, construct_type}
 use Rattle.wasm_body.specs.FlatText.{then_by}
 use Rattle.wasm_body.specs.RewrittenTree.{rewritten_body_by}
-use Rattle.wasm_body.specs.Bytes.{Numbers, in_32_bits, numbers_in_32_bits, numbered_block, numbering, with_numbers}
+use Rattle.wasm_body.specs.Bytes.{Numbers, in_32_bits, numbers_in_32_bits, numbered_block, numbering, writing_numbers}
 use Rattle.wasm_body.specs.TextLaws.{mark_named}
 use Rattle.wasm_body.proofs.NormalForm.Exponents.{exponent_of-pow}
 use Rattle.wasm_body.proofs.NormalForm.NamedTexts.{source_controls}
 use Rattle.wasm_body.proofs.NormalForm.WrittenTexts.{named_by, type_at, written_result, tree_text_by}
-use Rattle.wasm_flat.specs.Flat.{Named, first_state, flat, renumbering, sequence_type, numbered}
+use Rattle.wasm_flat.specs.Flat.{Named, first_state, flat, renumbering, sequence_type, numbered_at_location}
 use Rattle.wasm_flat.specs.FlatLaws.{FlatIsText, FlatIsNumbered}
 use Rattle.wasm_flat.proofs.FlatTexts.{written_body}
 
@@ -49,17 +49,17 @@ module _ (to : Numbers) (m : Typing) where
   type_is End o = refl
   type_is (Delegate n) o = refl
 
-  answer_is : (x : Marked Named) → written_result (then_by (numbering to)) m x ≡ numbered to m x
+  answer_is : (x : Marked Named) → written_result (then_by (numbering to)) m x ≡ numbered_at_location to m x
   answer_is x =
       ap (λ t. translate (named_by (then_by (numbering to)) t) x.shown.op >>= λ o. Ok (at_location o x.shown.location)) (type_is x.control x.shown.op)
       ∙ ap (λ w. translate w x.shown.op >>= λ o. Ok (at_location o x.shown.location)) (named_is (sequence_type m x.control x.shown.op))
 
-  answers_are : (xs : List (Marked Named)) → gather (map (written_result (then_by (numbering to)) m) xs) ≡ gather (map (numbered to m) xs)
+  answers_are : (xs : List (Marked Named)) → gather (map (written_result (then_by (numbering to)) m) xs) ≡ gather (map (numbered_at_location to m) xs)
   answers_are xs = λ i. gather (map (λ x. answer_is x i) xs)
 
 pub flat_is_numbered : FlatIsNumbered
 flat_is_numbered m xs b hx h to =
     let balanced : NamedOperation → Bool = λ o. to.balanced (construct_type m o) in
     let is : flat balanced first_state (map mark_named xs) ≡ body_text (rewritten_body_by balanced b) = ap (flat balanced first_state) hx ∙ written_body balanced b in
-    tree_text_by (with_numbers to) m b (source_controls m xs b hx h)
+    tree_text_by (writing_numbers to) m b (source_controls m xs b hx h)
     ∙ (ap (λ l. gather (map (written_result (then_by (numbering to)) m) l)) (sym is) ∙ answers_are to m (flat balanced first_state (map mark_named xs)))

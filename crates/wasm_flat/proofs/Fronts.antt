@@ -9,7 +9,7 @@ use Rattle.wasm_body.specs.Translation.{Located}
 use Rattle.wasm_body.specs.Naming.{NamedOperation}
 use Rattle.wasm_body.specs.NormalForm.{Typing}
 use Rattle.wasm_body.specs.Bytes.{Numbers}
-use Rattle.wasm_flat.specs.Flat.{Named, FlatState, first_state, written_at, after, flat, state_behind, numbered, IsWrittenSo, Deadness, deadness_after, live_locals, locals_read, deadness_behind}
+use Rattle.wasm_flat.specs.Flat.{Named, FlatState, first_state, written_at, after, flat, state_behind, numbered_at_location, IsWrittenSo, Unreachability, unreachability_after, live_locals, locals_read, unreachability_behind}
 
 -- ---- results of lists
 
@@ -45,7 +45,7 @@ module _ (balanced : NamedOperation → Bool) where
 
   module _ (to : Numbers) (m : Typing) where
     abbrev all_numbered : List (Marked Named) → Result (List (Located RawOperation)) EmitError
-    all_numbered xs = gather (map (numbered to m) xs)
+    all_numbered xs = gather (map (numbered_at_location to m) xs)
 
     pub begins : IsWrittenSo to m balanced [] first_state []
     begins = record { state_is = refl; written_are = refl }
@@ -56,10 +56,10 @@ module _ (balanced : NamedOperation → Bool) where
           ≡ both (Ok written) (both (all_numbered (written_at s x)) (all_numbered (flat balanced (after balanced s x) rest)))
       parts rest =
           ap all_numbered (flat-append read (x ∷ rest) first_state)
-          ∙ (gathered (numbered to m) (flat balanced first_state read) (flat balanced (state_behind balanced first_state read) (x ∷ rest))
+          ∙ (gathered (numbered_at_location to m) (flat balanced first_state read) (flat balanced (state_behind balanced first_state read) (x ∷ rest))
           ∙ (ap (λ r. both r (all_numbered (flat balanced (state_behind balanced first_state read) (x ∷ rest)))) so.written_are
           ∙ (ap (λ t. both (Ok written) (all_numbered (flat balanced t (x ∷ rest)))) (sym so.state_is)
-          ∙ ap (both (Ok written)) (gathered (numbered to m) (written_at s x) (flat balanced (after balanced s x) rest)))))
+          ∙ ap (both (Ok written)) (gathered (numbered_at_location to m) (written_at s x) (flat balanced (after balanced s x) rest)))))
 
       pub continues : (zs : List (Located RawOperation)) → all_numbered (written_at s x) ≡ Ok zs → IsWrittenSo to m balanced (read ++ x ∷ []) (after balanced s x) (written ++ zs)
       continues zs is = record {
@@ -73,12 +73,12 @@ module _ (balanced : NamedOperation → Bool) where
 
 -- ---- the locals that are named
 
-pub locals-append : (xs ys : List (Marked Named)) (s : Deadness) → locals_read s (xs ++ ys) ≡ locals_read s xs ++ locals_read (deadness_behind s xs) ys
+pub locals-append : (xs ys : List (Marked Named)) (s : Unreachability) → locals_read s (xs ++ ys) ≡ locals_read s xs ++ locals_read (unreachability_behind s xs) ys
 locals-append [] ys s = refl
 locals-append (x ∷ xs) ys s =
-    let t = deadness_after s x.control in
-    ap (λ l. live_locals s.dead x ++ l) (locals-append xs ys t) ∙ sym (append_assoc (live_locals s.dead x) (locals_read t xs) (locals_read (deadness_behind t xs) ys))
+    let t = unreachability_after s x.control in
+    ap (λ l. live_locals s.unreachable x ++ l) (locals-append xs ys t) ∙ sym (append_assoc (live_locals s.unreachable x) (locals_read t xs) (locals_read (unreachability_behind t xs) ys))
 
-pub deadness-append : (xs ys : List (Marked Named)) (s : Deadness) → deadness_behind s (xs ++ ys) ≡ deadness_behind (deadness_behind s xs) ys
-deadness-append [] ys s = refl
-deadness-append (x ∷ xs) ys s = deadness-append xs ys (deadness_after s x.control)
+pub unreachability-append : (xs ys : List (Marked Named)) (s : Unreachability) → unreachability_behind s (xs ++ ys) ≡ unreachability_behind (unreachability_behind s xs) ys
+unreachability-append [] ys s = refl
+unreachability-append (x ∷ xs) ys s = unreachability-append xs ys (unreachability_after s x.control)

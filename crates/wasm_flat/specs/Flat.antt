@@ -14,7 +14,7 @@ use Rattle.wasm_body.specs.Control.{Action, Construct, Block, Loop, TryTable, If
 use Rattle.wasm_body.specs.Translation.{Translation, translate, Located, at_location}
 use Rattle.wasm_body.specs.Naming.{NamedOperation}
 use Rattle.wasm_body.specs.FunctionTree.{last_location}
-use Rattle.wasm_body.specs.NormalForm.{Typing, construct_type, Fate, Drops, Stays, Diverges, fate}
+use Rattle.wasm_body.specs.NormalForm.{Typing, construct_type, Fate, Drops, Stays, MakesUnreachable, fate}
 use Rattle.wasm_body.specs.RewrittenTree.{end_at, else_at, catch_at, catch_all_at, delegate_at}
 use Rattle.wasm_body.specs.Bytes.{Numbers, in_32_bits, numbers_in_32_bits, numbered_block}
 use Rattle.wasm_body.specs.LocalNumbers.{locals_among}
@@ -28,9 +28,9 @@ Named = Located NamedOperation
 pub data Mode : Type 0 where
   Live : Mode  -- they are written
   Waits : (location : ℕ) → Mode  -- the same, and the first one after an `else` with this location, which isn't written yet
-  Dead : Mode  -- they aren't written
+  Unreachable : Mode  -- they aren't written
 
--- A sequence that is open: one of a construct in dead code; or one that is written, with whether its `if` needs an `else` and has
+-- A sequence that is open: one of a construct in unreachable code; or one that is written, with whether its `if` needs an `else` and has
 -- none so far, since its type isn't balanced.
 pub data Open : Type 0 where
   Dropped : Open
@@ -41,12 +41,12 @@ pub record FlatState : Type 0 where
   pub mode : Mode
   pub sequences : List Open
 
-abbrev pub state : Mode → List Open → FlatState
-state m os = record { mode = m; sequences = os }
+abbrev pub flat_state : Mode → List Open → FlatState
+flat_state m os = record { mode = m; sequences = os }
 
 -- at the first operator of a body
 abbrev pub first_state : FlatState
-first_state = state Live (Kept false ∷ [])
+first_state = flat_state Live (Kept false ∷ [])
 
 abbrev pub innermost : List Open → Open
 innermost [] = Dropped
@@ -65,7 +65,7 @@ needs_else (Kept b) = b
 abbrev pub plain_written : Fate → Named → Action → List (Marked Named)
 plain_written Drops a action = []
 plain_written Stays a action = with_control a (Does action) ∷ []
-plain_written Diverges a action = with_control a (Does action) ∷ []
+plain_written MakesUnreachable a action = with_control a (Does action) ∷ []
 
 abbrev pub else_written : (needed : Bool) → (location : ℕ) → List (Marked Named)
 else_written true l = with_control (else_at l) Else ∷ []
@@ -97,20 +97,20 @@ waiting_written l (Opens construct) a = with_control (else_at l) Else ∷ with_c
 waiting_written l End a = with_control (end_at (last_location l a.location)) End ∷ []
 waiting_written l c a = with_control (else_at l) Else ∷ live_written false c a
 
--- an operator that ends a dead sequence, if that is one that is written
+-- an operator that ends an unreachable sequence, if that is one that is written
 abbrev pub ending_written : Open → Control → Named → List (Marked Named)
 ending_written Dropped c a = []
 ending_written (Kept needed) c a = live_written needed c a
 
-abbrev pub dead_written : Open → Control → Named → List (Marked Named)
-dead_written o (Does action) a = []
-dead_written o (Opens construct) a = []
-dead_written o c a = ending_written o c a
+abbrev pub unreachable_written : Open → Control → Named → List (Marked Named)
+unreachable_written o (Does action) a = []
+unreachable_written o (Opens construct) a = []
+unreachable_written o c a = ending_written o c a
 
 abbrev pub written_in : Mode → Open → Control → Named → List (Marked Named)
 written_in Live o c a = live_written (needs_else o) c a
 written_in (Waits l) o c a = waiting_written l c a
-written_in Dead o c a = dead_written o c a
+written_in Unreachable o c a = unreachable_written o c a
 
 -- each operator that is written when this one is read, in order
 abbrev pub written_at : FlatState → Marked Named → List (Marked Named)
@@ -121,7 +121,7 @@ written_at s x = written_in s.mode (innermost s.sequences) x.control x.shown
 abbrev pub mode_after : Fate → Mode → Mode
 mode_after Drops m = m
 mode_after Stays m = Live
-mode_after Diverges m = Dead
+mode_after MakesUnreachable m = Unreachable
 
 -- an `else` that needn't be written waits
 abbrev pub mode_of_else : (needed : Bool) → (location : ℕ) → Mode
@@ -136,39 +136,39 @@ begins_with balanced Loop o = false
 begins_with balanced Try o = false
 begins_with balanced (TryTable cs) o = false
 
--- An operator in dead code parts a sequence, or closes it: one in dead code, or the dead one itself, with what is then the state.
+-- An operator in unreachable code parts a sequence, or closes it: one in unreachable code, or the unreachable one itself, with what is then the state.
 abbrev pub parted : Open → List Open → (live : FlatState) → FlatState
-parted Dropped os live = state Dead os
+parted Dropped os live = flat_state Unreachable os
 parted (Kept needed) os live = live
 
-abbrev pub closed : Open → List Open → (live : FlatState) → FlatState
-closed Dropped os live = state Dead (around os)
-closed (Kept needed) os live = live
+abbrev pub closed_state : Open → List Open → (live : FlatState) → FlatState
+closed_state Dropped os live = flat_state Unreachable (around os)
+closed_state (Kept needed) os live = live
 
 -- where `balanced` says of an operator that opens a construct whether the type of its sequences is balanced
 module _ (balanced : NamedOperation → Bool) where
   abbrev pub after_live : Mode → List Open → Control → Named → FlatState
-  after_live m os (Does action) a = state (mode_after (fate action) m) os
-  after_live m os (Opens construct) a = state Live (Kept (begins_with balanced construct a.op) ∷ os)
-  after_live m os Else a = state (mode_of_else (needs_else (innermost os)) a.location) (Kept false ∷ around os)
-  after_live m os (Catch tag) a = state Live os
-  after_live m os CatchAll a = state Live os
-  after_live m os End a = state Live (around os)
-  after_live m os (Delegate n) a = state Live (around os)
+  after_live m os (Does action) a = flat_state (mode_after (fate action) m) os
+  after_live m os (Opens construct) a = flat_state Live (Kept (begins_with balanced construct a.op) ∷ os)
+  after_live m os Else a = flat_state (mode_of_else (needs_else (innermost os)) a.location) (Kept false ∷ around os)
+  after_live m os (Catch tag) a = flat_state Live os
+  after_live m os CatchAll a = flat_state Live os
+  after_live m os End a = flat_state Live (around os)
+  after_live m os (Delegate n) a = flat_state Live (around os)
 
-  abbrev pub after_dead : List Open → Control → Named → FlatState
-  after_dead os (Does action) a = state Dead os
-  after_dead os (Opens construct) a = state Dead (Dropped ∷ os)
-  after_dead os Else a = parted (innermost os) os (after_live Live os Else a)
-  after_dead os (Catch tag) a = parted (innermost os) os (after_live Live os (Catch tag) a)
-  after_dead os CatchAll a = parted (innermost os) os (after_live Live os CatchAll a)
-  after_dead os End a = closed (innermost os) os (after_live Live os End a)
-  after_dead os (Delegate n) a = closed (innermost os) os (after_live Live os (Delegate n) a)
+  abbrev pub after_unreachable : List Open → Control → Named → FlatState
+  after_unreachable os (Does action) a = flat_state Unreachable os
+  after_unreachable os (Opens construct) a = flat_state Unreachable (Dropped ∷ os)
+  after_unreachable os Else a = parted (innermost os) os (after_live Live os Else a)
+  after_unreachable os (Catch tag) a = parted (innermost os) os (after_live Live os (Catch tag) a)
+  after_unreachable os CatchAll a = parted (innermost os) os (after_live Live os CatchAll a)
+  after_unreachable os End a = closed_state (innermost os) os (after_live Live os End a)
+  after_unreachable os (Delegate n) a = closed_state (innermost os) os (after_live Live os (Delegate n) a)
 
   abbrev pub after_in : Mode → List Open → Control → Named → FlatState
   after_in Live os c a = after_live Live os c a
   after_in (Waits l) os c a = after_live (Waits l) os c a
-  after_in Dead os c a = after_dead os c a
+  after_in Unreachable os c a = after_unreachable os c a
 
   abbrev pub after : FlatState → Marked Named → FlatState
   after s x = after_in s.mode s.sequences x.control x.shown
@@ -205,56 +205,56 @@ sequence_type m (Opens construct) o = construct_type m o
 sequence_type m _ o = Simple None
 
 -- an operator as it is encoded, at its location, or its first fault
-abbrev pub numbered : Numbers → Typing → Marked Named → Result (Located RawOperation) EmitError
-numbered to m x = translate (renumbering to (sequence_type m x.control x.shown.op)) x.shown.op >>= λ o. Ok (at_location o x.shown.location)
+abbrev pub numbered_at_location : Numbers → Typing → Marked Named → Result (Located RawOperation) EmitError
+numbered_at_location to m x = translate (renumbering to (sequence_type m x.control x.shown.op)) x.shown.op >>= λ o. Ok (at_location o x.shown.location)
 
 -- After these operators of a body this is the state, and these are the operators that were written, as they are encoded.
 pub record IsWrittenSo (to : Numbers) (m : Typing) (balanced : NamedOperation → Bool) (read : List (Marked Named)) (s : FlatState) (written : List (Located RawOperation)) : Type 0 where
   pub state_is : s ≡ state_behind balanced first_state read
-  pub written_are : gather (map (numbered to m) (flat balanced first_state read)) ≡ Ok written
+  pub written_are : gather (map (numbered_at_location to m) (flat balanced first_state read)) ≡ Ok written
 
--- ---- the same while a body is read and not written: whether code is dead, and whether it was where each open sequence began
+-- ---- the same while a body is read and not written: whether code is unreachable, and whether it was where each open sequence began
 
-abbrev pub cut : Fate → Bool
-cut Drops = false
-cut Stays = false
-cut Diverges = true
+abbrev pub fate_makes_unreachable : Fate → Bool
+fate_makes_unreachable Drops = false
+fate_makes_unreachable Stays = false
+fate_makes_unreachable MakesUnreachable = true
 
-pub record Deadness : Type 0 where
-  pub dead : Bool
+pub record Unreachability : Type 0 where
+  pub unreachable : Bool
   pub before : List Bool  -- for each open sequence, innermost first
 
-abbrev pub deadness : Bool → List Bool → Deadness
-deadness d ds = record { dead = d; before = ds }
+abbrev pub unreachability : Bool → List Bool → Unreachability
+unreachability d ds = record { unreachable = d; before = ds }
 
-abbrev pub first_deadness : Deadness
-first_deadness = deadness false (false ∷ [])
+abbrev pub first_unreachability : Unreachability
+first_unreachability = unreachability false (false ∷ [])
 
-abbrev pub first_of : List Bool → Bool
-first_of [] = true
-first_of (d ∷ ds) = d
+abbrev pub first_or_true : List Bool → Bool
+first_or_true [] = true
+first_or_true (d ∷ ds) = d
 
 abbrev pub others_of : List Bool → List Bool
 others_of [] = []
 others_of (d ∷ ds) = ds
 
-abbrev pub plain_deadness : (dead : Bool) → Fate → Bool
-plain_deadness true f = true
-plain_deadness false f = cut f
+abbrev pub plain_unreachability : (unreachable : Bool) → Fate → Bool
+plain_unreachability true f = true
+plain_unreachability false f = fate_makes_unreachable f
 
-abbrev pub deadness_after : Deadness → Control → Deadness
-deadness_after s (Does action) = deadness (plain_deadness s.dead (fate action)) s.before
-deadness_after s (Opens construct) = deadness s.dead (s.dead ∷ s.before)
-deadness_after s Else = deadness (first_of s.before) s.before
-deadness_after s (Catch tag) = deadness (first_of s.before) s.before
-deadness_after s CatchAll = deadness (first_of s.before) s.before
-deadness_after s End = deadness (first_of s.before) (others_of s.before)
-deadness_after s (Delegate n) = deadness (first_of s.before) (others_of s.before)
+abbrev pub unreachability_after : Unreachability → Control → Unreachability
+unreachability_after s (Does action) = unreachability (plain_unreachability s.unreachable (fate action)) s.before
+unreachability_after s (Opens construct) = unreachability s.unreachable (s.unreachable ∷ s.before)
+unreachability_after s Else = unreachability (first_or_true s.before) s.before
+unreachability_after s (Catch tag) = unreachability (first_or_true s.before) s.before
+unreachability_after s CatchAll = unreachability (first_or_true s.before) s.before
+unreachability_after s End = unreachability (first_or_true s.before) (others_of s.before)
+unreachability_after s (Delegate n) = unreachability (first_or_true s.before) (others_of s.before)
 
 abbrev pub unless_dropped : Fate → List ℕ → List ℕ
 unless_dropped Drops ls = []
 unless_dropped Stays ls = ls
-unless_dropped Diverges ls = ls
+unless_dropped MakesUnreachable ls = ls
 
 -- the locals that an operator names, if it is written as it is
 abbrev pub own_locals : Control → Named → List ℕ
@@ -262,15 +262,15 @@ own_locals (Does action) a = unless_dropped (fate action) (locals_among a.op.imm
 own_locals (Opens construct) a = locals_among a.op.immediates
 own_locals _ a = []
 
-abbrev pub live_locals : (dead : Bool) → Marked Named → List ℕ
+abbrev pub live_locals : (unreachable : Bool) → Marked Named → List ℕ
 live_locals true x = []
 live_locals false x = own_locals x.control x.shown
 
 -- in order, with repetitions
-abbrev pub locals_read : Deadness → List (Marked Named) → List ℕ
+abbrev pub locals_read : Unreachability → List (Marked Named) → List ℕ
 locals_read s [] = []
-locals_read s (x ∷ xs) = live_locals s.dead x ++ locals_read (deadness_after s x.control) xs
+locals_read s (x ∷ xs) = live_locals s.unreachable x ++ locals_read (unreachability_after s x.control) xs
 
-abbrev pub deadness_behind : Deadness → List (Marked Named) → Deadness
-deadness_behind s [] = s
-deadness_behind s (x ∷ xs) = deadness_behind (deadness_after s x.control) xs
+abbrev pub unreachability_behind : Unreachability → List (Marked Named) → Unreachability
+unreachability_behind s [] = s
+unreachability_behind s (x ∷ xs) = unreachability_behind (unreachability_after s x.control) xs

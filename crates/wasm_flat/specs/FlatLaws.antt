@@ -14,7 +14,7 @@ use Rattle.wasm_body.specs.Bytes.{Numbers, numbered_text}
 use Rattle.wasm_body.specs.LocalNumbers.{locals_of}
 use Rattle.wasm_body.specs.Typed.{AreTyped}
 use Rattle.wasm_body.specs.TextLaws.{mark_named, IsNamedBody}
-use Rattle.wasm_flat.specs.Flat.{Named, FlatState, first_state, written_at, after, flat, numbered, IsWrittenSo, Deadness, first_deadness, locals_read}
+use Rattle.wasm_flat.specs.Flat.{Named, FlatState, first_state, written_at, after, flat, numbered_at_location, IsWrittenSo, Unreachability, first_unreachability, locals_read}
 
 -- For all types that are balanced, what is written of a body's operators is the text of the rewritten body.
 abbrev pub FlatIsRewritten : Type 0
@@ -30,34 +30,34 @@ FlatIsText =
 abbrev pub FlatIsNumbered : Type 0
 FlatIsNumbered =
     (m : Typing) (xs : List Named) (b : Body Named) → IsNamedBody xs b → AreTyped m xs → (to : Numbers) →
-    numbered_text to (normal_form m b) ≡ gather (map (numbered to m) (flat (λ o. to.balanced (construct_type m o)) first_state (map mark_named xs)))
+    numbered_text to (normal_form m b) ≡ gather (map (numbered_at_location to m) (flat (λ o. to.balanced (construct_type m o)) first_state (map mark_named xs)))
 
 -- The locals that live operators name, in order, are those that the tree names.
 abbrev pub LocalsReadAreNamed : Type 0
 LocalsReadAreNamed =
-    (m : Typing) (xs : List Named) (b : Body Named) → IsNamedBody xs b → locals_read first_deadness (map mark_named xs) ≡ locals_of (normal_form m b)
+    (m : Typing) (xs : List Named) (b : Body Named) → IsNamedBody xs b → locals_read first_unreachability (map mark_named xs) ≡ locals_of (normal_form m b)
 
 -- After a front of the operators, what is written of one more follows; and its fault is that of the whole.
 abbrev pub OneWrittenMore : Type 0
 OneWrittenMore =
     (to : Numbers) (m : Typing) (balanced : NamedOperation → Bool) (read : List (Marked Named)) (s : FlatState) (written : List (Located RawOperation)) →
     IsWrittenSo to m balanced read s written → (x : Marked Named) →
-    ((zs : List (Located RawOperation)) → gather (map (numbered to m) (written_at s x)) ≡ Ok zs → IsWrittenSo to m balanced (read ++ x ∷ []) (after balanced s x) (written ++ zs))
-    × ((e : EmitError) → gather (map (numbered to m) (written_at s x)) ≡ Err e → (rest : List (Marked Named)) →
-    gather (map (numbered to m) (flat balanced first_state (read ++ x ∷ rest))) ≡ Err e)
+    ((zs : List (Located RawOperation)) → gather (map (numbered_at_location to m) (written_at s x)) ≡ Ok zs → IsWrittenSo to m balanced (read ++ x ∷ []) (after balanced s x) (written ++ zs))
+    × ((e : EmitError) → gather (map (numbered_at_location to m) (written_at s x)) ≡ Err e → (rest : List (Marked Named)) →
+    gather (map (numbered_at_location to m) (flat balanced first_state (read ++ x ∷ rest))) ≡ Err e)
 
 -- ---- other locations
 
 -- an operator without its location
-abbrev pub bare : Marked Named → NamedOperation × Control
-bare x = (x.shown.op, x.control)
+abbrev pub without_location : Marked Named → NamedOperation × Control
+without_location x = (x.shown.op, x.control)
 
 -- Which fault of writing is the first doesn't depend on locations.
 abbrev pub FaultsAnywhere : Type 0
 FaultsAnywhere =
-    (to : Numbers) (m : Typing) (balanced : NamedOperation → Bool) (xs ys : List (Marked Named)) → map bare xs ≡ map bare ys → (e : EmitError) →
-    gather (map (numbered to m) (flat balanced first_state xs)) ≡ Err e → gather (map (numbered to m) (flat balanced first_state ys)) ≡ Err e
+    (to : Numbers) (m : Typing) (balanced : NamedOperation → Bool) (xs ys : List (Marked Named)) → map without_location xs ≡ map without_location ys → (e : EmitError) →
+    gather (map (numbered_at_location to m) (flat balanced first_state xs)) ≡ Err e → gather (map (numbered_at_location to m) (flat balanced first_state ys)) ≡ Err e
 
 -- Nor do the locals that are named.
 abbrev pub LocalsAnywhere : Type 0
-LocalsAnywhere = (xs ys : List (Marked Named)) (s : Deadness) → map bare xs ≡ map bare ys → locals_read s xs ≡ locals_read s ys
+LocalsAnywhere = (xs ys : List (Marked Named)) (s : Unreachability) → map without_location xs ≡ map without_location ys → locals_read s xs ≡ locals_read s ys

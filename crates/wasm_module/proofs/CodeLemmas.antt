@@ -9,10 +9,10 @@ use Rattle.wasm_operators.proofs.ShortestNumbers.{unsigned_spelt}
 use Rattle.wasm_sections.specs.declared.code.Bodies.{Bodies}
 use Rattle.wasm_sections.specs.declared.code.Body.{Body}
 use Rattle.wasm_module.specs.declared.parsed.ParsedModule.{ParsedModule}
-use Rattle.wasm_sections.specs.CodeSections.{entry, entries, code_section, BodyAt, AreBodies, body_at, bytes_of, place_of, TakesBody}
+use Rattle.wasm_sections.specs.CodeSections.{entry, entries, code_section, BodyAt, AreBodies, body_at, body_bytes, place_of, TakesBody}
 use Rattle.wasm_module.specs.RewrittenCode.{Extends}
 use Rattle.wasm_sections.specs.Sections.{SectionAt}
-use Rattle.wasm_module.specs.WrittenModules.{Puts, Writes, AreWritten, HasItemsOf, IsWrittenCode, count_bodies}
+use Rattle.wasm_module.specs.WrittenModules.{Puts, BodyWriting, AreWritten, HasItemsOf, IsWrittenCode, count_bodies}
 use Rattle.wasm_module.proofs.WritingLemmas.{puts_then, puts_same}
 
 -- ---- one more after others
@@ -46,7 +46,7 @@ come_alone end text (b ∷ bs) left h e = (h.0, h.1, h.2, come_alone end h.0 bs 
 pub same_bodies : (source now : ParsedModule) → Extends source now → count_bodies now ≡ count_bodies source
 same_bodies source now x = ap (λ ts. length ts.items - now.imported) x.func_types ∙ ap (λ (n : ℕ). length source.func_types.items - n) x.imported
 
-module _ (writes : Writes) (source : ParsedModule) where
+module _ (writes : BodyWriting) (source : ParsedModule) where
   written_more :
       (f : ℕ) (bs : List BodyAt) (raws : List (List ℕ)) (b : BodyAt) (raw : List ℕ) → AreWritten writes source f bs raws →
       (n : ℕ) → n ≡ f + length bs → writes source n b raw → AreWritten writes source f (bs ++ b ∷ []) (raws ++ raw ∷ [])
@@ -97,8 +97,8 @@ module _ (writes : Writes) (source : ParsedModule) where
   one_more_body stop text s t r b counter count old now later at middle end raw p i takes w q =
       let taken : TakesBody s (Some b) t = subst (λ (o : Option Body). TakesBody s o t) i takes in
       let following = t.left.rest.now in
-      let start : place_of b ≡ stop - length (bytes_of b ++ following) =
-      let e = taken.3 in let f = p.stop_is in let len = length-append (bytes_of b) following in let n = length (bytes_of b) in let m = length following in omega arith in
+      let start : place_of b ≡ stop - length (body_bytes b ++ following) =
+      let e = taken.3 in let f = p.stop_is in let len = length-append (body_bytes b) following in let n = length (body_bytes b) in let m = length following in omega arith in
       record {
         bodies = p.bodies ++ body_at b ∷ [];
         come_first = come_more stop text p.bodies s.left.rest.now (body_at b) following p.come_first taken.4 start;

@@ -9,7 +9,7 @@ use Rattle.wasm_sections.specs.declared.changes.NewContents.{NewContents}
 use Rattle.wasm_sections.specs.declared.fault.ModuleError.{ModuleError}
 use Rattle.wasm_sections.specs.declared.sections.Section.{Section}
 use Rattle.wasm_sections.specs.declared.sections.Sections.{Sections}
-use Rattle.wasm_sections.specs.Sections.{preamble, rank, next_rank, SectionAt, Begins, AreSections, IsModule, section, section_at, id_of, TakesSection}
+use Rattle.wasm_sections.specs.Sections.{preamble, rank, next_rank, SectionAt, BeginsSection, AreSections, IsModule, section, section_at, section_id, TakesSection}
 use Rattle.wasm_module.specs.WrittenModules.{Puts, is_between, between, new_after, new_after_section}
 use Rattle.wasm_module.proofs.WritingLemmas.{puts_then, puts_nothing, puts_same}
 
@@ -17,7 +17,7 @@ use Rattle.wasm_module.proofs.WritingLemmas.{puts_then, puts_nothing, puts_same}
 
 -- A section at the front has one rank, and one end.
 one_rank :
-    (end : ℕ) (text : List ℕ) (s t : SectionAt) (following after : List ℕ) → Begins end text s following → Begins end text t after →
+    (end : ℕ) (text : List ℕ) (s t : SectionAt) (following after : List ℕ) → BeginsSection end text s following → BeginsSection end text t after →
     (rank s.id ≡ rank t.id) × (following ≡ after)
 one_rank end text s t following after p q =
     let whole : s.id ∷ p.sized ≡ t.id ∷ q.sized = sym p.id_is ∙ q.id_is in
@@ -28,7 +28,7 @@ one_rank end text s t following after p q =
     )
 
 first_left :
-    (end : ℕ) (text : List ℕ) (left : List SectionAt) (x : SectionAt) (following : List ℕ) → AreSections end text left → Begins end text x following →
+    (end : ℕ) (text : List ℕ) (left : List SectionAt) (x : SectionAt) (following : List ℕ) → AreSections end text left → BeginsSection end text x following →
     (y : SectionAt) × (ys : List SectionAt) × (left ≡ y ∷ ys) × (rank y.id ≡ rank x.id) × AreSections end following ys
 first_left end text [] x following a b = let e : [] ≡ x.id ∷ b.sized = sym a ∙ b.id_is in absurd cc
 first_left end text (y ∷ ys) x following a b =
@@ -58,19 +58,19 @@ rank_found r y ys h = ap (λ (b : Bool). if b then rank y.id else next_rank r ys
 module _ (all : List SectionAt) (r : ℕ) (s t : Sections) (o : Option (Result Section ModuleError)) (x : Section) where
   first_taken :
       (p : RankSoFar all r s) → o ≡ Some (Ok x) → TakesSection s o t →
-      (y : SectionAt) × (ys : List SectionAt) × (p.left ≡ y ∷ ys) × (rank y.id ≡ rank (id_of x.kind)) × AreSections t.left.end t.left.rest.now ys
+      (y : SectionAt) × (ys : List SectionAt) × (p.left ≡ y ∷ ys) × (rank y.id ≡ rank (section_id x.kind)) × AreSections t.left.end t.left.rest.now ys
   first_taken p i takes =
       let taken : TakesSection s (Some (Ok x)) t = subst (λ (o : Option (Result Section ModuleError)). TakesSection s o t) i takes in
       let f = first_left s.left.end s.left.rest.now p.left (section_at x) t.left.rest.now p.are_left taken.0 in
       (f.0, f.1, f.2, f.3, subst (λ (n : ℕ). AreSections n t.left.rest.now f.1) (sym taken.1) f.4)
 
-  pub one_passed : RankSoFar all r s → o ≡ Some (Ok x) → TakesSection s o t → rank (id_of x.kind) ≤ r → RankSoFar all r t
+  pub one_passed : RankSoFar all r s → o ≡ Some (Ok x) → TakesSection s o t → rank (section_id x.kind) ≤ r → RankSoFar all r t
   one_passed p i takes h =
       let f = first_taken p i takes in
       let passed = rank_passed r f.0 f.1 (subst (λ (n : ℕ). n ≤ r) (sym f.3) h) in
       record { left = f.1; are_left = f.4; same = sym passed ∙ ap (λ (ss : List SectionAt). next_rank r ss) (sym f.2) ∙ p.same }
 
-  pub one_found : RankSoFar all r s → o ≡ Some (Ok x) → TakesSection s o t → r < rank (id_of x.kind) → rank (id_of x.kind) ≡ next_rank r all
+  pub one_found : RankSoFar all r s → o ≡ Some (Ok x) → TakesSection s o t → r < rank (section_id x.kind) → rank (section_id x.kind) ≡ next_rank r all
   one_found p i takes h =
       let f = first_taken p i takes in
       let found = rank_found r f.0 f.1 (subst (λ (n : ℕ). r < n) (sym f.3) h) in
@@ -111,18 +111,18 @@ module _ (first second : ℕ) (gs : List NewContents) (i : ℕ) (g : NewContents
   -- the bytes for this section and for those after it
   step :
       (b : Bool) → is_between first second g ≡ b →
-      between first second (drop i gs) ≡ (if b then section (id_of g.kind) g.contents.items ++ between first second (drop (i + 1) gs) else between first second (drop (i + 1) gs))
+      between first second (drop i gs) ≡ (if b then section (section_id g.kind) g.contents.items ++ between first second (drop (i + 1) gs) else between first second (drop (i + 1) gs))
   step b e =
       let here : drop i gs ≡ g ∷ drop (i + 1) gs =
       drop-cons gs i g within ∙ ap (λ (x : NewContents). x ∷ drop (suc i) gs) (sym is) ∙ ap (λ (n : ℕ). g ∷ drop n gs) (sym (add-one i)) in
       ap (λ (l : List NewContents). between first second l) here
-      ∙ ap (λ (b : Bool). if b then section (id_of g.kind) g.contents.items ++ between first second (drop (i + 1) gs) else between first second (drop (i + 1) gs)) e
+      ∙ ap (λ (b : Bool). if b then section (section_id g.kind) g.contents.items ++ between first second (drop (i + 1) gs) else between first second (drop (i + 1) gs)) e
 
   pub one_new :
       (old now later new : Option (List ℕ)) (at middle end last : ℕ) → NewSoFar first second gs i old now at middle → is_between first second g ≡ true →
-      Puts now later middle end (section (id_of g.kind) g.contents.items) → later ≡ new → end ≡ last → NewSoFar first second gs (i + 1) old new at last
+      Puts now later middle end (section (section_id g.kind) g.contents.items) → later ≡ new → end ≡ last → NewSoFar first second gs (i + 1) old new at last
   one_new old now later new at middle end last p b q out end_is =
-      let own = section (id_of g.kind) g.contents.items in
+      let own = section (section_id g.kind) g.contents.items in
       let here = subst (λ (n : ℕ). Puts now new middle n own) end_is (subst (λ (l : Option (List ℕ)). Puts now l middle end own) out q) in
       record {
         text = p.text ++ own;

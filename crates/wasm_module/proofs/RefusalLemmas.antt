@@ -21,7 +21,7 @@ use Rattle.wasm_module.specs.declared.parsed.ParsedModule.{ParsedModule}
 use Rattle.wasm_sections.specs.CodeSections.{BodyAt}
 use Rattle.wasm_sections.specs.LocalsBelow.{locals_below}
 use Rattle.wasm_module.specs.RewrittenCode.{Extends, Enters}
-use Rattle.wasm_module.specs.Refusals.{place_in_file, HasFaultAt, IsRefused, IsNotRewritten}
+use Rattle.wasm_module.specs.Refusals.{place_in_file, HasFaultAt, IsRefusedBody, IsNotRewritten}
 use Rattle.wasm_module.proofs.RewritingLemmas.{entered_then}
 
 -- ---- a parse
@@ -30,7 +30,7 @@ pub refused :
     (source now : ParsedModule) (function : ℕ) (b : BodyAt) (type id : ℕ) (args : List ℕ) (count : ℕ) (body : FunctionBody) (f : ParseFailure) (e : ModuleError) →
     Enters source function b now type args count body → id ≡ 0 →
     (f.error ≡ parse.Memory) ⊎ FirstFault (body_setting now.module now.spaces.indices id type body locals_below count None) (body_operators body) f →
-    (f.error ≡ parse.Memory → e.fault ≡ Memory) → e.at ≡ f.at → IsRefused source function b now e
+    (f.error ≡ parse.Memory → e.fault ≡ Memory) → e.at ≡ f.at → IsRefusedBody source function b now e
 refused source now function b type id args count body f e enters is_first r out_of_memory place =
     elim r [
       | inl memory ↦ inl (out_of_memory memory)
@@ -117,7 +117,7 @@ fault_then source a now function b at e p = record {
   place = p.place;
 }
 
-refused_then : (source a now : ParsedModule) (function : ℕ) (b : BodyAt) (e : ModuleError) → Extends source a → IsRefused a function b now e → IsRefused source function b now e
+refused_then : (source a now : ParsedModule) (function : ℕ) (b : BodyAt) (e : ModuleError) → Extends source a → IsRefusedBody a function b now e → IsRefusedBody source function b now e
 refused_then source a now function b e extends r =
     elim r [
       | inl memory ↦ inl memory
@@ -128,8 +128,8 @@ refused_then source a now function b e extends r =
     ]
 
 pub if_refused_then :
-    {A : Type 0} (source a now : ParsedModule) (function : ℕ) (b : BodyAt) (r : Result A ModuleError) → Extends source a → IfErr r (IsRefused a function b now) →
-    IfErr r (IsRefused source function b now)
+    {A : Type 0} (source a now : ParsedModule) (function : ℕ) (b : BodyAt) (r : Result A ModuleError) → Extends source a → IfErr r (IsRefusedBody a function b now) →
+    IfErr r (IsRefusedBody source function b now)
 if_refused_then source a now function b (Ok x) extends p = tt
 if_refused_then source a now function b (Err e) extends p = refused_then source a now function b e extends p
 

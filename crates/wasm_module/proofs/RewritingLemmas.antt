@@ -23,7 +23,7 @@ use Rattle.walrus_flat.specs.RewrittenFlat.{RewritesFlat}
 use Rattle.wasm_module.specs.declared.body_writer.Measured.{Measured}
 use Rattle.wasm_module.specs.declared.parsed.ParsedModule.{ParsedModule}
 use Rattle.wasm_sections.specs.CodeSections.{BodyAt}
-use Rattle.wasm_sections.specs.Declarations.{parameters_of, HaveLocals, first_numbers}
+use Rattle.wasm_sections.specs.Declarations.{parameters_of_type, HaveLocals, first_numbers}
 use Rattle.wasm_sections.specs.LocalsBelow.{locals_below}
 use Rattle.wasm_module.specs.RewrittenCode.{Extends, Enters, Entered, IsRewrittenAs, IsRewritten, IsAccepted, IsParsed, OneChange, IsChanged}
 use Rattle.wasm_module.proofs.ModuleLemmas.{Alike, extends_then, extends_kept}
@@ -119,9 +119,9 @@ enters_kept source a now function b type args count body alike is_module indices
   bytes = enters.bytes;
   start = enters.start;
   locals =
-      subst (λ (m : Module). HaveLocals now.spaces.indices (parameters_of m.types type) b.bytes (body_operators body) m.locals) (sym is_module)
-      (subst (λ (x : IndicesToIds). HaveLocals x (parameters_of a.module.types type) b.bytes (body_operators body) a.module.locals) (sym indices) enters.locals);
-  args_are = enters.args_are ∙ ap (λ (m : Module). first_numbers (length (parameters_of m.types type))) (sym is_module);
+      subst (λ (m : Module). HaveLocals now.spaces.indices (parameters_of_type m.types type) b.bytes (body_operators body) m.locals) (sym is_module)
+      (subst (λ (x : IndicesToIds). HaveLocals x (parameters_of_type a.module.types type) b.bytes (body_operators body) a.module.locals) (sym indices) enters.locals);
+  args_are = enters.args_are ∙ ap (λ (m : Module). first_numbers (length (parameters_of_type m.types type))) (sym is_module);
   count_is = enters.count_is ∙ ap (λ (m : Module). length m.locals) (sym is_module);
   local_ids = λ local is_below. subst (λ (x : IndicesToIds). local_of x 0 local ≡ Ok local) (sym indices) (enters.local_ids local is_below);
 }

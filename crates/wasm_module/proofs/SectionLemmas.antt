@@ -6,10 +6,10 @@ use Rattle.wasm_sections.specs.declared.fault.ModuleError.{ModuleError}
 use Rattle.wasm_module.specs.declared.parsed.ParsedModule.{ParsedModule}
 use Rattle.wasm_sections.specs.declared.sections.Section.{Section}
 use Rattle.wasm_sections.specs.declared.sections.Sections.{Sections}
-use Rattle.wasm_sections.specs.Sections.{preamble, SectionAt, Begins, AreSections, IsModule, section_at, TakesSection}
+use Rattle.wasm_sections.specs.Sections.{preamble, SectionAt, BeginsSection, AreSections, IsModule, section_at, TakesSection}
 use Rattle.wasm_sections.specs.declared.changes.Changes.{Changes}
 use Rattle.wasm_sections.specs.declared.omissions.OmittedSections.{OmittedSections}
-use Rattle.wasm_module.specs.WrittenModules.{Puts, Writes, new_after, IsWrittenAt, AreWrittenAt, IsWrittenModule}
+use Rattle.wasm_module.specs.WrittenModules.{Puts, BodyWriting, new_after, IsWrittenAt, AreWrittenAt, IsWrittenModule}
 use Rattle.wasm_module.proofs.WritingLemmas.{puts_then, puts_same}
 
 -- ---- one more after others
@@ -17,19 +17,19 @@ use Rattle.wasm_module.proofs.WritingLemmas.{puts_then, puts_same}
 -- these sections come first, and then the bytes that are left
 abbrev pub ComeFirst : (end : ℕ) → (text : List ℕ) → List SectionAt → (left : List ℕ) → Type 0
 ComeFirst end text [] left = text ≡ left
-ComeFirst end text (s ∷ ss) left = (following : List ℕ) × Begins end text s following × ComeFirst end following ss left
+ComeFirst end text (s ∷ ss) left = (following : List ℕ) × BeginsSection end text s following × ComeFirst end following ss left
 
 come_more :
-    (end : ℕ) (text : List ℕ) (ss : List SectionAt) (left : List ℕ) (s : SectionAt) (following : List ℕ) → ComeFirst end text ss left → Begins end left s following →
+    (end : ℕ) (text : List ℕ) (ss : List SectionAt) (left : List ℕ) (s : SectionAt) (following : List ℕ) → ComeFirst end text ss left → BeginsSection end left s following →
     ComeFirst end text (ss ++ s ∷ []) following
-come_more end text [] left s following h b = (following, subst (λ (l : List ℕ). Begins end l s following) (sym h) b, refl)
+come_more end text [] left s following h b = (following, subst (λ (l : List ℕ). BeginsSection end l s following) (sym h) b, refl)
 come_more end text (a ∷ ss) left s following h b = (h.0, h.1, come_more end h.0 ss left s following h.2 b)
 
 come_alone : (end : ℕ) (text : List ℕ) (ss : List SectionAt) (left : List ℕ) → ComeFirst end text ss left → left ≡ [] → AreSections end text ss
 come_alone end text [] left h e = h ∙ e
 come_alone end text (s ∷ ss) left h e = (h.0, h.1, come_alone end h.0 ss left h.2 e)
 
-module _ (writes : Writes) (source : ParsedModule) (changes : Changes) (left_out : OmittedSections) (all : List SectionAt) where
+module _ (writes : BodyWriting) (source : ParsedModule) (changes : Changes) (left_out : OmittedSections) (all : List SectionAt) where
   written_more :
       (ss : List SectionAt) (text : List ℕ) (s : SectionAt) (more : List ℕ) → AreWrittenAt writes source changes left_out all ss text →
       IsWrittenAt writes source changes left_out all s more → AreWrittenAt writes source changes left_out all (ss ++ s ∷ []) (text ++ more)
@@ -44,7 +44,7 @@ pub record ReadSoFar (stop : ℕ) (text : List ℕ) (left : Sections) (ss : List
   pub come_first : ComeFirst stop text ss left.left.rest.now
   pub stop_is : left.left.end ≡ stop
 
-module _ (writes : Writes) (source : ParsedModule) (changes : Changes) (left_out : OmittedSections) where
+module _ (writes : BodyWriting) (source : ParsedModule) (changes : Changes) (left_out : OmittedSections) where
   -- Of the text after the preamble, which ends at this place, the sections before those that are left are written.
   pub record ModuleSoFar (stop : ℕ) (text : List ℕ) (left : Sections) (old now : Option (List ℕ)) (at end : ℕ) : Type 0 where
     pub sections : List SectionAt
@@ -72,7 +72,7 @@ module _ (writes : Writes) (source : ParsedModule) (changes : Changes) (left_out
       ModuleSoFar stop text t old later at end
   one_more_section stop text s t r x old now later at middle end p i takes q =
       let taken : TakesSection s (Some (Ok x)) t = subst (λ (o : Option (Result Section ModuleError)). TakesSection s o t) i takes in
-      let begins = subst (λ (n : ℕ). Begins n s.left.rest.now (section_at x) t.left.rest.now) p.are_read.stop_is taken.0 in
+      let begins = subst (λ (n : ℕ). BeginsSection n s.left.rest.now (section_at x) t.left.rest.now) p.are_read.stop_is taken.0 in
       record {
         sections = p.sections ++ section_at x ∷ [];
         are_read = record {

@@ -11,7 +11,7 @@ use Rattle.wasm_sections.specs.CodeSections.{BodyAt}
 use Rattle.wasm_module.specs.KeptCode.{bodies_in, raws_in, IsKept, AreKept, AreKeptAs, IsChangedCode}
 use Rattle.wasm_module.specs.RewrittenCode.{Extends, OneChange, FunctionChange, IsChanged, keeps_locals, alike, AreChanged}
 use Rattle.wasm_sections.specs.Sections.{SectionAt, IsModule}
-use Rattle.wasm_module.specs.WrittenModules.{Writes, AreWritten, IsWrittenCode, IsWrittenFor, AreWrittenAt, IsWrittenModule}
+use Rattle.wasm_module.specs.WrittenModules.{BodyWriting, AreWritten, IsWrittenCode, IsWrittenFor, AreWrittenAt, IsWrittenModule}
 use Rattle.wasm_module.specs.WrittenModules.IsWrittenFor.{code, replaced, carried_over, omitted}
 use Rattle.wasm_module.proofs.CodeLemmas.{same_bodies, same_count}
 use Rattle.wasm_module.proofs.KeptLemmas.{bodies_len, raws_len}
@@ -19,7 +19,7 @@ use Rattle.wasm_module.proofs.KeptLemmas.{bodies_len, raws_len}
 -- ---- one meaning for another
 
 -- What is written for a later state of the module is written for the source too, if that holds of each body.
-module _ (v w : Writes) (source now : ParsedModule) (x : Extends source now) (each : (f : ℕ) (b : BodyAt) (raw : List ℕ) → v now f b raw → w source f b raw) where
+module _ (v w : BodyWriting) (source now : ParsedModule) (x : Extends source now) (each : (f : ℕ) (b : BodyAt) (raw : List ℕ) → v now f b raw → w source f b raw) where
   bodies_as : (f : ℕ) (bs : List BodyAt) (raws : List (List ℕ)) → AreWritten v now f bs raws → AreWritten w source f bs raws
   bodies_as f [] [] h = tt
   bodies_as f [] (r ∷ raws) h = absurd h
@@ -70,7 +70,7 @@ kept_then kept source now f b raw h = record { at = h.at; function_is = h.functi
 
 -- the module, of which each body is written as what was kept for it
 pub kept_module :
-    (w : Writes) (source now : ParsedModule) (kept : KeptBodies) (changes : NewSections) (left_out : OmittedSections) (new : List ℕ) → Extends source now → AreKeptAs w source kept →
+    (w : BodyWriting) (source now : ParsedModule) (kept : KeptBodies) (changes : NewSections) (left_out : OmittedSections) (new : List ℕ) → Extends source now → AreKeptAs w source kept →
     IsWrittenModule (IsKept kept) now changes left_out new → IsWrittenModule w source changes left_out new
 kept_module w source now kept changes left_out new x every h =
     module_as (IsKept kept) w source now x (λ f b raw k. every f b raw (kept_then kept source now f b raw k)) changes left_out new h

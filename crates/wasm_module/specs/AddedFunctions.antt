@@ -11,7 +11,7 @@ use Rattle.walrus_rewrite.specs.RawBodies.{EmitInput, IsRawBodyOf}
 use Rattle.wasm_sections.specs.declared.changes.Changes.{Changes}
 use Rattle.wasm_module.specs.declared.parsed.ParsedModule.{ParsedModule}
 use Rattle.wasm_sections.specs.Additions.{AddsItem, AddsBody}
-use Rattle.wasm_sections.specs.Declarations.{parameters_of}
+use Rattle.wasm_sections.specs.Declarations.{parameters_of_type}
 use Rattle.wasm_sections.specs.Sections.{SectionAt}
 
 -- ---- sections
@@ -33,7 +33,7 @@ input_with source locals f = record { to = numbers_by source.module.types source
 pub record AddsFunction (source : ParsedModule) (all : List SectionAt) (old new : Changes) (f : FunctionParts) (locals : List (ValType ℕ)) : Type 0 where
   pub type : ℕ
   pub type_is : number_of source.spaces.numbers Types f.builder.type ≡ Ok type
-  pub as_many : length f.args ≡ length (parameters_of source.module.types f.builder.type)
+  pub as_many : length f.args ≡ length (parameters_of_type source.module.types f.builder.type)
   pub raw : List ℕ
   pub pairs : List Pair
   pub is_raw_body : IsRawBodyOf (input_with source locals f) f.builder raw pairs

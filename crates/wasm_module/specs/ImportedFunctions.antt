@@ -9,20 +9,20 @@ use Rattle.wasm_sections.specs.declared.sections.SectionKind.{SectionKind}
 use Rattle.wasm_sections.specs.declared.sections.SectionKind.TheVariants as section
 use Rattle.wasm_sections.specs.Additions.{AddsItem}
 use Rattle.wasm_sections.specs.MovedFunctions.{AreMovedContents, AreRenumbered, import_of}
-use Rattle.wasm_sections.specs.Sections.{SectionAt, first_with, id_of}
+use Rattle.wasm_sections.specs.Sections.{SectionAt, first_with, section_id}
 use Rattle.wasm_sections.specs.GivenContents.{contents_in}
 
 -- ---- sections
 
 -- the contents that are given for a section, or those of the section of the source, if there are some
-abbrev pub given_or : (given : Option (List ℕ)) → (source : Option SectionAt) → Option (List ℕ)
-given_or (Some contents) source = Some contents
-given_or None (Some section) = Some section.contents
-given_or None None = None
+abbrev pub given_or_section : (given : Option (List ℕ)) → (source : Option SectionAt) → Option (List ℕ)
+given_or_section (Some contents) source = Some contents
+given_or_section None (Some section) = Some section.contents
+given_or_section None None = None
 
 -- the contents of the section with this id in a module of these sections, with these changes
 abbrev pub contents_if : (all : List SectionAt) → Changes → (id : ℕ) → Option (List ℕ)
-contents_if all changes id = given_or (contents_in changes.given.items id) (first_with id all)
+contents_if all changes id = given_or_section (contents_in changes.given.items id) (first_with id all)
 
 -- The contents of a section of this kind, if there is one, and the new contents: the indices of functions are others.
 abbrev pub AreMovedIf : (imported added : ℕ) → SectionKind → (old new : Option (List ℕ)) → Type 0
@@ -32,8 +32,8 @@ AreMovedIf imported added k (Some old) (Some new) = AreMovedContents imported ad
 
 -- The indices of functions are others in the section of this kind, if there is one, and all other sections stay.
 pub record MovesSection (imported added : ℕ) (all : List SectionAt) (k : SectionKind) (old new : Changes) : Type 0 where
-  pub moved : AreMovedIf imported added k (contents_if all old (id_of k)) (contents_in new.given.items (id_of k))
-  pub others : (id : ℕ) → id ≢ id_of k → contents_in new.given.items id ≡ contents_in old.given.items id
+  pub moved : AreMovedIf imported added k (contents_if all old (section_id k)) (contents_in new.given.items (section_id k))
+  pub others : (id : ℕ) → id ≢ section_id k → contents_in new.given.items id ≡ contents_in old.given.items id
 
 -- The indices of functions are others in the sections of these kinds, one after the other.
 abbrev pub MoveSections : (imported added : ℕ) → List SectionAt → List SectionKind → (old new : Changes) → Type 0
@@ -49,7 +49,7 @@ naming_functions = section.Table ∷ section.Global ∷ section.Export ∷ secti
 pub record ImportsFunction (all : List SectionAt) (imported added : ℕ) (item : List ℕ) (old new : Changes) : Type 0 where
   pub moved : Changes
   pub moves : MoveSections imported added all naming_functions old moved
-  pub adds : AddsItem all moved new (id_of section.Import) item
+  pub adds : AddsItem all moved new (section_id section.Import) item
 
 -- The changes import a function with this name from the module with the name `from`, of this type of the source.
 pub record AddsImport (source : ParsedModule) (from name : List ℕ) (ty : ℕ) (all : List SectionAt) (old new : Changes) : Type 0 where

@@ -8,7 +8,7 @@ use Rattle.wasm_module.specs.declared.parsed.ParsedModule.{ParsedModule}
 use Rattle.wasm_sections.specs.CodeSections.{BodyAt, IsCode, code_section, body_at}
 use Rattle.wasm_module.specs.RewrittenCode.{OneChange, FunctionChange, IsChanged, AreChanged}
 use Rattle.wasm_sections.specs.Sections.{SectionAt}
-use Rattle.wasm_module.specs.WrittenModules.{Writes, count_bodies}
+use Rattle.wasm_module.specs.WrittenModules.{BodyWriting, count_bodies}
 
 -- the bodies of the source for which bytes are kept, in order
 abbrev pub bodies_in : List KeptBody → List BodyAt
@@ -35,7 +35,7 @@ pub record AreKept {State : Type 0} (changes : FunctionChange State) (source : P
   pub are_changed : AreChanged changes source before source.imported (bodies_in kept.bodies.items) (raws_in kept.bodies.items) after
 
 -- Each body that is kept is written in this way, for the function and the body of the source for which it is kept.
-abbrev pub AreKeptAs : Writes → (source : ParsedModule) → KeptBodies → Type 0
+abbrev pub AreKeptAs : BodyWriting → (source : ParsedModule) → KeptBodies → Type 0
 AreKeptAs writes source kept = (function : ℕ) (b : BodyAt) (raw : List ℕ) → IsKept kept source function b raw → writes source function b raw
 
 -- The contents of the code section that is written: those of the source's code section, each function's body as the changes made

@@ -18,7 +18,7 @@ use Rattle.wasm_sections.specs.declared.fault.ModuleError.{ModuleError}
 use Rattle.wasm_sections.specs.declared.fault.ModuleFault.TheVariants.{Memory}
 use Rattle.wasm_module.specs.declared.parsed.ParsedModule.{ParsedModule}
 use Rattle.wasm_sections.specs.CodeSections.{BodyAt}
-use Rattle.wasm_sections.specs.Declarations.{parameters_of, HaveLocals, max_locals}
+use Rattle.wasm_sections.specs.Declarations.{parameters_of_type, HaveLocals, max_locals}
 use Rattle.wasm_module.specs.RewrittenCode.{Entered, setting_in}
 
 -- the place in the file of a fault of a body that begins at this place
@@ -31,7 +31,7 @@ place_in_file start (Emit e) = start
 abbrev pub HasNoFront : ParsedModule → (function : ℕ) → (bytes : List ℕ) → Type 0
 HasNoFront now function bytes =
     (type : ℕ) (operators : List ℕ) (locals : List (ValType ℕ)) → slice_get now.func_types.items function ≡ Some type →
-    HaveLocals now.spaces.indices (parameters_of now.module.types type) bytes operators locals → max_locals < length locals
+    HaveLocals now.spaces.indices (parameters_of_type now.module.types type) bytes operators locals → max_locals < length locals
 
 -- The operators of this function's body, parsed with these declarations, have a first fault, at this place of the file.
 pub record HasFaultAt (source : ParsedModule) (function : ℕ) (b : BodyAt) (now : ParsedModule) (at : ℕ) : Type 0 where
@@ -41,8 +41,8 @@ pub record HasFaultAt (source : ParsedModule) (function : ℕ) (b : BodyAt) (now
   pub place : at ≡ failure.at
 
 -- The body of this function of the source isn't parsed, in the module as it is then.
-abbrev pub IsRefused : ParsedModule → ℕ → BodyAt → ParsedModule → ModuleError → Type 0
-IsRefused source function b now e = (e.fault ≡ Memory) ⊎ (HasNoFront now function b.bytes ⊎ HasFaultAt source function b now e.at)
+abbrev pub IsRefusedBody : ParsedModule → ℕ → BodyAt → ParsedModule → ModuleError → Type 0
+IsRefusedBody source function b now e = (e.fault ≡ Memory) ⊎ (HasNoFront now function b.bytes ⊎ HasFaultAt source function b now e.at)
 
 -- The operators are accepted, but their normal form has no raw body, for one of the reasons why that of a parsed body has none.
 pub record HasNoBytes (source : ParsedModule) (function : ℕ) (b : BodyAt) (now : ParsedModule) : Type 0 where
@@ -56,4 +56,4 @@ pub record HasNoBytes (source : ParsedModule) (function : ℕ) (b : BodyAt) (now
 
 -- The body of this function of the source isn't rewritten.
 abbrev pub IsNotRewritten : ParsedModule → ℕ → BodyAt → ParsedModule → ModuleError → Type 0
-IsNotRewritten source function b now e = IsRefused source function b now e ⊎ ((e.at ≡ b.start) × HasNoBytes source function b now)
+IsNotRewritten source function b now e = IsRefusedBody source function b now e ⊎ ((e.at ≡ b.start) × HasNoBytes source function b now)

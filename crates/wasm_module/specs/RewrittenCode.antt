@@ -19,7 +19,7 @@ use Rattle.walrus_rewrite.specs.RewrittenBodies.{KeepsSource}
 use Rattle.wasm_module.specs.declared.parsed.ParsedModule.{ParsedModule}
 use Rattle.wasm_sections.specs.OtherLocals.{HasOtherLocals}
 use Rattle.wasm_sections.specs.CodeSections.{BodyAt}
-use Rattle.wasm_sections.specs.Declarations.{parameters_of, HaveLocals, first_numbers}
+use Rattle.wasm_sections.specs.Declarations.{parameters_of_type, HaveLocals, first_numbers}
 use Rattle.wasm_sections.specs.LocalsBelow.{locals_below}
 
 -- ---- the module, as bodies are rewritten one after the other
@@ -43,8 +43,8 @@ pub record Enters (source : ParsedModule) (function : ℕ) (b : BodyAt) (now : P
   pub is_type : slice_get source.func_types.items function ≡ Some type
   pub bytes : body.bytes.now ≡ b.bytes
   pub start : body.start ≡ b.start
-  pub locals : HaveLocals now.spaces.indices (parameters_of now.module.types type) b.bytes (body_operators body) now.module.locals
-  pub args_are : args ≡ first_numbers (length (parameters_of now.module.types type))
+  pub locals : HaveLocals now.spaces.indices (parameters_of_type now.module.types type) b.bytes (body_operators body) now.module.locals
+  pub args_are : args ≡ first_numbers (length (parameters_of_type now.module.types type))
   pub count_is : count ≡ length now.module.locals
   pub local_ids : (local : ℕ) → local < count → local_of now.spaces.indices 0 local ≡ Ok local
 

@@ -13,7 +13,7 @@ use Rattle.wasm_sections.specs.CodeSections.{BodyAt, IsCode, code_section, entry
 use Rattle.wasm_sections.specs.GivenContents.{contents_in, added_bodies}
 use Rattle.wasm_sections.specs.Omissions.{omits_name, names_object}
 use Rattle.wasm_sections.specs.declared.omissions.OmittedSections.{OmittedSections}
-use Rattle.wasm_sections.specs.Sections.{preamble, section, SectionAt, IsModule, BeginsWithName, rank, next_rank, id_of}
+use Rattle.wasm_sections.specs.Sections.{preamble, section, SectionAt, IsModule, BeginsWithName, rank, next_rank, section_id}
 
 -- Bytes go to a writer, whose contents may be known, and the place moves from `at` to `end`, after them.
 pub record Puts (old new : Option (List ℕ)) (at end : ℕ) (bytes : List ℕ) : Type 0 where
@@ -28,13 +28,13 @@ new_contents_in m = m.changes.given.items
 
 -- whether the rank of a given section is between these two
 abbrev pub is_between : ℕ → ℕ → NewContents → Bool
-is_between first second g = nat_lt first (rank (id_of g.kind)) && nat_lt (rank (id_of g.kind)) second
+is_between first second g = nat_lt first (rank (section_id g.kind)) && nat_lt (rank (section_id g.kind)) second
 
 -- the given sections with such a rank, as they are written
 abbrev pub between : (first second : ℕ) → List NewContents → List ℕ
 between first second [] = []
 between first second (g ∷ gs) =
-    if is_between first second g then section (id_of g.kind) g.contents.items ++ between first second gs else between first second gs
+    if is_between first second g then section (section_id g.kind) g.contents.items ++ between first second gs else between first second gs
 
 -- the new sections after a section of this rank, in a module of these sections: the given ones with a rank between this one and
 -- that of the next section
@@ -100,10 +100,10 @@ abbrev pub count_bodies : ParsedModule → ℕ
 count_bodies source = length source.func_types.items - source.imported
 
 -- these bytes are written for this body of the function of the source with this index
-abbrev pub Writes : Type 1
-Writes = ParsedModule → (function : ℕ) → BodyAt → (raw : List ℕ) → Type 0
+abbrev pub BodyWriting : Type 1
+BodyWriting = ParsedModule → (function : ℕ) → BodyAt → (raw : List ℕ) → Type 0
 
-module _ (writes : Writes) (source : ParsedModule) where
+module _ (writes : BodyWriting) (source : ParsedModule) where
   -- the bodies of the functions from this one on, in order
   abbrev pub AreWritten : (function : ℕ) → List BodyAt → (raws : List (List ℕ)) → Type 0
   AreWritten function [] [] = Unit {0}

@@ -5,7 +5,7 @@ ghost use Rattle.wasm_sections.specs.Additions.{AreUnchanged, AddsItem, contents
 ghost use Rattle.wasm_sections.specs.Constants.{global_of};
 ghost use Rattle.wasm_module.specs.AddedItems.{export_of, AddsExport};
 ghost use Rattle.wasm_module.specs.ImportedFunctions.{IsWrittenFunction};
-ghost use Rattle.wasm_sections.specs.Sections.{SectionAt, IsModule, first_with, id_of};
+ghost use Rattle.wasm_sections.specs.Sections.{SectionAt, IsModule, first_with, section_id};
 
 mod data;
 mod functions;
@@ -55,7 +55,7 @@ impl<'a> ParsedModule<'a> {
     /// The contents of the source's section of this kind, or no items.
     fn source_contents(&self, kind: SectionKind) -> Result<&'a [u8], ModuleError>
         ensures { (all : List SectionAt) → IsModule self.now.bytes.now all → IfOk result
-            (λ contents. contents.now ≡ source_contents (first_with (id_of kind) all)) }
+            (λ contents. contents.now ≡ source_contents (first_with (section_id kind) all)) }
     {
         match self.section(kind) {
             Ok(Some(section)) => Ok(section.contents()),
@@ -72,7 +72,7 @@ impl<'a> ParsedModule<'a> {
         kind: SectionKind,
     ) -> Result<&'c [u8], ModuleError>
         ensures { (all : List SectionAt) → IsModule self.now.bytes.now all → IfOk result
-            (λ contents. contents.now ≡ contents_with all changes.now (id_of kind)) }
+            (λ contents. contents.now ≡ contents_with all changes.now (section_id kind)) }
     {
         match changes.contents_of(kind) {
             Some(contents) => Ok(contents),
@@ -88,7 +88,7 @@ impl<'a> ParsedModule<'a> {
         item: &[u8],
     ) -> Result<(), ModuleError>
         ensures ok { (all : List SectionAt) → IsModule self.now.bytes.now all
-            → OnOk result (AddsItem all changes.old changes.new (id_of kind) item.now) }
+            → OnOk result (AddsItem all changes.old changes.new (section_id kind) item.now) }
         ensures err { OnErr result (AreUnchanged changes.old changes.new) }
     {
         let contents = self.source_contents(kind)?;

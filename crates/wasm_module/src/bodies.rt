@@ -3,9 +3,9 @@
 ghost use Rattle.std.specs.Prelude.{◌≡◌, ℕ, List, [], length, bytes_eq, OnOk, IfOk, IfErr};
 ghost use Rattle.walrus_emit_state.specs.Emission.{Output};
 ghost use Rattle.walrus_rewrite.specs.RawBodies.{emit_input, IsRawBodyOf};
-ghost use Rattle.wasm_sections.specs.CodeSections.{body_at, bytes_of};
+ghost use Rattle.wasm_sections.specs.CodeSections.{body_at, body_bytes};
 ghost use Rattle.wasm_module.specs.RewrittenCode.{Extends, IsRewritten, IsParsed};
-ghost use Rattle.wasm_module.specs.Refusals.{IsRefused, IsNotRewritten};
+ghost use Rattle.wasm_module.specs.Refusals.{IsRefusedBody, IsNotRewritten};
 
 use crate::body_context::BodyContext;
 use crate::body_errors::body_error;
@@ -44,7 +44,7 @@ impl Scratch {
     /// What the raw body takes that was written last, for this body of the source.
     pub(crate) fn measured(&self, source: Body<'_>) -> Measured
         ensures len { result.len ≡ length self.now.raw.items }
-        ensures same { result.is_same ≡ bytes_eq self.now.raw.items (bytes_of source.entry) }
+        ensures same { result.is_same ≡ bytes_eq self.now.raw.items (body_bytes source.entry) }
     {
         Measured {
             len: self.raw.len(),
@@ -410,7 +410,7 @@ impl<'a> ParsedModule<'a> {
         ensures parsed { IfOk result
             (IsParsed self.old body.entry.func (body_at body.entry) self.new) }
         ensures refused { IfErr result
-            (IsRefused self.old body.entry.func (body_at body.entry) self.new) }
+            (IsRefusedBody self.old body.entry.func (body_at body.entry) self.new) }
         ensures instrs { instrs.new.items ≡ [] }
     {
         instrs.clear();
@@ -455,7 +455,7 @@ impl<'a> ParsedModule<'a> {
         ensures parsed { IfOk result
             (IsParsed self.old body.entry.func (body_at body.entry) self.new) }
         ensures refused { IfErr result
-            (IsRefused self.old body.entry.func (body_at body.entry) self.new) }
+            (IsRefusedBody self.old body.entry.func (body_at body.entry) self.new) }
         ensures instrs { instrs.new.items ≡ [] }
     {
         match self.parse_once(body, instrs) {

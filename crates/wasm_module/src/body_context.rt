@@ -2,10 +2,10 @@
 
 ghost use Rattle.std.specs.Prelude.{◌≡◌, ◌≤◌, ◌⊎◌, length, slice_get, Some, OnOk, IfOk, IfErr};
 ghost use Rattle.walrus_parser.specs.Bodies.{body_operators};
-ghost use Rattle.wasm_module.specs.Bodies.{IsWithin};
-ghost use Rattle.wasm_sections.specs.CodeSections.{place_of, bytes_of, body_at};
+ghost use Rattle.wasm_module.specs.Bodies.{IsWithinBytes};
+ghost use Rattle.wasm_sections.specs.CodeSections.{place_of, body_bytes, body_at};
 ghost use Rattle.wasm_sections.specs.declared.fault.ModuleFault.TheVariants.{Memory};
-ghost use Rattle.wasm_sections.specs.Declarations.{HaveLocals, parameters_of, first_numbers, max_locals};
+ghost use Rattle.wasm_sections.specs.Declarations.{HaveLocals, parameters_of_type, first_numbers, max_locals};
 ghost use Rattle.wasm_module.specs.Refusals.{HasNoFront};
 ghost use Rattle.wasm_module.specs.RewrittenCode.{Extends, Enters};
 
@@ -40,18 +40,18 @@ impl<'a> ParsedModule<'a> {
     fn declared(&self, body: Body<'a>) -> Result<(ModuleLocals, BodyContext<'a>), ModuleError>
         ensures is_type { IfOk result
             (λ x. slice_get self.now.func_types.items body.entry.func ≡ Some x.1.ty) }
-        ensures bytes { IfOk result (λ x. x.1.body.bytes.now ≡ bytes_of body.entry) }
+        ensures bytes { IfOk result (λ x. x.1.body.bytes.now ≡ body_bytes body.entry) }
         ensures start { IfOk result (λ x. x.1.body.start ≡ place_of body.entry) }
-        ensures fits { IfOk result (λ x. IsWithin x.1.body) }
+        ensures fits { IfOk result (λ x. IsWithinBytes x.1.body) }
         ensures locals { IfOk result (λ x. HaveLocals self.now.spaces.indices
-            (parameters_of self.now.«module».types x.1.ty) (bytes_of body.entry)
+            (parameters_of_type self.now.«module».types x.1.ty) (body_bytes body.entry)
             (body_operators x.1.body) x.0) }
         ensures args { IfOk result (λ x. x.1.args.items
-            ≡ first_numbers (length (parameters_of self.now.«module».types x.1.ty))) }
+            ≡ first_numbers (length (parameters_of_type self.now.«module».types x.1.ty))) }
         ensures count { IfOk result (λ x. x.1.locals ≡ length x.0) }
         ensures few { IfOk result (λ x. x.1.locals ≤ max_locals) }
         ensures refused { IfErr result (λ e. (e.fault ≡ Memory)
-            ⊎ HasNoFront self.now body.entry.func (bytes_of body.entry)) }
+            ⊎ HasNoFront self.now body.entry.func (body_bytes body.entry)) }
     {
         let Some(ty) = self.type_of(body.func) else {
             return Err(body.input.fault(ModuleFault::BodyCount));
@@ -81,10 +81,10 @@ impl<'a> ParsedModule<'a> {
         ensures extends { Extends self.old self.new }
         ensures enters { IfOk result (λ e. Enters self.old body.entry.func (body_at body.entry)
             self.new e.ty e.args.items e.locals e.body) }
-        ensures fits { IfOk result (λ e. IsWithin e.body) }
+        ensures fits { IfOk result (λ e. IsWithinBytes e.body) }
         ensures offset { OnOk result (self.new.«module».code_section_offset ≡ 0) }
         ensures refused { IfErr result (λ e. (e.fault ≡ Memory)
-            ⊎ HasNoFront self.new body.entry.func (bytes_of body.entry)) }
+            ⊎ HasNoFront self.new body.entry.func (body_bytes body.entry)) }
     {
         let (types, context) = self.declared(body)?;
         match self.spaces.ensure_locals(context.locals) {

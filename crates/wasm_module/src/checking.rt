@@ -3,7 +3,7 @@
 ghost use Rattle.std.specs.Prelude.{OnOk, IfErr};
 ghost use Rattle.wasm_sections.specs.CodeSections.{body_at};
 ghost use Rattle.wasm_module.specs.RewrittenCode.{Extends, IsAccepted};
-ghost use Rattle.wasm_module.specs.Refusals.{IsRefused};
+ghost use Rattle.wasm_module.specs.Refusals.{IsRefusedBody};
 
 use crate::bodies::{Scratch, needs_type};
 use crate::body_context::BodyContext;
@@ -19,7 +19,7 @@ impl<'a> ParsedModule<'a> {
         ensures accepted { OnOk result
             (IsAccepted self.old body.entry.func (body_at body.entry) self.new) }
         ensures refused { IfErr result
-            (IsRefused self.old body.entry.func (body_at body.entry) self.new) }
+            (IsRefusedBody self.old body.entry.func (body_at body.entry) self.new) }
     {
         let BodyContext {
             ty,
@@ -54,7 +54,7 @@ impl<'a> ParsedModule<'a> {
         ensures accepted { OnOk result
             (IsAccepted self.old body.entry.func (body_at body.entry) self.new) }
         ensures refused { IfErr result
-            (IsRefused self.old body.entry.func (body_at body.entry) self.new) }
+            (IsRefusedBody self.old body.entry.func (body_at body.entry) self.new) }
     {
         match self.check_once(body, scratch) {
             Ok(()) => Ok(()),

@@ -6,7 +6,7 @@ ghost use Rattle.wasm_operators.specs.declared.types.Space.TheVariants.{Types};
 ghost use Rattle.walrus_maps.specs.IndexMaps.{number_of};
 ghost use Rattle.wasm_sections.specs.MovedFunctions.{import_of};
 ghost use Rattle.wasm_module.specs.ImportedFunctions.{contents_if, AreMovedIf, MovesSection, MoveSections, naming_functions, ImportsFunction, AddsImport, HasOneImportMore, IsNextFunction, IsWrittenFunction};
-ghost use Rattle.wasm_sections.specs.Sections.{SectionAt, IsModule, id_of};
+ghost use Rattle.wasm_sections.specs.Sections.{SectionAt, IsModule, section_id};
 
 use crate::parsed::ParsedModule;
 use std::alloc::Global;
@@ -89,7 +89,7 @@ impl<'a> ParsedModule<'a> {
         kind: SectionKind,
     ) -> Result<Option<&'c [u8]>, ModuleError>
         ensures { (all : List SectionAt) → IsModule self.now.bytes.now all → IfOk result
-            (λ found. option_map (λ c. c.now) found ≡ contents_if all changes.now (id_of kind)) }
+            (λ found. option_map (λ c. c.now) found ≡ contents_if all changes.now (section_id kind)) }
     {
         if let Some(contents) = changes.contents_of(kind) {
             return Ok(Some(contents));
@@ -110,7 +110,7 @@ impl<'a> ParsedModule<'a> {
     ) -> Result<Option<Vec<u8>>, ModuleError>
         ensures { (all : List SectionAt) → IsModule self.now.bytes.now all → IfOk result
             (λ found. AreMovedIf numbers.imported numbers.added kind
-            (contents_if all changes.now (id_of kind)) (option_map (λ v. v.items) found)) }
+            (contents_if all changes.now (section_id kind)) (option_map (λ v. v.items) found)) }
     {
         match self.contents_if(changes, kind) {
             Ok(Some(contents)) => match numbers.moved_contents(self.alloc, kind, contents) {

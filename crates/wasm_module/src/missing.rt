@@ -3,7 +3,7 @@
 
 ghost use Rattle.std.specs.Prelude.{◌≡◌, IfErr};
 ghost use Rattle.wasm_sections.specs.declared.fault.ModuleFault.TheVariants.{Memory};
-ghost use Rattle.wasm_sections.specs.Declarations.{parameters_of, results_of};
+ghost use Rattle.wasm_sections.specs.Declarations.{parameters_of_type, results_of_type};
 ghost use Rattle.wasm_module.specs.RewrittenCode.{Extends};
 
 use crate::custom::labels::opened;
@@ -16,7 +16,7 @@ use wasm_sections::{Body, ModuleError};
 impl<'a> ParsedModule<'a> {
     /// The parameters of functions of this type; none if it isn't a function type.
     pub fn params(&self, ty: TypeId) -> &[ValType]
-        ensures { result.now ≡ parameters_of self.now.«module».types ty }
+        ensures { result.now ≡ parameters_of_type self.now.«module».types ty }
     {
         if self.module.types.is_func(ty) {
             self.module.types.params(ty)
@@ -27,7 +27,7 @@ impl<'a> ParsedModule<'a> {
 
     /// The results of functions of this type; none if it isn't a function type.
     pub fn results(&self, ty: TypeId) -> &[ValType]
-        ensures { result.now ≡ results_of self.now.«module».types ty }
+        ensures { result.now ≡ results_of_type self.now.«module».types ty }
     {
         if self.module.types.is_func(ty) {
             self.module.types.results(ty)

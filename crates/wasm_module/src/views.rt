@@ -2,7 +2,7 @@
 //! memory.
 
 ghost use Rattle.std.specs.Prelude.{◌≡◌, List, length, option_map, IfOk, IfSome};
-ghost use Rattle.wasm_sections.specs.Sections.{SectionAt, IsModule, first_with, id_of, section_at};
+ghost use Rattle.wasm_sections.specs.Sections.{SectionAt, IsModule, first_with, section_id, section_at};
 ghost use Rattle.wasm_sections.specs.Views.{HasItems, HasBodies, HasSomeItems, HasStart};
 
 use crate::parsed::ParsedModule;
@@ -20,7 +20,7 @@ impl<'a> ParsedModule<'a> {
     /// None, since the sections were read before.
     pub fn section(&self, kind: SectionKind) -> Result<Option<Section<'a>>, ModuleError>
         ensures { (all : List SectionAt) → IsModule self.now.bytes.now all
-            → IfOk result (λ found. first_with (id_of kind) all ≡ option_map section_at found) }
+            → IfOk result (λ found. first_with (section_id kind) all ≡ option_map section_at found) }
     {
         let id = kind.id();
         'sections: for section in Sections::new(self.bytes())? {
@@ -36,7 +36,7 @@ impl<'a> ParsedModule<'a> {
     /// The items of the section of this kind; none if there is no such section.
     pub(crate) fn items(&self, kind: SectionKind) -> Result<Items<'a>, ModuleError>
         ensures { (all : List SectionAt) → IsModule self.now.bytes.now all
-            → IfOk result (λ items. HasItems (first_with (id_of kind) all) items) }
+            → IfOk result (λ items. HasItems (first_with (section_id kind) all) items) }
     {
         match self.section(kind) {
             Ok(Some(section)) => Items::of_contents(section.contents),
@@ -55,7 +55,7 @@ impl<'a> ParsedModule<'a> {
     /// None, since the sections were read before.
     pub fn item_count(&self, kind: SectionKind) -> Result<u32, ModuleError>
         ensures { (all : List SectionAt) → IsModule self.now.bytes.now all
-            → IfOk result (HasSomeItems (first_with (id_of kind) all)) }
+            → IfOk result (HasSomeItems (first_with (section_id kind) all)) }
     {
         match self.items(kind) {
             Ok(items) => Ok(items.count),

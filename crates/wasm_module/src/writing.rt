@@ -7,7 +7,7 @@ ghost use Rattle.wasm_operators.specs.Shortest.{short_number};
 ghost use Rattle.wasm_module.specs.declared.parsed.ParsedModule.{ParsedModule as Parsed};
 ghost use Rattle.wasm_sections.specs.CodeSections.{body_at, entry};
 ghost use Rattle.wasm_module.specs.RewrittenCode.{Extends};
-ghost use Rattle.wasm_sections.specs.Sections.{id_of, section as whole_section, section_at, SectionAt, IsModule};
+ghost use Rattle.wasm_sections.specs.Sections.{section_id, section as whole_section, section_at, SectionAt, IsModule};
 ghost use Rattle.wasm_sections.specs.GivenContents.{added_bodies};
 ghost use Rattle.wasm_module.specs.WrittenModules.{Puts, new_contents_in, between, new_after, HasItemsOf, IsWrittenCode, IsWrittenFor, IsWrittenAt, IsWrittenModule};
 
@@ -98,7 +98,7 @@ fn put_header<W: Write>(
     out: &mut W,
 ) -> Result<usize, WriteError>
     ensures { IfOk result (λ end. Puts (W.contents out.old) (W.contents out.new) at end
-        (id_of kind ∷ short_number len)) }
+        (section_id kind ∷ short_number len)) }
 {
     let at = put(&[kind.id()], at, out)?;
     put_number(alloc, len, at, out)
@@ -113,7 +113,7 @@ pub(crate) fn put_section<W: Write>(
     out: &mut W,
 ) -> Result<usize, WriteError>
     ensures { IfOk result (λ end. Puts (W.contents out.old) (W.contents out.new) at end
-        (whole_section (id_of kind) contents.now)) }
+        (whole_section (section_id kind) contents.now)) }
 {
     let at = put_header(alloc, kind, contents.len(), at, out)?;
     put(contents, at, out)

@@ -1,6 +1,6 @@
 //! The operators that most code consists of.
 ghost use Rattle.std.specs.Prelude.{◌≡◌};
-ghost use Rattle.wasm_ops.specs.CommonOperators.{listed};
+ghost use Rattle.wasm_ops.specs.CommonOperators.{common_listed};
 
 use wasm_operators::{Operator, RawMemArg};
 use wasm_types::{BinaryOp, LoadKind, StoreKind, UnaryOp};
@@ -85,7 +85,7 @@ impl CommonOperator {
     /// The same operator among all.
     #[inline(always)]
     pub fn operator(self) -> Operator<'static>
-        ensures { result ≡ listed self }
+        ensures { result ≡ common_listed self }
     {
         match self {
             CommonOperator::LocalGet { local } => Operator::LocalGet { local },

@@ -17,7 +17,7 @@ mod vector_access_reader;
 mod vector_reader;
 
 pub use common::CommonOperator;
-pub use reader::Reader;
+pub use reader::{Reader, law_front};
 pub use type_reader::read_value_type;
 pub use wasm_numbers::{ReadError, ReadFault, read_u32, read_u64};
 pub use wasm_operators::{

@@ -3,7 +3,7 @@
 ghost use Rattle.std.specs.Prelude.{◌≡◌, ◌≤◌, []};
 ghost use Rattle.wasm_operators.specs.Operations.{operation};
 ghost use Rattle.wasm_operators.specs.Meaning.{meaning};
-ghost use Rattle.wasm_ops.specs.CommonOperators.{listed};
+ghost use Rattle.wasm_ops.specs.CommonOperators.{common_listed};
 
 use crate::common::CommonOperator;
 use wasm_operators::{Opcode, Operator};
@@ -14,7 +14,7 @@ use wasm_types::{BinaryOp, UnaryOp};
 fn comparison(byte: u8) -> CommonOperator
     requires low { 0x45 ≤ byte }
     requires high { byte ≤ 0x66 }
-    ensures { meaning (listed result) ≡ operation (Opcode.Byte byte) [] }
+    ensures { meaning (common_listed result) ≡ operation (Opcode.Byte byte) [] }
 {
     match byte {
         0x45 => CommonOperator::Unop(UnaryOp::I32Eqz),
@@ -59,7 +59,7 @@ fn comparison(byte: u8) -> CommonOperator
 fn integer_arithmetic(byte: u8) -> CommonOperator
     requires low { 0x67 ≤ byte }
     requires high { byte ≤ 0x8a }
-    ensures { meaning (listed result) ≡ operation (Opcode.Byte byte) [] }
+    ensures { meaning (common_listed result) ≡ operation (Opcode.Byte byte) [] }
 {
     match byte {
         0x67 => CommonOperator::Unop(UnaryOp::I32Clz),
@@ -106,7 +106,7 @@ fn integer_arithmetic(byte: u8) -> CommonOperator
 fn float_arithmetic(byte: u8) -> CommonOperator
     requires low { 0x8b ≤ byte }
     requires high { byte ≤ 0xa6 }
-    ensures { meaning (listed result) ≡ operation (Opcode.Byte byte) [] }
+    ensures { meaning (common_listed result) ≡ operation (Opcode.Byte byte) [] }
 {
     match byte {
         0x8b => CommonOperator::Unop(UnaryOp::F32Abs),
@@ -145,7 +145,7 @@ fn float_arithmetic(byte: u8) -> CommonOperator
 fn conversion(byte: u8) -> CommonOperator
     requires low { 0xa7 ≤ byte }
     requires high { byte ≤ 0xc4 }
-    ensures { meaning (listed result) ≡ operation (Opcode.Byte byte) [] }
+    ensures { meaning (common_listed result) ≡ operation (Opcode.Byte byte) [] }
 {
     match byte {
         0xa7 => CommonOperator::Unop(UnaryOp::I32WrapI64),
@@ -186,7 +186,7 @@ fn conversion(byte: u8) -> CommonOperator
 pub(crate) fn numeric(byte: u8) -> CommonOperator
     requires low { 0x45 ≤ byte }
     requires high { byte ≤ 0xc4 }
-    ensures { meaning (listed result) ≡ operation (Opcode.Byte byte) [] }
+    ensures { meaning (common_listed result) ≡ operation (Opcode.Byte byte) [] }
 {
     match byte {
         0x45..=0x66 => comparison(byte),
@@ -202,7 +202,7 @@ pub(crate) fn numeric(byte: u8) -> CommonOperator
 pub(crate) fn numeric_here(byte: u8) -> CommonOperator
     requires low { 0x45 ≤ byte }
     requires high { byte ≤ 0xc4 }
-    ensures { meaning (listed result) ≡ operation (Opcode.Byte byte) [] }
+    ensures { meaning (common_listed result) ≡ operation (Opcode.Byte byte) [] }
 {
     numeric(byte)
 }

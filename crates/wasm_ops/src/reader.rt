@@ -64,7 +64,7 @@ fn read_front(bytes: &[u8]) -> Result<(Operator<'_>, &[u8]), ReadFault>
 
 /// An operator that is read at the front is spelt by the bytes that are taken.
 #[inline(always)]
-fn law_front(bytes: &[u8])
+pub fn law_front(bytes: &[u8])
     ensures { (o : RawOperation) (rest : List ℕ) → read_operation bytes.now ≡ Ok (o, rest)
         → (text : List ℕ) × (bytes.now ≡ text ++ rest) × Spells o text }
 {}
@@ -132,7 +132,7 @@ impl<'a> Reader<'a> {
     ghost use Rattle.wasm_operators.specs.Spelling.{Spells, read_operation};
     ghost use Rattle.wasm_ops.specs.Position.{Position, Moves};
     ghost use Rattle.wasm_operators.specs.Meaning.{meaning};
-    ghost use Rattle.wasm_ops.specs.CommonOperators.{listed};
+    ghost use Rattle.wasm_ops.specs.CommonOperators.{common_listed};
 
     /// A reader of these bytes. `start` is the place of the first byte: its byte offset.
     pub fn new(bytes: &'a [u8], start: usize) -> Self
@@ -187,15 +187,15 @@ impl<'a> Reader<'a> {
     /// Moves past the common operator that is spelt at the front, to the bytes that follow it.
     #[inline(always)]
     pub fn pass_common(&mut self, common: CommonOperator, rest: &'a [u8])
-        requires { read_operation self.old.rest ≡ Ok (meaning (listed common), rest.now) }
+        requires { read_operation self.old.rest ≡ Ok (meaning (common_listed common), rest.now) }
         // It is spelt by the bytes that were passed.
         ensures found { (text : List ℕ) × Moves self.old text self.new
-            × Spells (meaning (listed common)) text }
+            × Spells (meaning (common_listed common)) text }
         // It is the operator that is spelt at the front.
         ensures only { (o : RawOperation) (text rest : List ℕ) → Spells o text → self.old.rest ≡ text ++ rest
-            → (meaning (listed common) ≡ o) × Moves self.old text self.new }
+            → (meaning (common_listed common) ≡ o) × Moves self.old text self.new }
         // It is read, as a function of the bytes.
-        ensures is_read { read_operation self.old.rest ≡ Ok (meaning (listed common), self.new.rest) }
+        ensures is_read { read_operation self.old.rest ≡ Ok (meaning (common_listed common), self.new.rest) }
     {
         self.pass(&common.operator(), rest);
     }
@@ -230,7 +230,7 @@ impl<'a> Reader<'a> {
     #[inline(always)]
     #[tactic(auto, unfolding(wasm_operators::specs::Spelling::read_operation, wasm_operators::specs::Opcodes::opcode, wasm_operators::specs::Opcodes::kinds_of_byte))]
     fn find_common(&self) -> Option<(CommonOperator, &'a [u8])>
-        ensures { IfSome result (λ x. read_operation self.now.rest ≡ Ok (meaning (listed x.0), x.1.now)) }
+        ensures { IfSome result (λ x. read_operation self.now.rest ≡ Ok (meaning (common_listed x.0), x.1.now)) }
     {
         let [byte, rest @ ..] = self.rest else {
             return None;
@@ -271,9 +271,9 @@ impl<'a> Reader<'a> {
     #[inline(always)]
     pub fn peek_common(&self) -> Option<(CommonOperator, &'a [u8])>
         // It is spelt by the bytes before those.
-        ensures spelt { IfSome result (λ x. (text : List ℕ) × Spells (meaning (listed x.0)) text) }
+        ensures spelt { IfSome result (λ x. (text : List ℕ) × Spells (meaning (common_listed x.0)) text) }
         // The result, as a function of the bytes.
-        ensures is_read { IfSome result (λ x. read_operation self.now.rest ≡ Ok (meaning (listed x.0), x.1.now)) }
+        ensures is_read { IfSome result (λ x. read_operation self.now.rest ≡ Ok (meaning (common_listed x.0), x.1.now)) }
     {
         law_front(self.rest);
         self.find_common()
@@ -285,12 +285,12 @@ impl<'a> Reader<'a> {
     pub fn read_common(&mut self) -> Option<CommonOperator>
         // The operator that is read is spelt by the bytes that were taken.
         ensures found { IfSome result (λ x. (text : List ℕ) × Moves self.old text self.new
-            × Spells (meaning (listed x)) text) }
+            × Spells (meaning (common_listed x)) text) }
         // It is the operator that is spelt at the front.
         ensures only { (o : RawOperation) (text rest : List ℕ) → Spells o text → self.old.rest ≡ text ++ rest
-            → IfSome result (λ x. (meaning (listed x) ≡ o) × Moves self.old text self.new) }
+            → IfSome result (λ x. (meaning (common_listed x) ≡ o) × Moves self.old text self.new) }
         // The result, as a function of the bytes.
-        ensures is_read { IfSome result (λ x. read_operation self.old.rest ≡ Ok (meaning (listed x), self.new.rest)) }
+        ensures is_read { IfSome result (λ x. read_operation self.old.rest ≡ Ok (meaning (common_listed x), self.new.rest)) }
         ensures none { result ≡ None → self.new ≡ self.old }
     {
         match self.peek_common() {

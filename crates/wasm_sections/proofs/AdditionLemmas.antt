@@ -8,7 +8,7 @@ use Rattle.wasm_operators.specs.Shortest.{short_number}
 use Rattle.wasm_sections.specs.declared.changes.Changes.{Changes}
 use Rattle.wasm_sections.specs.declared.changes.NewContents.{NewContents}
 use Rattle.wasm_sections.specs.Additions.{IsGivenAt, SetsContents, AreUnchanged, HasOneMore, given_or, AddsAfter}
-use Rattle.wasm_sections.specs.Sections.{id_of}
+use Rattle.wasm_sections.specs.Sections.{section_id}
 use Rattle.wasm_sections.specs.GivenContents.{contents_in}
 use Rattle.wasm_sections.proofs.NumberLemmas.{number_takes}
 
@@ -24,22 +24,22 @@ none_here false here rest whole later e f = f e
 pub after_none : (gs hs : List NewContents) (id : ℕ) → contents_in gs id ≡ None → contents_in (gs ++ hs) id ≡ contents_in hs id
 after_none [] hs id e = refl
 after_none (g ∷ gs) hs id e =
-    none_here (id_of g.kind == id) g.contents.items (contents_in gs id) (contents_in (gs ++ hs) id) (contents_in hs id) e (λ n. after_none gs hs id n)
+    none_here (section_id g.kind == id) g.contents.items (contents_in gs id) (contents_in (gs ++ hs) id) (contents_in hs id) e (λ n. after_none gs hs id n)
 
 same_after : (gs hs ks : List NewContents) (id : ℕ) → contents_in hs id ≡ contents_in ks id → contents_in (gs ++ hs) id ≡ contents_in (gs ++ ks) id
 same_after [] hs ks id e = e
-same_after (g ∷ gs) hs ks id e = ap (λ (o : Option (List ℕ)). if id_of g.kind == id then Some g.contents.items else o) (same_after gs hs ks id e)
+same_after (g ∷ gs) hs ks id e = ap (λ (o : Option (List ℕ)). if section_id g.kind == id then Some g.contents.items else o) (same_after gs hs ks id e)
 
-first_given : (g : NewContents) (gs : List NewContents) (id : ℕ) → id_of g.kind ≡ id → contents_in (g ∷ gs) id ≡ Some g.contents.items
-first_given g gs id e = ap (λ (b : Bool). if b then Some g.contents.items else contents_in gs id) (eq-eqb (id_of g.kind) id e)
+first_given : (g : NewContents) (gs : List NewContents) (id : ℕ) → section_id g.kind ≡ id → contents_in (g ∷ gs) id ≡ Some g.contents.items
+first_given g gs id e = ap (λ (b : Bool). if b then Some g.contents.items else contents_in gs id) (eq-eqb (section_id g.kind) id e)
 
-given_later : (g : NewContents) (gs : List NewContents) (id : ℕ) → id_of g.kind ≢ id → contents_in (g ∷ gs) id ≡ contents_in gs id
-given_later g gs id h = ap (λ (b : Bool). if b then Some g.contents.items else contents_in gs id) (ne_eqb (id_of g.kind) id h)
+given_later : (g : NewContents) (gs : List NewContents) (id : ℕ) → section_id g.kind ≢ id → contents_in (g ∷ gs) id ≡ contents_in gs id
+given_later g gs id h = ap (λ (b : Bool). if b then Some g.contents.items else contents_in gs id) (ne_eqb (section_id g.kind) id h)
 
 -- ---- one more is looked at
 
 pub none_yet : (gs : List NewContents) (i id : ℕ) (g : NewContents) → i < length gs → g ≡ get_or gs i g → contents_in (take i gs) id ≡ None
-    → id_of g.kind ≢ id → contents_in (take (i + 1) gs) id ≡ None
+    → section_id g.kind ≢ id → contents_in (take (i + 1) gs) id ≡ None
 none_yet gs i id g within is none other =
     let more : take (i + 1) gs ≡ take i gs ++ g ∷ [] = take_more gs i g within ∙ ap (λ (x : NewContents). take i gs ++ x ∷ []) (sym is) in
     ap (λ (l : List NewContents). contents_in l id) more ∙ after_none (take i gs) (g ∷ []) id none ∙ given_later g [] id other
@@ -56,23 +56,23 @@ found_there gs i id at within =
 
 -- ---- one is put
 
-module _ (gs : List NewContents) (i : ℕ) (g : NewContents) (none : contents_in (take i gs) (id_of g.kind) ≡ None) where
-  given_here : (hs : List NewContents) → contents_in (take i gs ++ g ∷ hs) (id_of g.kind) ≡ Some g.contents.items
-  given_here hs = after_none (take i gs) (g ∷ hs) (id_of g.kind) none ∙ first_given g hs (id_of g.kind) refl
+module _ (gs : List NewContents) (i : ℕ) (g : NewContents) (none : contents_in (take i gs) (section_id g.kind) ≡ None) where
+  given_here : (hs : List NewContents) → contents_in (take i gs ++ g ∷ hs) (section_id g.kind) ≡ Some g.contents.items
+  given_here hs = after_none (take i gs) (g ∷ hs) (section_id g.kind) none ∙ first_given g hs (section_id g.kind) refl
 
-  pub inserted_here : contents_in (take i gs ++ g ∷ drop i gs) (id_of g.kind) ≡ Some g.contents.items
+  pub inserted_here : contents_in (take i gs ++ g ∷ drop i gs) (section_id g.kind) ≡ Some g.contents.items
   inserted_here = given_here (drop i gs)
 
-  pub inserted_others : (id : ℕ) → id ≢ id_of g.kind → contents_in (take i gs ++ g ∷ drop i gs) id ≡ contents_in gs id
+  pub inserted_others : (id : ℕ) → id ≢ section_id g.kind → contents_in (take i gs ++ g ∷ drop i gs) id ≡ contents_in gs id
   inserted_others id h =
       same_after (take i gs) (g ∷ drop i gs) (drop i gs) id (given_later g (drop i gs) id (λ e. h (sym e)))
       ∙ ap (λ (l : List NewContents). contents_in l id) (take-append-drop i gs)
 
   module _ (within : i < length gs) where
-    pub set_here : contents_in (set gs i g) (id_of g.kind) ≡ Some g.contents.items
-    set_here = ap (λ (l : List NewContents). contents_in l (id_of g.kind)) (set_split gs i g within) ∙ given_here (drop (suc i) gs)
+    pub set_here : contents_in (set gs i g) (section_id g.kind) ≡ Some g.contents.items
+    set_here = ap (λ (l : List NewContents). contents_in l (section_id g.kind)) (set_split gs i g within) ∙ given_here (drop (suc i) gs)
 
-    pub set_others : (f : NewContents) → f ≡ get_or gs i f → id_of f.kind ≡ id_of g.kind → (id : ℕ) → id ≢ id_of g.kind → contents_in (set gs i g) id ≡ contents_in gs id
+    pub set_others : (f : NewContents) → f ≡ get_or gs i f → section_id f.kind ≡ section_id g.kind → (id : ℕ) → id ≢ section_id g.kind → contents_in (set gs i g) id ≡ contents_in gs id
     set_others f is same id h =
         let later = drop (suc i) gs in
         let old : take i gs ++ f ∷ later ≡ gs =
@@ -84,24 +84,24 @@ module _ (gs : List NewContents) (i : ℕ) (g : NewContents) (none : contents_in
 -- ---- what is given after one is put
 
 pub replaces :
-    (old new : Changes) (i : ℕ) (g : NewContents) → IsGivenAt old.given.items (id_of g.kind) i → i < length old.given.items → new.given.items ≡ set old.given.items i g →
-    new.imports ≡ old.imports → SetsContents old new (id_of g.kind) g.contents.items
+    (old new : Changes) (i : ℕ) (g : NewContents) → IsGivenAt old.given.items (section_id g.kind) i → i < length old.given.items → new.given.items ≡ set old.given.items i g →
+    new.imports ≡ old.imports → SetsContents old new (section_id g.kind) g.contents.items
 replaces old new i g at within e imports =
     let gs = old.given.items in
     record {
-      given = ap (λ (l : List NewContents). contents_in l (id_of g.kind)) e ∙ set_here gs i g at.is_first within;
+      given = ap (λ (l : List NewContents). contents_in l (section_id g.kind)) e ∙ set_here gs i g at.is_first within;
       others = λ id h. ap (λ (l : List NewContents). contents_in l id) e ∙ set_others gs i g at.is_first within at.one at.is_there at.has_id id h;
       imports = imports;
     }
 
 pub puts_between :
-    (old new : Changes) (i : ℕ) (g : NewContents) → contents_in (take i old.given.items) (id_of g.kind) ≡ None →
+    (old new : Changes) (i : ℕ) (g : NewContents) → contents_in (take i old.given.items) (section_id g.kind) ≡ None →
     new.given.items ≡ take i old.given.items ++ g ∷ drop i old.given.items →
-    new.imports ≡ old.imports → SetsContents old new (id_of g.kind) g.contents.items
+    new.imports ≡ old.imports → SetsContents old new (section_id g.kind) g.contents.items
 puts_between old new i g none e imports =
     let gs = old.given.items in
     record {
-      given = ap (λ (l : List NewContents). contents_in l (id_of g.kind)) e ∙ inserted_here gs i g none;
+      given = ap (λ (l : List NewContents). contents_in l (section_id g.kind)) e ∙ inserted_here gs i g none;
       others = λ id h. ap (λ (l : List NewContents). contents_in l id) e ∙ inserted_others gs i g none id h;
       imports = imports;
     }
@@ -163,7 +163,7 @@ pub after_given :
 after_given old new id at others item found within f g f_is kind more items imports =
     let gs = old.given.items in
     let same : f ≡ found.one = f_is ∙ get_or_default gs at f found.one within ∙ sym found.is_there in
-    let is_id : id_of g.kind ≡ id = ap id_of kind ∙ ap (λ (x : NewContents). id_of x.kind) same ∙ found.has_id in
+    let is_id : section_id g.kind ≡ id = ap section_id kind ∙ ap (λ (x : NewContents). section_id x.kind) same ∙ found.has_id in
     let there = subst (λ (i : ℕ). IsGivenAt gs i at) (sym is_id) found in
     record {
       contents = g.contents.items;

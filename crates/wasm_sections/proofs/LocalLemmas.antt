@@ -13,7 +13,7 @@ use Rattle.wasm_numbers.specs.Reading.{Reader, many}
 use Rattle.wasm_numbers.proofs.Agreement.{ok_is}
 use Rattle.walrus_maps.specs.declared.indices_to_ids.IndicesToIds.{IndicesToIds}
 use Rattle.wasm_sections.proofs.Leaving.{groups_leave, dropped}
-use Rattle.wasm_sections.specs.Declarations.{group, groups, named_group, expanded, HaveLocals, HasNoLocals, max_locals, parameters_of, DeclaresGroup, HasNoGroup}
+use Rattle.wasm_sections.specs.Declarations.{group, groups, named_group, expanded, HaveLocals, HasNoLocals, max_locals, parameters_of_type, DeclaresGroup, HasNoGroup}
 
 -- ---- one more after others
 
@@ -228,9 +228,9 @@ none_after indices k n bytes text now before types count e less p is_count none 
 -- the same for a function of this type
 pub none_of_type :
     (indices : IndicesToIds) (types : List ModuleType) (found : Option ℕ) (type : ℕ) (given : List (ValType ℕ)) (bytes : List ℕ) → found ≡ Some type →
-    given ≡ parameters_of types type → HasNoLocals indices given bytes →
-    (other : ℕ) (operators : List ℕ) (locals : List (ValType ℕ)) → found ≡ Some other → HaveLocals indices (parameters_of types other) bytes operators locals →
+    given ≡ parameters_of_type types type → HasNoLocals indices given bytes →
+    (other : ℕ) (operators : List ℕ) (locals : List (ValType ℕ)) → found ≡ Some other → HaveLocals indices (parameters_of_type types other) bytes operators locals →
     max_locals < length locals
 none_of_type indices types found type given bytes e g none other operators locals is have =
     let same : type ≡ other = ap (λ (o : Option ℕ). unwrap_or o 0) (sym e ∙ is) in
-    none operators locals (subst (λ (ps : List (ValType ℕ)). HaveLocals indices ps bytes operators locals) (sym (g ∙ ap (λ (t : ℕ). parameters_of types t) same)) have)
+    none operators locals (subst (λ (ps : List (ValType ℕ)). HaveLocals indices ps bytes operators locals) (sym (g ∙ ap (λ (t : ℕ). parameters_of_type types t) same)) have)

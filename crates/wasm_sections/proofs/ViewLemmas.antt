@@ -9,13 +9,13 @@ use Rattle.wasm_sections.specs.declared.sections.Section.{Section}
 use Rattle.wasm_sections.specs.declared.sections.Sections.{Sections}
 use Rattle.wasm_sections.specs.declared.code.Bodies.{Bodies}
 use Rattle.wasm_sections.specs.declared.items.Items.{Items}
-use Rattle.wasm_sections.specs.Sections.{preamble, SectionAt, Begins, AreSections, IsModule, Each, first_with, section_at, id_of, TakesSection}
+use Rattle.wasm_sections.specs.Sections.{preamble, SectionAt, BeginsSection, AreSections, IsModule, Each, first_with, section_at, section_id, TakesSection}
 use Rattle.wasm_sections.specs.Views.{HasItems, HasSomeItems, HasBodies}
 
 -- ---- at the front of a module
 
 -- The section at the front is one, and so are the bytes that follow it.
-one_section : (end : ℕ) (text : List ℕ) (s t : SectionAt) (following after : List ℕ) → Begins end text s following → Begins end text t after → (s ≡ t) × (following ≡ after)
+one_section : (end : ℕ) (text : List ℕ) (s t : SectionAt) (following after : List ℕ) → BeginsSection end text s following → BeginsSection end text t after → (s ≡ t) × (following ≡ after)
 one_section end text s t following after p q =
     let whole : s.id ∷ p.sized ≡ t.id ∷ q.sized = sym p.id_is ∙ q.id_is in
     let sized = sym p.size_is ∙ ap (λ (l : List ℕ). u32 (drop 1 l)) whole ∙ q.size_is in
@@ -31,7 +31,7 @@ one_section end text s t following after p q =
     (λ i. record { id = id i; contents = contents i; end = stop i; whole = bytes i }, rest)
 
 first_left :
-    (end : ℕ) (text : List ℕ) (left : List SectionAt) (x : SectionAt) (following : List ℕ) → AreSections end text left → Begins end text x following →
+    (end : ℕ) (text : List ℕ) (left : List SectionAt) (x : SectionAt) (following : List ℕ) → AreSections end text left → BeginsSection end text x following →
     (ys : List SectionAt) × (left ≡ x ∷ ys) × AreSections end following ys
 first_left end text [] x following a b = let e : [] ≡ x.id ∷ b.sized = sym a ∙ b.id_is in absurd cc
 first_left end text (y ∷ ys) x following a b =
@@ -60,16 +60,16 @@ module _ (all : List SectionAt) (id : ℕ) (s t : Sections) (o : Option (Result 
       let f = first_left s.left.end s.left.rest.now p.left (section_at x) t.left.rest.now p.are_left taken.0 in
       (f.0, f.1, subst (λ (n : ℕ). AreSections n t.left.rest.now f.0) (sym taken.1) f.2)
 
-  first_of : (b : Bool) → (id_of x.kind == id) ≡ b → (ys : List SectionAt)
+  first_of : (b : Bool) → (section_id x.kind == id) ≡ b → (ys : List SectionAt)
       → first_with id (section_at x ∷ ys) ≡ (if b then Some (section_at x) else first_with id ys)
   first_of b e ys = ap (λ (b : Bool). if b then Some (section_at x) else first_with id ys) e
 
-  pub one_passed : FirstSoFar all id s → o ≡ Some (Ok x) → TakesSection s o t → (id_of x.kind == id) ≡ false → FirstSoFar all id t
+  pub one_passed : FirstSoFar all id s → o ≡ Some (Ok x) → TakesSection s o t → (section_id x.kind == id) ≡ false → FirstSoFar all id t
   one_passed p i takes e =
       let f = first_taken p i takes in
       record { left = f.0; are_left = f.2; same = sym (first_of false e f.0) ∙ ap (λ (ss : List SectionAt). first_with id ss) (sym f.1) ∙ p.same }
 
-  pub one_found : FirstSoFar all id s → o ≡ Some (Ok x) → TakesSection s o t → (id_of x.kind == id) ≡ true → first_with id all ≡ Some (section_at x)
+  pub one_found : FirstSoFar all id s → o ≡ Some (Ok x) → TakesSection s o t → (section_id x.kind == id) ≡ true → first_with id all ≡ Some (section_at x)
   one_found p i takes e =
       let f = first_taken p i takes in
       sym p.same ∙ ap (λ (ss : List SectionAt). first_with id ss) f.1 ∙ first_of true e f.0

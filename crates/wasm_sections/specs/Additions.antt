@@ -5,7 +5,7 @@ use Rattle.wasm_numbers.specs.Numbers.{u32}
 use Rattle.wasm_operators.specs.Shortest.{short_number}
 use Rattle.wasm_sections.specs.declared.changes.Changes.{Changes}
 use Rattle.wasm_sections.specs.declared.changes.NewContents.{NewContents}
-use Rattle.wasm_sections.specs.Sections.{SectionAt, first_with, id_of}
+use Rattle.wasm_sections.specs.Sections.{SectionAt, first_with, section_id}
 use Rattle.wasm_sections.specs.CodeSections.{entry}
 use Rattle.wasm_sections.specs.GivenContents.{contents_in, added_bodies}
 
@@ -13,7 +13,7 @@ use Rattle.wasm_sections.specs.GivenContents.{contents_in, added_bodies}
 pub record IsGivenAt (given : List NewContents) (id at : ℕ) : Type 0 where
   pub one : NewContents
   pub is_there : one ≡ get_or given at one
-  pub has_id : id_of one.kind ≡ id
+  pub has_id : section_id one.kind ≡ id
   pub is_first : contents_in (take at given) id ≡ None
 
 -- The section with this id is given these contents, and all else in the changes stays.

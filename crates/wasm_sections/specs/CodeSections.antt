@@ -40,18 +40,18 @@ IsCode end contents bodies = (text : List ℕ) × (u32 contents ≡ Ok (length b
 
 -- ---- for values of the code
 
-abbrev pub bytes_of : Body → List ℕ
-bytes_of b = b.input.rest.now
+abbrev pub body_bytes : Body → List ℕ
+body_bytes b = b.input.rest.now
 
 abbrev pub place_of : Body → ℕ
 place_of b = b.input.end - length b.input.rest.now
 
 abbrev pub body_at : Body → BodyAt
-body_at b = record { start = place_of b; bytes = bytes_of b }
+body_at b = record { start = place_of b; bytes = body_bytes b }
 
 -- A body is taken from those that are left: its function is the next.
 abbrev pub TakesBody : Bodies → Option Body → Bodies → Type 0
 TakesBody s None t = Unit {0}
 TakesBody s (Some b) t =
     (b.func ≡ s.next) × (t.next ≡ s.next + 1) × (t.left.end ≡ s.left.end) × (b.input.end ≡ s.left.end - length t.left.rest.now)
-    × (u32 s.left.rest.now ≡ Ok (length (bytes_of b), bytes_of b ++ t.left.rest.now))
+    × (u32 s.left.rest.now ≡ Ok (length (body_bytes b), body_bytes b ++ t.left.rest.now))

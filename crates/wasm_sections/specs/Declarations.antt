@@ -40,16 +40,16 @@ parameters_in None = []
 parameters_in (Some s) = s.parameters
 
 -- the parameters of a function of this type
-abbrev pub parameters_of : List ModuleType → (type : ℕ) → List (ValType ℕ)
-parameters_of types type = parameters_in (signature_of types type)
+abbrev pub parameters_of_type : List ModuleType → (type : ℕ) → List (ValType ℕ)
+parameters_of_type types type = parameters_in (signature_of types type)
 
 abbrev pub results_in : Option Signature → List (ValType ℕ)
 results_in None = []
 results_in (Some s) = s.results
 
 -- the results of a function of this type
-abbrev pub results_of : List ModuleType → (type : ℕ) → List (ValType ℕ)
-results_of types type = results_in (signature_of types type)
+abbrev pub results_of_type : List ModuleType → (type : ℕ) → List (ValType ℕ)
+results_of_type types type = results_in (signature_of types type)
 
 -- The bytes of a body begin with declarations, and these operators follow. The types of the function's locals are those of
 -- its parameters, and then those of the declarations.

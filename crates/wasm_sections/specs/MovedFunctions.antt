@@ -18,8 +18,8 @@ use Rattle.wasm_sections.specs.CodeSections.{entry}
 use Rattle.wasm_sections.specs.Views.{BeginsGlobalType}
 
 -- the new index of a function: the first ones keep theirs, and all others come after those that are added
-abbrev pub moved : (imported added index : ℕ) → ℕ
-moved imported added index = if nat_lt index imported then index else index + added
+abbrev pub moved_function : (imported added index : ℕ) → ℕ
+moved_function imported added index = if nat_lt index imported then index else index + added
 
 -- ---- items, one after the other
 
@@ -42,13 +42,13 @@ pub record AreCounted (Moves : (text following written : List ℕ) → Type 0) (
 pub record MovesIndex (imported added : ℕ) (text following written : List ℕ) : Type 0 where
   pub index : ℕ
   pub index_is : u32 text ≡ Ok (index, following)
-  pub written_is : written ≡ short_number (moved imported added index)
+  pub written_is : written ≡ short_number (moved_function imported added index)
 
 -- ---- exports
 
 -- the new index of what an export of this kind names: the kind 0 is that of functions
 abbrev pub moved_export : (imported added kind index : ℕ) → ℕ
-moved_export imported added kind index = if kind == 0 then moved imported added index else index
+moved_export imported added kind index = if kind == 0 then moved_function imported added index else index
 
 -- The text begins with an export: its name, the kind of what it names, and the index of that.
 pub record MovesExport (imported added : ℕ) (text following written : List ℕ) : Type 0 where
@@ -134,5 +134,5 @@ KeepFunctions old new = numbers_in new Funcs ≡ numbers_in old Funcs
 -- The functions of the source, of which so many are imported, have these written indices, and so have those that are imported
 -- besides, whose ids come after all others.
 pub record AreRenumbered (total imported added : ℕ) (m : IdsToIndices) : Type 0 where
-  pub source : (id : ℕ) → id < total → number_of m Funcs id ≡ Ok (moved imported added id)
+  pub source : (id : ℕ) → id < total → number_of m Funcs id ≡ Ok (moved_function imported added id)
   pub more : (id : ℕ) → id < added → number_of m Funcs (total + id) ≡ Ok (imported + id)

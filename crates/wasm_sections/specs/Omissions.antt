@@ -27,16 +27,16 @@ has_name (n ∷ ns) name = bytes_eq n name || has_name ns name
 -- ---- what is left out
 
 -- the texts of these
-abbrev pub texts : List (Bor (List ℕ)) → List (List ℕ)
-texts [] = []
-texts (n ∷ ns) = n.now ∷ texts ns
+abbrev pub texts_of : List (Bor (List ℕ)) → List (List ℕ)
+texts_of [] = []
+texts_of (n ∷ ns) = n.now ∷ texts_of ns
 
 -- Whether a section with this name is left out: not where it is kept by its name; else if all are, or those with this name, or
 -- if it has what is left out.
 abbrev pub omits_name : OmittedSections → (name : List ℕ) → Bool
 omits_name o name =
-    not (has_name (texts o.kept.items) name)
-    && (o.is_all || (has_name (texts o.named.items) name
+    not (has_name (texts_of o.kept.items) name)
+    && (o.is_all || (has_name (texts_of o.named.items) name
     || ((o.is_debug && names_debug name) || (o.is_source_map_url && names_source_map name))))
 
 -- No section is left out.
@@ -45,12 +45,12 @@ OmitsNothing o = (name : List ℕ) → omits_name o name ≡ false
 
 -- The sections with this name are left out too.
 pub record OmitsAlso (old new : OmittedSections) (name : List ℕ) : Type 0 where
-  pub names : texts new.named.items ≡ texts old.named.items ++ name ∷ []
+  pub names : texts_of new.named.items ≡ texts_of old.named.items ++ name ∷ []
   pub rest : new ≡ record old { named = new.named }
 
 -- The sections with this name are kept.
 pub record KeepsAlso (old new : OmittedSections) (name : List ℕ) : Type 0 where
-  pub names : texts new.kept.items ≡ texts old.kept.items ++ name ∷ []
+  pub names : texts_of new.kept.items ≡ texts_of old.kept.items ++ name ∷ []
   pub rest : new ≡ record old { kept = new.kept }
 
 -- The same sections are left out.

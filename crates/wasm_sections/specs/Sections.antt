@@ -28,7 +28,7 @@ pub record SectionAt : Type 0 where
   pub whole : List ℕ
 
 -- A text that ends at this place of the file begins with this section, and these bytes follow it.
-pub record Begins (end : ℕ) (text : List ℕ) (s : SectionAt) (following : List ℕ) : Type 0 where
+pub record BeginsSection (end : ℕ) (text : List ℕ) (s : SectionAt) (following : List ℕ) : Type 0 where
   pub sized : List ℕ
   pub id_is : text ≡ s.id ∷ sized
   pub size_is : u32 sized ≡ Ok (length s.contents, s.contents ++ following)
@@ -38,7 +38,7 @@ pub record Begins (end : ℕ) (text : List ℕ) (s : SectionAt) (following : Lis
 -- The text, which ends at this place of the file, is these sections.
 abbrev pub AreSections : (end : ℕ) → (text : List ℕ) → List SectionAt → Type 0
 AreSections end text [] = text ≡ []
-AreSections end text (s ∷ ss) = (following : List ℕ) × Begins end text s following × AreSections end following ss
+AreSections end text (s ∷ ss) = (following : List ℕ) × BeginsSection end text s following × AreSections end following ss
 
 -- the file is a module with these sections
 abbrev pub IsModule : List ℕ → List SectionAt → Type 0
@@ -72,27 +72,27 @@ next_rank r (s ∷ ss) = if nat_lt r (rank s.id) then rank s.id else next_rank r
 
 -- ---- for values of the code
 
-abbrev pub id_of : SectionKind → ℕ
-id_of kind.Custom = 0
-id_of kind.Type = 1
-id_of kind.Import = 2
-id_of kind.Function = 3
-id_of kind.Table = 4
-id_of kind.Memory = 5
-id_of kind.Global = 6
-id_of kind.Export = 7
-id_of kind.Start = 8
-id_of kind.Element = 9
-id_of kind.Code = 10
-id_of kind.Data = 11
-id_of kind.DataCount = 12
-id_of kind.Tag = 13
+abbrev pub section_id : SectionKind → ℕ
+section_id kind.Custom = 0
+section_id kind.Type = 1
+section_id kind.Import = 2
+section_id kind.Function = 3
+section_id kind.Table = 4
+section_id kind.Memory = 5
+section_id kind.Global = 6
+section_id kind.Export = 7
+section_id kind.Start = 8
+section_id kind.Element = 9
+section_id kind.Code = 10
+section_id kind.Data = 11
+section_id kind.DataCount = 12
+section_id kind.Tag = 13
 
 abbrev pub section_at : Section → SectionAt
-section_at s = record { id = id_of s.kind; contents = s.contents.rest.now; end = s.contents.end; whole = s.whole.now }
+section_at s = record { id = section_id s.kind; contents = s.contents.rest.now; end = s.contents.end; whole = s.whole.now }
 
 -- A section is taken from those that are left; none if nothing is left.
 abbrev pub TakesSection : Sections → Option (Result Section ModuleError) → Sections → Type 0
 TakesSection s None t = s.left.rest.now ≡ []
 TakesSection s (Some (Err e)) t = Unit {0}
-TakesSection s (Some (Ok x)) t = Begins s.left.end s.left.rest.now (section_at x) t.left.rest.now × (t.left.end ≡ s.left.end)
+TakesSection s (Some (Ok x)) t = BeginsSection s.left.end s.left.rest.now (section_at x) t.left.rest.now × (t.left.end ≡ s.left.end)

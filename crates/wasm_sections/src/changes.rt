@@ -2,7 +2,7 @@
 
 ghost use Rattle.std.specs.Prelude.{◌≡◌, ◌<◌, ◌≤◌, [], length, take, Some, None, IfSome, IfNone, IfOk, IfErr, OnOk, OnErr};
 ghost use Rattle.wasm_sections.specs.Additions.{AddsAfter, AreUnchanged, IsGivenAt, SetsContents};
-ghost use Rattle.wasm_sections.specs.Sections.{id_of};
+ghost use Rattle.wasm_sections.specs.Sections.{section_id};
 ghost use Rattle.wasm_sections.specs.GivenContents.{contents_in};
 
 use crate::appending::{append_item, check_len, with_item};
@@ -44,8 +44,8 @@ impl Changes {
     /// The position of the section of this kind in the list, if contents are given for it.
     fn given_at(&self, kind: SectionKind) -> Option<usize>
         ensures within { IfSome result (λ at. at < length self.now.given.items) }
-        ensures found { IfSome result (IsGivenAt self.now.given.items (id_of kind)) }
-        ensures none { IfNone result (contents_in self.now.given.items (id_of kind) ≡ None) }
+        ensures found { IfSome result (IsGivenAt self.now.given.items (section_id kind)) }
+        ensures none { IfNone result (contents_in self.now.given.items (section_id kind) ≡ None) }
     {
         'given: for (at, given) in self.given.iter().enumerate() {
             if given.kind.id() == kind.id() {
@@ -58,10 +58,10 @@ impl Changes {
     /// The position of the section of this kind in the list; or the one where it has to be put.
     fn place_of(&self, kind: SectionKind) -> Result<usize, usize>
         ensures within { IfOk result (λ at. at < length self.now.given.items) }
-        ensures found { IfOk result (IsGivenAt self.now.given.items (id_of kind)) }
+        ensures found { IfOk result (IsGivenAt self.now.given.items (section_id kind)) }
         ensures bound { IfErr result (λ at. at ≤ length self.now.given.items) }
         ensures before { IfErr result
-            (λ at. contents_in (take at self.now.given.items) (id_of kind) ≡ None) }
+            (λ at. contents_in (take at self.now.given.items) (section_id kind) ≡ None) }
     {
         let (id, rank) = (kind.id(), kind.rank());
         'given: for (at, given) in self.given.iter().enumerate() {
@@ -78,7 +78,7 @@ impl Changes {
     /// Puts contents in place of those that are given for their section, or before those of the
     /// sections after it.
     pub(crate) fn put(&mut self, given: NewContents) -> Result<(), ModuleError>
-        ensures sets { OnOk result (SetsContents self.old self.new (id_of given.kind)
+        ensures sets { OnOk result (SetsContents self.old self.new (section_id given.kind)
             given.contents.items) }
         ensures refused { OnErr result (AreUnchanged self.old self.new) }
     {
@@ -105,7 +105,7 @@ impl Changes {
         others: &[u8],
         item: &[u8],
     ) -> Result<(), ModuleError>
-        ensures ok { OnOk result (AddsAfter self.old self.new (id_of kind) others.now item.now) }
+        ensures ok { OnOk result (AddsAfter self.old self.new (section_id kind) others.now item.now) }
         ensures err { OnErr result (AreUnchanged self.old self.new) }
     {
         match self.given_at(kind) {
@@ -127,7 +127,7 @@ impl Changes {
     /// `SectionOutOfOrder` if the kind is `Custom` or `Code`; `TooGreat` if the number of bytes
     /// doesn't fit 32 bits; or `Memory`. The changes are as before then.
     pub fn set_contents(&mut self, kind: SectionKind, contents: Vec<u8>) -> Result<(), ModuleError>
-        ensures sets { OnOk result (SetsContents self.old self.new (id_of kind) contents.items) }
+        ensures sets { OnOk result (SetsContents self.old self.new (section_id kind) contents.items) }
         ensures refused { OnErr result (AreUnchanged self.old self.new) }
     {
         let fault = match kind {
@@ -144,9 +144,9 @@ impl Changes {
     /// The new contents of the section of this kind, without its id and size; `None` if no call has
     /// set them. For the code section they are the bodies that were added to it, and their number.
     pub fn contents_of(&self, kind: SectionKind) -> Option<&[u8]>
-        ensures some { IfSome result (λ contents. contents_in self.now.given.items (id_of kind)
+        ensures some { IfSome result (λ contents. contents_in self.now.given.items (section_id kind)
             ≡ Some contents.now) }
-        ensures none { IfNone result (contents_in self.now.given.items (id_of kind) ≡ None) }
+        ensures none { IfNone result (contents_in self.now.given.items (section_id kind) ≡ None) }
     {
         'given: for given in &self.given {
             if given.kind.id() == kind.id() {

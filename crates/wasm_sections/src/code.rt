@@ -2,7 +2,7 @@
 
 ghost use Rattle.std.specs.Prelude.{◌≡◌, ◌<◌, ◌+◌, ◌^◌, [], length, nat_lt, Ok, IfOk, OnOk};
 ghost use Rattle.wasm_numbers.specs.Numbers.{u32};
-ghost use Rattle.wasm_sections.specs.CodeSections.{place_of, bytes_of};
+ghost use Rattle.wasm_sections.specs.CodeSections.{place_of, body_bytes};
 
 use crate::fault::ModuleError;
 use crate::input::Input;
@@ -24,7 +24,7 @@ pub struct Body<'a> {
 impl<'a> Body<'a> {
     /// Its bytes, without its size.
     pub fn bytes(&self) -> &'a [u8]
-        ensures { result.now ≡ bytes_of self.now }
+        ensures { result.now ≡ body_bytes self.now }
     {
         self.input.rest()
     }
@@ -32,14 +32,14 @@ impl<'a> Body<'a> {
     /// The place of its first byte in the file.
     pub fn start(&self) -> usize
         ensures place { result ≡ place_of self.now }
-        ensures fits { result + length (bytes_of self.now) < 2 ^ 64 }
+        ensures fits { result + length (body_bytes self.now) < 2 ^ 64 }
     {
         self.input.at()
     }
 
     /// Whether it is written in pieces.
     pub fn is_large(&self) -> bool
-        ensures { result ≡ nat_lt PIECE (length (bytes_of self.now)) }
+        ensures { result ≡ nat_lt PIECE (length (body_bytes self.now)) }
     {
         self.bytes().len() > PIECE
     }

@@ -9,7 +9,7 @@ ghost use Rattle.wasm_operators.specs.Operations.{RawOperation};
 ghost use Rattle.wasm_operators.specs.Spelling.{Spells};
 ghost use Rattle.wasm_sections.specs.declared.globals.GlobalType.{GlobalType};
 ghost use Rattle.wasm_sections.specs.Views.{BeginsGlobalType};
-ghost use Rattle.wasm_sections.specs.MovedFunctions.{moved, moved_export, MovesIndex, MovesExport, MovesOperator, MovesConstant, MovesGlobal, MovesContents, AreCounted, AreMovedContents};
+ghost use Rattle.wasm_sections.specs.MovedFunctions.{moved_function, moved_export, MovesIndex, MovesExport, MovesOperator, MovesConstant, MovesGlobal, MovesContents, AreCounted, AreMovedContents};
 
 use crate::constant::is_control;
 use crate::fault::{ModuleError, ModuleFault};
@@ -62,7 +62,7 @@ impl FunctionNumbers {
 
     /// The new index of a function.
     pub fn moved(self, index: u32) -> usize
-        ensures { result ≡ moved self.imported self.added index }
+        ensures { result ≡ moved_function self.imported self.added index }
     {
         if index < self.imported {
             index as usize

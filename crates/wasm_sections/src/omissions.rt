@@ -2,7 +2,7 @@
 
 ghost use Rattle.std.specs.Prelude.{◌≡◌, eqb, false, OnOk, OnErr};
 ghost use Rattle.std.specs.List.{starts_with};
-ghost use Rattle.wasm_sections.specs.Omissions.{texts, has_name, omits_name, OmitsNothing, OmitsAlso, KeepsAlso, OmitsSame, names_debug, names_object, names_source_map};
+ghost use Rattle.wasm_sections.specs.Omissions.{texts_of, has_name, omits_name, OmitsNothing, OmitsAlso, KeepsAlso, OmitsSame, names_debug, names_object, names_source_map};
 
 use std::alloc::{AllocError, Global};
 
@@ -60,7 +60,7 @@ pub fn names_object(name: &str) -> bool
 
 /// Whether a name is one of these.
 fn has_name(names: &[&str], name: &str) -> bool
-    ensures { result ≡ has_name (texts names.now) name.now }
+    ensures { result ≡ has_name (texts_of names.now) name.now }
 {
     'names: for one in names {
         if *one == name {

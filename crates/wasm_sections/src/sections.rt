@@ -1,7 +1,7 @@
 //! Sections (WebAssembly core specification 3.0, binary format, modules).
 ghost use Rattle.std.specs.Prelude.{◌≡◌, ◌<◌, ◌-◌, ◌++◌, length, Ok, IfOk, IfSome};
 ghost use Rattle.wasm_numbers.specs.Numbers.{u32};
-ghost use Rattle.wasm_sections.specs.Sections.{preamble, section_at, Begins, BeginsWithName};
+ghost use Rattle.wasm_sections.specs.Sections.{preamble, section_at, BeginsSection, BeginsWithName};
 
 use crate::fault::{ModuleError, ModuleFault};
 use crate::input::Input;
@@ -46,11 +46,11 @@ pub enum SectionKind {
 }
 
 impl SectionKind {
-    ghost use Rattle.wasm_sections.specs.Sections.{id_of, rank};
+    ghost use Rattle.wasm_sections.specs.Sections.{section_id, rank};
 
     /// The kind of a section with this id.
     fn of_id(id: u8) -> Option<SectionKind>
-        ensures { IfSome result (λ kind. id_of kind ≡ id) }
+        ensures { IfSome result (λ kind. section_id kind ≡ id) }
     {
         match id {
             0 => Some(SectionKind::Custom),
@@ -73,7 +73,7 @@ impl SectionKind {
 
     /// The id of sections of this kind.
     pub fn id(self) -> u8
-        ensures { result ≡ id_of self }
+        ensures { result ≡ section_id self }
     {
         match self {
             SectionKind::Custom => 0,
@@ -96,7 +96,7 @@ impl SectionKind {
     /// Its rank: a section that isn't custom comes before those of a greater rank. Tags come after
     /// memories, and the data count after elements.
     pub fn rank(self) -> u8
-        ensures { result ≡ rank (id_of self) }
+        ensures { result ≡ rank (section_id self) }
     {
         match self {
             SectionKind::Custom => 0,
@@ -191,7 +191,7 @@ impl<'a> Section<'a> {
 
 /// The section at the beginning, and the bytes that follow it.
 fn read_section(mut left: Input<'_>) -> Result<(Section<'_>, Input<'_>), ModuleError>
-    ensures begins { IfOk result (λ x. Begins left.entry.end left.entry.rest.now (section_at x.0)
+    ensures begins { IfOk result (λ x. BeginsSection left.entry.end left.entry.rest.now (section_at x.0)
         x.1.rest.now) }
     ensures end { IfOk result (λ x. x.1.end ≡ left.entry.end) }
     ensures shorter { IfOk result (λ x. length x.1.rest.now < length left.entry.rest.now) }

@@ -32,8 +32,8 @@ changing c = record {
   count = λ n. Ok tt;
 }
 
-abbrev pub changed : {E : Type 0} → Changes E → RawOperation → Result RawOperation E
-changed c o = translate (changing c) o
+abbrev pub changed_operator : {E : Type 0} → Changes E → RawOperation → Result RawOperation E
+changed_operator c o = translate (changing c) o
 
 -- the immediates of a branch on a cast
 abbrev pub changed_cast : {E : Type 0} → Changes E → RawCast → Result (Cast ℕ) E
@@ -44,6 +44,6 @@ abbrev pub changed_clause : {E : Type 0} → Changes E → CatchClause ℕ → R
 changed_clause c i = translate_clause (changing c) i
 
 -- The operator that was returned is this one, and can be written; or this is its first fault; or memory ran out.
-abbrev pub IsChanged : {E : Type 0} → (memory : E) → Result RawOperation E → Result Listed E → Type 0
-IsChanged memory r (Ok op) = (r ≡ Ok (meaning op)) × IsWritable (meaning op)
-IsChanged memory r (Err e) = (e ≡ memory) ⊎ (r ≡ Err e)
+abbrev pub IsChangedOperator : {E : Type 0} → (memory : E) → Result RawOperation E → Result Listed E → Type 0
+IsChangedOperator memory r (Ok op) = (r ≡ Ok (meaning op)) × IsWritable (meaning op)
+IsChangedOperator memory r (Err e) = (e ≡ memory) ⊎ (r ≡ Err e)

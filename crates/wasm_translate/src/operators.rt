@@ -5,7 +5,7 @@ ghost use Rattle.wasm_operators.specs.Meaning.{meaning};
 ghost use Rattle.wasm_operators.specs.declared.operator.Op.TheVariants as op;
 ghost use Rattle.wasm_operators.specs.declared.types.Space.TheVariants.{Memories};
 ghost use Rattle.wasm_encode.specs.Writable.{IsWritable};
-ghost use Rattle.wasm_translate.specs.Changes.{changed, IsChanged};
+ghost use Rattle.wasm_translate.specs.Changes.{changed_operator, IsChangedOperator};
 
 use crate::lists::{Lists, list_clauses, list_labels};
 use crate::references::translated_reference;
@@ -39,7 +39,7 @@ fn translated_table<'t, T: Translate>(
     with: &T,
     labels: &'t mut Vec<u32>,
 ) -> Result<OutOp<'t>, T::Fault>
-    ensures { IsChanged T.memory (changed (T.changes with.now) (meaning (op.BrTable table.now)))
+    ensures { IsChangedOperator T.memory (changed_operator (T.changes with.now) (meaning (op.BrTable table.now)))
         result }
 {
     match list_labels(table, with, labels) {
@@ -63,8 +63,8 @@ fn translated_try_table<'t, T: Translate>(
     with: &T,
     clauses: &'t mut Vec<RawCatch>,
 ) -> Result<OutOp<'t>, T::Fault>
-    ensures { IsChanged T.memory
-        (changed (T.changes with.now) (meaning (op.TryTable ty catches.now))) result }
+    ensures { IsChangedOperator T.memory
+        (changed_operator (T.changes with.now) (meaning (op.TryTable ty catches.now))) result }
 {
     let ty = match with.block(ty) {
         Ok(ty) => ty,
@@ -114,7 +114,7 @@ pub fn translated<'t, T: Translate>(
     lists: &'t mut Lists,
 ) -> Result<OutOp<'t>, T::Fault>
     requires { IsWritable (meaning operator.now) }
-    ensures { IsChanged T.memory (changed (T.changes with.now) (meaning operator.now)) result }
+    ensures { IsChangedOperator T.memory (changed_operator (T.changes with.now) (meaning operator.now)) result }
 {
     index_rows!(
         translated_row, with operator,

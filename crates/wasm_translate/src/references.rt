@@ -2,7 +2,7 @@
 ghost use Rattle.std.specs.Prelude.{◌≡◌};
 ghost use Rattle.wasm_numbers.specs.Results.{Gives};
 ghost use Rattle.wasm_operators.specs.ReferenceOperations.{cast_of, reference_operation};
-ghost use Rattle.wasm_translate.specs.Changes.{changed, changed_cast};
+ghost use Rattle.wasm_translate.specs.Changes.{changed_operator, changed_cast};
 
 use crate::translate::Translate;
 use crate::types::heap_type;
@@ -92,7 +92,7 @@ pub(crate) fn translated_reference<T: Translate>(
     with: &T,
 ) -> Result<ReferenceOp, T::Fault>
     ensures { Gives reference_operation result
-        (changed (T.changes with.now) (reference_operation op)) }
+        (changed_operator (T.changes with.now) (reference_operation op)) }
 {
     reference_rows!(translated_row, with op)
 }

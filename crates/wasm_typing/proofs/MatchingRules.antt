@@ -12,7 +12,7 @@ use Rattle.wasm_types.specs.declared.val_type.ValType.TheVariants.{I32, I64, F32
 use Rattle.wasm_types.specs.TypeOrder.{rank_of}
 use Rattle.wasm_operators.proofs.SameLists.{both}
 use Rattle.wasm_typing.specs.Contexts.{CompositeType, Function, Struct, Array, OperandContext, composite_of}
-use Rattle.wasm_typing.specs.Matching.{above, matches_abstract, kind_of, kind_at, bottom_of, top_of, first_of, supertype_of, supertypes, matches_defined, holds_of, matches_heap, matches_null}
+use Rattle.wasm_typing.specs.Matching.{abstract_supertypes, matches_abstract, heap_kind_of, heap_kind_at, bottom_of, top_of, first_of, supertype_of, supertypes, matches_defined, holds_of, matches_heap, matches_null}
 use Rattle.wasm_typing.specs.MatchingLaws.{HeapMatches, itself, through, eq_any, i31_eq, struct_eq, array_eq, none_below, nofunc_below, noextern_below, noexn_below, of_kind, same_type, declared, AreTypes, MatchingIsSound, MatchingIsComplete}
 use Rattle.wasm_typing.proofs.MatchingLemmas.{abstract_itself, heap_itself}
 
@@ -123,17 +123,17 @@ array_above_bottoms : (j : AbstractHeapType) → matches_abstract abstract.Array
 array_above_bottoms abstract.NoExn = refl
 array_above_bottoms _ = refl
 
-above_bottoms : (t : CompositeType) (j : AbstractHeapType) → matches_abstract (kind_of t) (bottom_of j) ≡ false
+above_bottoms : (t : CompositeType) (j : AbstractHeapType) → matches_abstract (heap_kind_of t) (bottom_of j) ≡ false
 above_bottoms (Function s) j = func_above_bottoms j
 above_bottoms (Struct fs) j = struct_above_bottoms j
 above_bottoms (Array f) j = array_above_bottoms j
 
-no_bottom : (o : Option CompositeType) (k j : AbstractHeapType) → option_map kind_of o ≡ Some k → matches_abstract k (bottom_of j) ≡ true → ⊥
+no_bottom : (o : Option CompositeType) (k j : AbstractHeapType) → option_map heap_kind_of o ≡ Some k → matches_abstract k (bottom_of j) ≡ true → ⊥
 no_bottom None k j e h = absurd cc
 no_bottom (Some t) k j e h =
-    let same : kind_of t ≡ k = cc in
+    let same : heap_kind_of t ≡ k = cc in
     let no = above_bottoms t j in
-    let yes : matches_abstract (kind_of t) (bottom_of j) ≡ true = rw same h in
+    let yes : matches_abstract (heap_kind_of t) (bottom_of j) ≡ true = rw same h in
     absurd cc
 
 -- ---- declared supertypes
@@ -210,7 +210,7 @@ reaches_through c w m n p (here _ _ e) q = alike c w m n p e q
 reaches_through c w m n p (up _ s _ e r) q = up m s p e (reaches_through c w s n p r q)
 
 -- they are of one kind
-reaches_kind : (c : OperandContext) → AreTypes c → (m n : ℕ) → Reaches c m n → kind_at c m ≡ kind_at c n
+reaches_kind : (c : OperandContext) → AreTypes c → (m n : ℕ) → Reaches c m n → heap_kind_at c m ≡ heap_kind_at c n
 reaches_kind c w m n (here _ _ e) = w.same_kind m n e
 reaches_kind c w m n (up _ s _ e r) = w.of_one_kind m s e ∙ reaches_kind c w s n r
 
@@ -225,10 +225,10 @@ kind_matches d k = matches_abstract k d
 heap_through : (c : OperandContext) → AreTypes c → (a b d : HeapType ℕ) → matches_heap c a b ≡ true → matches_heap c b d ≡ true → matches_heap c a d ≡ true
 heap_through c w (Abstract a) (Abstract b) (Abstract d) h g = abstract_through a b d h g
 heap_through c w (Abstract a) (Abstract b) (Concrete n) h g =
-    let k = held (below b) (kind_at c n) g in holds (below a) (kind_at c n) k.value k.is (abstract_through a b (bottom_of k.value) h k.passes)
+    let k = held (below b) (heap_kind_at c n) g in holds (below a) (heap_kind_at c n) k.value k.is (abstract_through a b (bottom_of k.value) h k.passes)
 heap_through c w (Abstract a) (Concrete n) (Abstract d) h g =
-    let k = held (below a) (kind_at c n) h in
-    let j = held (kind_matches d) (kind_at c n) g in
+    let k = held (below a) (heap_kind_at c n) h in
+    let j = held (kind_matches d) (heap_kind_at c n) g in
     let i = k.is in
     let l = j.is in
     let same : k.value ≡ j.value = cc in
@@ -237,10 +237,10 @@ heap_through c w (Abstract a) (Concrete n) (Abstract d) h g =
 heap_through c w (Abstract a) (Concrete m) (Concrete n) h g =
     subst (λ o. holds_of (below a) o ≡ true) (reaches_kind c w m n (reached c m n g)) h
 heap_through c w (Concrete m) (Abstract b) (Abstract d) h g =
-    let k = held (kind_matches b) (kind_at c m) h in holds (kind_matches d) (kind_at c m) k.value k.is (abstract_through k.value b d k.passes g)
+    let k = held (kind_matches b) (heap_kind_at c m) h in holds (kind_matches d) (heap_kind_at c m) k.value k.is (abstract_through k.value b d k.passes g)
 heap_through c w (Concrete m) (Abstract b) (Concrete n) h g =
-    let k = held (kind_matches b) (kind_at c m) h in
-    let j = held (below b) (kind_at c n) g in
+    let k = held (kind_matches b) (heap_kind_at c m) h in
+    let j = held (below b) (heap_kind_at c n) g in
     absurd (no_bottom (composite_of c m) k.value j.value k.is (abstract_through k.value b (bottom_of j.value) k.passes j.passes))
 heap_through c w (Concrete m) (Concrete n) (Abstract d) h g =
     subst (λ o. holds_of (kind_matches d) o ≡ true) (sym (reaches_kind c w m n (reached c m n h))) g
@@ -250,8 +250,8 @@ below_top : (c : OperandContext) (k : AbstractHeapType) (a : HeapType ℕ) → m
     → matches_heap c (Abstract (bottom_of k)) a ≡ true
 below_top c k (Abstract j) h = by_implies (matches_abstract j (top_of k)) (matches_abstract (bottom_of k) j) (abstract_below_test k j) h
 below_top c k (Concrete n) h =
-    let j = held (kind_matches (top_of k)) (kind_at c n) h in
-    holds (below (bottom_of k)) (kind_at c n) j.value j.is
+    let j = held (kind_matches (top_of k)) (heap_kind_at c n) h in
+    holds (below (bottom_of k)) (heap_kind_at c n) j.value j.is
     (by_implies (matches_abstract j.value (top_of k)) (matches_abstract (bottom_of k) (bottom_of j.value)) (below_top_test k j.value) j.passes)
 
 heap_complete : (c : OperandContext) → AreTypes c → (a b : HeapType ℕ) → HeapMatches c a b → matches_heap c a b ≡ true
@@ -265,7 +265,7 @@ heap_complete c w _ _ (none_below a h) = below_top c abstract.Any a (heap_comple
 heap_complete c w _ _ (nofunc_below a h) = below_top c abstract.Func a (heap_complete c w a (Abstract abstract.Func) h)
 heap_complete c w _ _ (noextern_below a h) = below_top c abstract.Extern a (heap_complete c w a (Abstract abstract.Extern) h)
 heap_complete c w _ _ (noexn_below a h) = below_top c abstract.Exn a (heap_complete c w a (Abstract abstract.Exn) h)
-heap_complete c w _ _ (of_kind m k e) = holds (kind_matches k) (kind_at c m) k e (abstract_itself k)
+heap_complete c w _ _ (of_kind m k e) = holds (kind_matches k) (heap_kind_at c m) k e (abstract_itself k)
 heap_complete c w _ _ (same_type m n e) = defined_passes c w m n (here m n e)
 heap_complete c w _ _ (declared m s e) = defined_passes c w m s (up m s s e (here s s refl))
 
@@ -283,7 +283,7 @@ eq_step c a h = through (Abstract a) (Abstract abstract.Eq) (Abstract abstract.A
 none_step : (c : OperandContext) (a : AbstractHeapType) → Matches c a abstract.Any → Matches c abstract.None a
 none_step c a h = none_below (Abstract a) h
 
-each_above : (c : OperandContext) (a : AbstractHeapType) → AllByRecursion (Matches c a) (above a)
+each_above : (c : OperandContext) (a : AbstractHeapType) → AllByRecursion (Matches c a) (abstract_supertypes a)
 each_above c abstract.Any = (itself_abstract c abstract.Any, tt)
 each_above c abstract.Eq = (itself_abstract c abstract.Eq, (eq_any, tt))
 each_above c abstract.I31 = (itself_abstract c abstract.I31, (i31_eq, (eq_step c abstract.I31 i31_eq, tt)))
@@ -318,7 +318,7 @@ found c a b (u ∷ us) all h = elim (either (rank_of u == rank_of b) (list_any (
 ]
 
 abstract_sound : (c : OperandContext) (a b : AbstractHeapType) → matches_abstract a b ≡ true → Matches c a b
-abstract_sound c a b h = found c a b (above a) (each_above c a) h
+abstract_sound c a b h = found c a b (abstract_supertypes a) (each_above c a) h
 
 top_test : (k : AbstractHeapType) → matches_abstract k (top_of k) ≡ true
 top_test abstract.NoExn = refl
@@ -340,10 +340,10 @@ reach_sound c m n (up _ s _ e r) = through (Concrete m) (Concrete s) (Concrete n
 heap_sound : (c : OperandContext) (a b : HeapType ℕ) → matches_heap c a b ≡ true → HeapMatches c a b
 heap_sound c (Abstract a) (Abstract b) h = abstract_sound c a b h
 heap_sound c (Concrete m) (Abstract b) h =
-    let k = held (kind_matches b) (kind_at c m) h in
+    let k = held (kind_matches b) (heap_kind_at c m) h in
     through (Concrete m) (Abstract k.value) (Abstract b) (of_kind m k.value k.is) (abstract_sound c k.value b k.passes)
 heap_sound c (Abstract a) (Concrete n) h =
-    let k = held (below a) (kind_at c n) h in
+    let k = held (below a) (heap_kind_at c n) h in
     let top = through (Concrete n) (Abstract k.value) (Abstract (top_of k.value)) (of_kind n k.value k.is) (abstract_sound c k.value (top_of k.value) (top_test k.value)) in
     through (Abstract a) (Abstract (bottom_of k.value)) (Concrete n) (abstract_sound c a (bottom_of k.value) k.passes) (bottom_below c k.value (Concrete n) top)
 heap_sound c (Concrete m) (Concrete n) h = reach_sound c m n (reached c m n h)

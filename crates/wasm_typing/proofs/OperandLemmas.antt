@@ -13,10 +13,10 @@ use Rattle.wasm_body.specs.ValidityLaws.{KnownOperand, of_type}
 use Rattle.wasm_body.proofs.Validity.ValidNormalForms.{validity_kept}
 use Rattle.wasm_typing.specs.Contexts.{OperandContext, initial_locals}
 use Rattle.wasm_typing.specs.Matching.{matches_known}
-use Rattle.wasm_typing.specs.Operands.{InstructionType, Operands, pop, pop_each, pop_all, push_each, typed}
+use Rattle.wasm_typing.specs.Operands.{InstructionType, Operands, pop_operand, pop_each_operand, pop_operands, push_operands, typed}
 use Rattle.wasm_typing.specs.Rules.{Immediates, Rule, by_type, by_point}
 use Rattle.wasm_typing.specs.RuleTable.{rule_of}
-use Rattle.wasm_typing.specs.StandardRules.{by_rule, plain_change, standard_rules, is_empty, closes_all}
+use Rattle.wasm_typing.specs.StandardRules.{by_rule, plain_change, standard_rules, has_no_frames, closes_all}
 use Rattle.wasm_typing.specs.RuleLaws.{stacks, type_by, TypedOperators, ValidityIsTested, StandardValidityKept}
 
 -- ---- popping
@@ -33,7 +33,7 @@ after_demand true xs ys = refl
 after_demand false xs ys = refl
 
 pops : (m : Typing) (c : OperandContext) (f : ControlFrame) (t : ValType ℕ) (xs ys : Operands) → f.height ≡ length ys
-    → algorithm.pop m (standard_rules c) f t (xs ++ ys) ≡ (pop c f.unreachable t xs >>= λ zs. Ok (zs ++ ys))
+    → algorithm.pop m (standard_rules c) f t (xs ++ ys) ≡ (pop_operand c f.unreachable t xs >>= λ zs. Ok (zs ++ ys))
 pops m c f t [] ys h = rw (at_height f.height ys h) (after_demand f.unreachable [] ys)
 pops m c f t (Unknown ∷ xs) ys h = rw (over_height f.height Unknown xs ys h) refl
 pops m c f t (Known k ∷ xs) ys h = rw (over_height f.height (Known k) xs ys h) (after_demand (matches_known c k t) xs ys)
@@ -45,20 +45,20 @@ after_first (Ok zs) k l ys f = f zs
 after_first (Err e) k l ys f = refl
 
 pops_each : (m : Typing) (c : OperandContext) (f : ControlFrame) (ts : List (ValType ℕ)) (xs ys : Operands) → f.height ≡ length ys
-    → algorithm.pop_each m (standard_rules c) f ts (xs ++ ys) ≡ (pop_each c f.unreachable ts xs >>= λ zs. Ok (zs ++ ys))
+    → algorithm.pop_each m (standard_rules c) f ts (xs ++ ys) ≡ (pop_each_operand c f.unreachable ts xs >>= λ zs. Ok (zs ++ ys))
 pops_each m c f [] xs ys h = refl
 pops_each m c f (t ∷ ts) xs ys h =
     ap (λ a. a >>= algorithm.pop_each m (standard_rules c) f ts) (pops m c f t xs ys h)
-    ∙ after_first (pop c f.unreachable t xs) (algorithm.pop_each m (standard_rules c) f ts) (pop_each c f.unreachable ts) ys (λ zs. pops_each m c f ts zs ys h)
+    ∙ after_first (pop_operand c f.unreachable t xs) (algorithm.pop_each m (standard_rules c) f ts) (pop_each_operand c f.unreachable ts) ys (λ zs. pops_each m c f ts zs ys h)
 
 pops_all : (m : Typing) (c : OperandContext) (f : ControlFrame) (ts : List (ValType ℕ)) (xs ys : Operands) → f.height ≡ length ys
-    → algorithm.pop_all m (standard_rules c) f ts (xs ++ ys) ≡ (pop_all c f.unreachable ts xs >>= λ zs. Ok (zs ++ ys))
+    → algorithm.pop_all m (standard_rules c) f ts (xs ++ ys) ≡ (pop_operands c f.unreachable ts xs >>= λ zs. Ok (zs ++ ys))
 pops_all m c f ts xs ys h = pops_each m c f (reverse ts) xs ys h
 
 -- ---- pushing
 
 pushes : (m : Typing) (c : OperandContext) (ts : List (ValType ℕ)) (xs ys : Operands)
-    → push_each ts xs ++ ys ≡ algorithm.push_each m (standard_rules c) ts (xs ++ ys)
+    → push_operands ts xs ++ ys ≡ algorithm.push_each m (standard_rules c) ts (xs ++ ys)
 pushes m c [] xs ys = refl
 pushes m c (t ∷ ts) xs ys = pushes m c ts (Known (of_type t) ∷ xs) ys
 
@@ -85,7 +85,7 @@ up_to_height n xs ys h =
     ap (λ k. drop k (xs ++ ys)) e ∙ drop-append_seam xs ys
 
 abbrev change : InstructionType → Operands → Change KnownOperand
-change t zs = record { operands = push_each t.gives zs; initialises = t.initialises }
+change t zs = record { operands = push_operands t.gives zs; initialises = t.initialises }
 
 abbrev point_of : ControlFrame → Operands → List ℕ → Point KnownOperand
 point_of f xs ls = record { operands = xs; unreachable = f.unreachable; initialised = ls }
@@ -95,7 +95,7 @@ then_pushes : (m : Typing) (c : OperandContext) (t : InstructionType) (ys below 
     → ((a >>= λ zs. Ok (change t zs)) >>= λ k. Ok (stacks (k.operands ++ below) (k.initialises ++ ls)))
     ≡ ((a >>= λ zs. Ok (zs ++ ys)) >>= λ zs. Ok (stacks (algorithm.push_each m (standard_rules c) t.gives zs) (t.initialises ++ ls)))
 then_pushes m c t ys below ls h (Ok zs) =
-    ap (λ xs. Ok (stacks xs (t.initialises ++ ls))) (ap (λ b. push_each t.gives zs ++ b) h ∙ pushes m c t.gives zs ys)
+    ap (λ xs. Ok (stacks xs (t.initialises ++ ls))) (ap (λ b. push_operands t.gives zs ++ b) h ∙ pushes m c t.gives zs ys)
 then_pushes m c t ys below ls h (Err e) = refl
 
 pub typed_operators : TypedOperators
@@ -104,12 +104,12 @@ typed_operators m c o t type f fs xs ys ls h =
     let p = point_of f xs ls in
     ap (λ zs. required (result_ok (plain_change c o (point_of f zs ls))) >>= after) (above_height f.height xs ys h)
     ∙ ap (λ a. a >>= after) (required_again (plain_change c o p) ∙ by_its_type c o.immediates t p (rule_of o.opcode) type)
-    ∙ then_pushes m c t ys (up_to f.height (xs ++ ys)) ls (up_to_height f.height xs ys h) (pop_all c f.unreachable t.takes xs)
+    ∙ then_pushes m c t ys (up_to f.height (xs ++ ys)) ls (up_to_height f.height xs ys h) (pop_operands c f.unreachable t.takes xs)
     ∙ ap (λ a. a >>= λ zs. Ok (stacks (algorithm.push_each m (standard_rules c) t.gives zs) (t.initialises ++ ls))) (sym (pops_all m c f t.takes xs ys h))
 
 -- ---- validity
 
-none_is_left : (s : Stacks KnownOperand) (cs : List ControlFrame) → is_empty cs ≡ true
+none_is_left : (s : Stacks KnownOperand) (cs : List ControlFrame) → has_no_frames cs ≡ true
     → (left : Stacks KnownOperand) × (algorithm.state s cs ≡ algorithm.state left [])
 none_is_left s [] h = (s, refl)
 none_is_left s (f ∷ fs) h = absurd cc

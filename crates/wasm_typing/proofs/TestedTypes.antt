@@ -6,7 +6,7 @@ use Rattle.std.proofs.lemmas.Bool.Decides.{leb_tells}
 use Rattle.wasm_types.specs.TypeOrder.{rank_of}
 use Rattle.wasm_operators.proofs.SameLists.{both}
 use Rattle.wasm_typing.specs.Contexts.{OperandContext}
-use Rattle.wasm_typing.specs.Matching.{kind_at, first_of, supertype_of}
+use Rattle.wasm_typing.specs.Matching.{heap_kind_at, first_of, supertype_of}
 use Rattle.wasm_typing.specs.MatchingLaws.{same_option, same_kinds, is_supertype, is_type, are_types, TypesAreTested}
 use Rattle.wasm_typing.proofs.Coverage.{passes_below}
 use Rattle.wasm_typing.proofs.MatchingRules.{same_rank, past_end, no_supertype}
@@ -22,14 +22,14 @@ same_itself : {X : Type 0} (o : Option X) → option_map (λ x. x) o ≡ o
 same_itself None = refl
 same_itself (Some x) = refl
 
-one_kind : (c : OperandContext) (m n : ℕ) → same_kinds c m n ≡ true → kind_at c m ≡ kind_at c n
-one_kind c m n h = sym (same_itself (kind_at c m)) ∙ same_by rank_of (λ k. k) same_rank (kind_at c m) (kind_at c n) h ∙ same_itself (kind_at c n)
+one_kind : (c : OperandContext) (m n : ℕ) → same_kinds c m n ≡ true → heap_kind_at c m ≡ heap_kind_at c n
+one_kind c m n h = sym (same_itself (heap_kind_at c m)) ∙ same_by rank_of (λ k. k) same_rank (heap_kind_at c m) (heap_kind_at c n) h ∙ same_itself (heap_kind_at c n)
 
 -- ---- what is tested of a type
 
 record Tested (c : OperandContext) (m : ℕ) : Type 0 where
   supertype : is_supertype c m (supertype_of c m) ≡ true
-  kind : kind_at c m ≡ kind_at c (first_of c m)
+  kind : heap_kind_at c m ≡ heap_kind_at c (first_of c m)
   first : option_map (first_of c) (supertype_of c m) ≡ option_map (first_of c) (supertype_of c (first_of c m))
 
 by_test : (c : OperandContext) (m : ℕ) → is_type c m ≡ true → Tested c m
@@ -53,7 +53,7 @@ past c m l =
     let same = itself_past c m l in
     record {
       supertype = ap (is_supertype c m) no;
-      kind = ap (kind_at c) (sym same);
+      kind = ap (heap_kind_at c) (sym same);
       first = ap (λ n. option_map (first_of c) (supertype_of c n)) (sym same);
     }
 
@@ -63,7 +63,7 @@ tested c h m = elim (leb_tells (length c.types) m) [
   | inr l ↦ by_test c m (passes_below (length c.types) (is_type c) h m l.1)
 ]
 
-of_supertype : (c : OperandContext) (m s : ℕ) → is_supertype c m (supertype_of c m) ≡ true → supertype_of c m ≡ Some s → (s < m) × (kind_at c m ≡ kind_at c s)
+of_supertype : (c : OperandContext) (m s : ℕ) → is_supertype c m (supertype_of c m) ≡ true → supertype_of c m ≡ Some s → (s < m) × (heap_kind_at c m ≡ heap_kind_at c s)
 of_supertype c m s h e =
     let to : is_supertype c m (Some s) ≡ true = subst (λ o. is_supertype c m o ≡ true) e h in
     let p = both (nat_lt s m) (same_kinds c m s) to in
@@ -73,6 +73,6 @@ pub types_are_tested : TypesAreTested
 types_are_tested c h = record {
   before = λ m s e. (of_supertype c m s (tested c h m).supertype e).0;
   of_one_kind = λ m s e. (of_supertype c m s (tested c h m).supertype e).1;
-  same_kind = λ m n e. (tested c h m).kind ∙ ap (kind_at c) e ∙ sym (tested c h n).kind;
+  same_kind = λ m n e. (tested c h m).kind ∙ ap (heap_kind_at c) e ∙ sym (tested c h n).kind;
   same_supertype = λ m n e. (tested c h m).first ∙ ap (λ i. option_map (first_of c) (supertype_of c i)) e ∙ sym (tested c h n).first;
 }

@@ -82,8 +82,8 @@ abbrev pub as_array : CompositeType → Checked FieldType
 as_array (Array f) = Ok f
 as_array _ = Err refused
 
-abbrev pub function_type : OperandContext → ℕ → Checked Signature
-function_type c id = required (composite_of c id) >>= as_function
+abbrev pub function_type_in : OperandContext → ℕ → Checked Signature
+function_type_in c id = required (composite_of c id) >>= as_function
 
 abbrev pub struct_type : OperandContext → ℕ → Checked (List FieldType)
 struct_type c id = required (composite_of c id) >>= as_struct

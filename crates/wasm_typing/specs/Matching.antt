@@ -15,31 +15,31 @@ use Rattle.wasm_typing.specs.Contexts.{StorageType, I8, I16, Unpacked, Composite
 -- ---- heap types
 
 -- The abstract heap types that one matches: "eq <= any", "i31 <= eq", "struct <= eq", "array <= eq", and the bottom of each hierarchy.
-abbrev pub above : AbstractHeapType → List AbstractHeapType
-above abstract.Any = abstract.Any ∷ []
-above abstract.Eq = abstract.Eq ∷ abstract.Any ∷ []
-above abstract.I31 = abstract.I31 ∷ abstract.Eq ∷ abstract.Any ∷ []
-above abstract.Struct = abstract.Struct ∷ abstract.Eq ∷ abstract.Any ∷ []
-above abstract.Array = abstract.Array ∷ abstract.Eq ∷ abstract.Any ∷ []
-above abstract.None = abstract.None ∷ abstract.I31 ∷ abstract.Struct ∷ abstract.Array ∷ abstract.Eq ∷ abstract.Any ∷ []
-above abstract.Func = abstract.Func ∷ []
-above abstract.NoFunc = abstract.NoFunc ∷ abstract.Func ∷ []
-above abstract.Extern = abstract.Extern ∷ []
-above abstract.NoExtern = abstract.NoExtern ∷ abstract.Extern ∷ []
-above abstract.Exn = abstract.Exn ∷ []
-above abstract.NoExn = abstract.NoExn ∷ abstract.Exn ∷ []
+abbrev pub abstract_supertypes : AbstractHeapType → List AbstractHeapType
+abstract_supertypes abstract.Any = abstract.Any ∷ []
+abstract_supertypes abstract.Eq = abstract.Eq ∷ abstract.Any ∷ []
+abstract_supertypes abstract.I31 = abstract.I31 ∷ abstract.Eq ∷ abstract.Any ∷ []
+abstract_supertypes abstract.Struct = abstract.Struct ∷ abstract.Eq ∷ abstract.Any ∷ []
+abstract_supertypes abstract.Array = abstract.Array ∷ abstract.Eq ∷ abstract.Any ∷ []
+abstract_supertypes abstract.None = abstract.None ∷ abstract.I31 ∷ abstract.Struct ∷ abstract.Array ∷ abstract.Eq ∷ abstract.Any ∷ []
+abstract_supertypes abstract.Func = abstract.Func ∷ []
+abstract_supertypes abstract.NoFunc = abstract.NoFunc ∷ abstract.Func ∷ []
+abstract_supertypes abstract.Extern = abstract.Extern ∷ []
+abstract_supertypes abstract.NoExtern = abstract.NoExtern ∷ abstract.Extern ∷ []
+abstract_supertypes abstract.Exn = abstract.Exn ∷ []
+abstract_supertypes abstract.NoExn = abstract.NoExn ∷ abstract.Exn ∷ []
 
 abbrev pub matches_abstract : AbstractHeapType → AbstractHeapType → Bool
-matches_abstract a b = list_any (λ u. rank_of u == rank_of b) (above a)
+matches_abstract a b = list_any (λ u. rank_of u == rank_of b) (abstract_supertypes a)
 
 -- the abstract heap type of a type of the module, by its kind
-abbrev pub kind_of : CompositeType → AbstractHeapType
-kind_of (Function s) = abstract.Func
-kind_of (Struct fs) = abstract.Struct
-kind_of (Array f) = abstract.Array
+abbrev pub heap_kind_of : CompositeType → AbstractHeapType
+heap_kind_of (Function s) = abstract.Func
+heap_kind_of (Struct fs) = abstract.Struct
+heap_kind_of (Array f) = abstract.Array
 
-abbrev pub kind_at : OperandContext → ℕ → Option AbstractHeapType
-kind_at c id = option_map kind_of (composite_of c id)
+abbrev pub heap_kind_at : OperandContext → ℕ → Option AbstractHeapType
+heap_kind_at c id = option_map heap_kind_of (composite_of c id)
 
 -- the least heap type of a hierarchy, and the greatest ("top_heap_type")
 abbrev pub bottom_of : AbstractHeapType → AbstractHeapType
@@ -82,8 +82,8 @@ holds_of test o = unwrap_or (option_map test o) false
 
 abbrev pub matches_heap : OperandContext → HeapType ℕ → HeapType ℕ → Bool
 matches_heap c (Abstract a) (Abstract b) = matches_abstract a b
-matches_heap c (Concrete m) (Abstract b) = holds_of (λ k. matches_abstract k b) (kind_at c m)
-matches_heap c (Abstract a) (Concrete n) = holds_of (λ k. matches_abstract a (bottom_of k)) (kind_at c n)
+matches_heap c (Concrete m) (Abstract b) = holds_of (λ k. matches_abstract k b) (heap_kind_at c m)
+matches_heap c (Abstract a) (Concrete n) = holds_of (λ k. matches_abstract a (bottom_of k)) (heap_kind_at c n)
 matches_heap c (Concrete m) (Concrete n) = matches_defined c m n
 
 -- ---- other types
@@ -136,7 +136,7 @@ is_valid_value c _ = true
 -- the top of the hierarchy of a heap type
 abbrev pub top_heap : OperandContext → HeapType ℕ → Option AbstractHeapType
 top_heap c (Abstract a) = Some (top_of a)
-top_heap c (Concrete id) = option_map top_of (kind_at c id)
+top_heap c (Concrete id) = option_map top_of (heap_kind_at c id)
 
 -- "diff_ref_type": the type of a reference of the first type on which a cast to the second fails
 abbrev pub difference : RefType ℕ → RefType ℕ → RefType ℕ

@@ -10,7 +10,7 @@ use Rattle.wasm_types.specs.declared.val_type.ValType.{ValType}
 use Rattle.wasm_types.specs.declared.val_type.ValType.TheVariants.{Ref}
 use Rattle.wasm_types.specs.TypeOrder.{rank_of}
 use Rattle.wasm_typing.specs.Contexts.{OperandContext}
-use Rattle.wasm_typing.specs.Matching.{kind_at, first_of, supertype_of, matches_value}
+use Rattle.wasm_typing.specs.Matching.{heap_kind_at, first_of, supertype_of, matches_value}
 
 -- ---- the rules
 
@@ -26,7 +26,7 @@ pub data HeapMatches (c : OperandContext) : HeapType ℕ → HeapType ℕ → Ty
   nofunc_below : (a : HeapType ℕ) → HeapMatches c a (Abstract abstract.Func) → HeapMatches c (Abstract abstract.NoFunc) a
   noextern_below : (a : HeapType ℕ) → HeapMatches c a (Abstract abstract.Extern) → HeapMatches c (Abstract abstract.NoExtern) a
   noexn_below : (a : HeapType ℕ) → HeapMatches c a (Abstract abstract.Exn) → HeapMatches c (Abstract abstract.NoExn) a
-  of_kind : (m : ℕ) (k : AbstractHeapType) → kind_at c m ≡ Some k → HeapMatches c (Concrete m) (Abstract k)  -- what a type expands to
+  of_kind : (m : ℕ) (k : AbstractHeapType) → heap_kind_at c m ≡ Some k → HeapMatches c (Concrete m) (Abstract k)  -- what a type expands to
   same_type : (m n : ℕ) → first_of c m ≡ first_of c n → HeapMatches c (Concrete m) (Concrete n)
   declared : (m s : ℕ) → supertype_of c m ≡ Some s → HeapMatches c (Concrete m) (Concrete s)  -- a declared supertype
 
@@ -45,8 +45,8 @@ ValueMatches c t u = t ≡ u
 -- the same are of one kind, and their supertypes are the same.
 pub record AreTypes (c : OperandContext) : Type 0 where
   pub before : (m s : ℕ) → supertype_of c m ≡ Some s → s < m
-  pub of_one_kind : (m s : ℕ) → supertype_of c m ≡ Some s → kind_at c m ≡ kind_at c s
-  pub same_kind : (m n : ℕ) → first_of c m ≡ first_of c n → kind_at c m ≡ kind_at c n
+  pub of_one_kind : (m s : ℕ) → supertype_of c m ≡ Some s → heap_kind_at c m ≡ heap_kind_at c s
+  pub same_kind : (m n : ℕ) → first_of c m ≡ first_of c n → heap_kind_at c m ≡ heap_kind_at c n
   pub same_supertype : (m n : ℕ) → first_of c m ≡ first_of c n → option_map (first_of c) (supertype_of c m) ≡ option_map (first_of c) (supertype_of c n)
 
 -- A test for it: of each type of the list.
@@ -60,7 +60,7 @@ same_option number (Some x) (Some y) = number x == number y
 same_option number _ _ = false
 
 abbrev pub same_kinds : OperandContext → ℕ → ℕ → Bool
-same_kinds c m n = same_option rank_of (kind_at c m) (kind_at c n)
+same_kinds c m n = same_option rank_of (heap_kind_at c m) (heap_kind_at c n)
 
 abbrev pub is_supertype : OperandContext → ℕ → Option ℕ → Bool
 is_supertype c m None = true

@@ -25,8 +25,8 @@ abbrev pub Operands : Type 0
 Operands = List (Operand KnownOperand)
 
 -- the same point with other operands
-abbrev pub with_operands : Point KnownOperand → Operands → Point KnownOperand
-with_operands p xs = record p { operands = xs }
+abbrev pub with_operand_list : Point KnownOperand → Operands → Point KnownOperand
+with_operand_list p xs = record p { operands = xs }
 
 -- a change that initialises no local
 abbrev pub leaving : Operands → Change KnownOperand
@@ -35,27 +35,27 @@ leaving xs = record { operands = xs; initialises = [] }
 -- ---- operands of given types
 
 -- "push_vals"
-abbrev pub push_each : List (ValType ℕ) → Operands → Operands
-push_each [] xs = xs
-push_each (t ∷ ts) xs = push_each ts (Known (of_type t) ∷ xs)
+abbrev pub push_operands : List (ValType ℕ) → Operands → Operands
+push_operands [] xs = xs
+push_operands (t ∷ ts) xs = push_operands ts (Known (of_type t) ∷ xs)
 
 -- "pop_val(expect)": below the height of an unreachable frame each operand is unknown, and an unknown one matches each type
-abbrev pub pop : OperandContext → (unreachable : Bool) → ValType ℕ → Operands → Checked Operands
-pop c unreachable expected [] = demand unreachable >>= λ u. Ok []
-pop c unreachable expected (Unknown ∷ xs) = Ok xs
-pop c unreachable expected (Known t ∷ xs) = demand (matches_known c t expected) >>= λ u. Ok xs
+abbrev pub pop_operand : OperandContext → (unreachable : Bool) → ValType ℕ → Operands → Checked Operands
+pop_operand c unreachable expected [] = demand unreachable >>= λ u. Ok []
+pop_operand c unreachable expected (Unknown ∷ xs) = Ok xs
+pop_operand c unreachable expected (Known t ∷ xs) = demand (matches_known c t expected) >>= λ u. Ok xs
 
-abbrev pub pop_each : OperandContext → Bool → List (ValType ℕ) → Operands → Checked Operands
-pop_each c unreachable [] xs = Ok xs
-pop_each c unreachable (t ∷ ts) xs = pop c unreachable t xs >>= λ ys. pop_each c unreachable ts ys
+abbrev pub pop_each_operand : OperandContext → Bool → List (ValType ℕ) → Operands → Checked Operands
+pop_each_operand c unreachable [] xs = Ok xs
+pop_each_operand c unreachable (t ∷ ts) xs = pop_operand c unreachable t xs >>= λ ys. pop_each_operand c unreachable ts ys
 
 -- "pop_vals"
-abbrev pub pop_all : OperandContext → Bool → List (ValType ℕ) → Operands → Checked Operands
-pop_all c unreachable ts xs = pop_each c unreachable (reverse ts) xs
+abbrev pub pop_operands : OperandContext → Bool → List (ValType ℕ) → Operands → Checked Operands
+pop_operands c unreachable ts xs = pop_each_operand c unreachable (reverse ts) xs
 
 -- what an operator of this type makes
 abbrev pub typed : OperandContext → InstructionType → Point KnownOperand → Checked (Change KnownOperand)
-typed c t p = pop_all c p.unreachable t.takes p.operands >>= λ xs. Ok (record { operands = push_each t.gives xs; initialises = t.initialises })
+typed c t p = pop_operands c p.unreachable t.takes p.operands >>= λ xs. Ok (record { operands = push_operands t.gives xs; initialises = t.initialises })
 
 -- ---- operands of any type
 

@@ -32,10 +32,10 @@ module _ (firsts : List ℕ) (a b n : ℕ) where
       if is_inside a x || is_inside b y then is_inside a x && is_inside b y && (x - a) == (y - b)
       else unwrap_or (slice_get firsts x) x == unwrap_or (slice_get firsts y) y
 
-  abbrev same_heap : HeapType ℕ → HeapType ℕ → Bool
-  same_heap (Abstract s) (Abstract t) = rank_of s == rank_of t
-  same_heap (Concrete x) (Concrete y) = same_id x y
-  same_heap _ _ = false
+  abbrev same_heap_type : HeapType ℕ → HeapType ℕ → Bool
+  same_heap_type (Abstract s) (Abstract t) = rank_of s == rank_of t
+  same_heap_type (Concrete x) (Concrete y) = same_id x y
+  same_heap_type _ _ = false
 
   abbrev same_value : ValType ℕ → ValType ℕ → Bool
   same_value I32 I32 = true
@@ -43,7 +43,7 @@ module _ (firsts : List ℕ) (a b n : ℕ) where
   same_value F32 F32 = true
   same_value F64 F64 = true
   same_value V128 V128 = true
-  same_value (Ref s) (Ref t) = same_bool s.nullable t.nullable && same_heap s.heap_type t.heap_type
+  same_value (Ref s) (Ref t) = same_bool s.nullable t.nullable && same_heap_type s.heap_type t.heap_type
   same_value _ _ = false
 
   abbrev same_storage : StorageType → StorageType → Bool
@@ -80,15 +80,15 @@ module _ (firsts : List ℕ) (a b n : ℕ) where
 -- ---- first ids
 
 -- a group that was declared, with the id of its first type
-abbrev pub Placed : Type 0
-Placed = ℕ × Group
+abbrev pub PlacedGroup : Type 0
+PlacedGroup = ℕ × Group
 
 -- where the first group is that is equal to the group g from the id b on, which is there itself if none before it is
-abbrev pub first_place : List Placed → (firsts : List ℕ) → (b : ℕ) → Group → ℕ
+abbrev pub first_place : List PlacedGroup → (firsts : List ℕ) → (b : ℕ) → Group → ℕ
 first_place before firsts b g = unwrap_or (option_map (λ p. p.0) (find (λ p. same_group firsts p.0 b (length g) p.1 g) before)) b
 
 -- the first ids of all types, group by group
-abbrev pub first_ids : List Placed → (firsts : List ℕ) → (b : ℕ) → List Group → List ℕ
+abbrev pub first_ids : List PlacedGroup → (firsts : List ℕ) → (b : ℕ) → List Group → List ℕ
 first_ids before firsts b [] = firsts
 first_ids before firsts b (g ∷ gs) =
     first_ids (before ++ (b, g) ∷ []) (firsts ++ range_with_len (first_place before firsts b g) (length g)) (b + length g) gs

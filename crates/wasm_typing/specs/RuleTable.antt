@@ -51,11 +51,11 @@ abbrev pub shift : Row
 shift = Some (fixed (V128 ∷ I32 ∷ []) (V128 ∷ []))
 
 -- extract_lane : v128 -> t and replace_lane : v128 t -> v128, in vectors of so many lanes
-abbrev pub extract_lane : ℕ → ValType ℕ → Row
-extract_lane n t = Some (by_type (at_lane n (V128 ∷ []) (t ∷ [])))
+abbrev pub extract_lane_row : ℕ → ValType ℕ → Row
+extract_lane_row n t = Some (by_type (at_lane n (V128 ∷ []) (t ∷ [])))
 
-abbrev pub replace_lane : ℕ → ValType ℕ → Row
-replace_lane n t = Some (by_type (at_lane n (V128 ∷ t ∷ []) (V128 ∷ [])))
+abbrev pub replace_lane_row : ℕ → ValType ℕ → Row
+replace_lane_row n t = Some (by_type (at_lane n (V128 ∷ t ∷ []) (V128 ∷ [])))
 
 -- v128.loadN_lane : at v128 -> v128 and v128.storeN_lane : at v128 -> eps
 abbrev pub load_lane : (exponent bound : ℕ) → Row
@@ -231,18 +231,18 @@ vector_rules =
     (18, conversion I64 V128) ∷  -- i64x2.splat
     (19, conversion F32 V128) ∷  -- f32x4.splat
     (20, conversion F64 V128) ∷  -- f64x2.splat
-    (22, extract_lane 16 I32) ∷  -- i8x16
-    (23, replace_lane 16 I32) ∷
-    (25, extract_lane 8 I32) ∷  -- i16x8
-    (26, replace_lane 8 I32) ∷
-    (27, extract_lane 4 I32) ∷  -- i32x4
-    (28, replace_lane 4 I32) ∷
-    (29, extract_lane 2 I64) ∷  -- i64x2
-    (30, replace_lane 2 I64) ∷
-    (31, extract_lane 4 F32) ∷  -- f32x4
-    (32, replace_lane 4 F32) ∷
-    (33, extract_lane 2 F64) ∷  -- f64x2
-    (34, replace_lane 2 F64) ∷
+    (22, extract_lane_row 16 I32) ∷  -- i8x16
+    (23, replace_lane_row 16 I32) ∷
+    (25, extract_lane_row 8 I32) ∷  -- i16x8
+    (26, replace_lane_row 8 I32) ∷
+    (27, extract_lane_row 4 I32) ∷  -- i32x4
+    (28, replace_lane_row 4 I32) ∷
+    (29, extract_lane_row 2 I64) ∷  -- i64x2
+    (30, replace_lane_row 2 I64) ∷
+    (31, extract_lane_row 4 F32) ∷  -- f32x4
+    (32, replace_lane_row 4 F32) ∷
+    (33, extract_lane_row 2 F64) ∷  -- f64x2
+    (34, replace_lane_row 2 F64) ∷
     (76, binary V128) ∷  -- comparisons
     (77, unary V128) ∷  -- not
     (81, binary V128) ∷  -- and, andnot, or, xor

@@ -14,7 +14,7 @@ use Rattle.walrus_ir.specs.Types.{Signature, same_bool}
 use Rattle.wasm_operators.specs.Operations.{Access, Immediate, index, local, number, access, heap, value, lane, lanes}
 use Rattle.wasm_body.specs.Validity.{Known, Point, Change, Checked, refused, demand, required}
 use Rattle.wasm_body.specs.ValidityLaws.{KnownOperand, of_type}
-use Rattle.wasm_typing.specs.Contexts.{Unpacked, FieldType, OperandContext, contains, function_type, struct_type, array_type, address, narrower, address_bits, unpacked, is_packed, is_number, has_default}
+use Rattle.wasm_typing.specs.Contexts.{Unpacked, FieldType, OperandContext, contains, function_type_in, struct_type, array_type, address, narrower, address_bits, unpacked, is_packed, is_number, has_default}
 use Rattle.wasm_typing.specs.Matching.{matches_reference, matches_storage, matches_known, is_valid_heap, is_valid_value, top_heap}
 use Rattle.wasm_typing.specs.Operands.{InstructionType, ◌⟶◌, leaving, typed, pop_any, pop_reference, may_be_null, not_null, may_be_number, one_of}
 
@@ -55,15 +55,15 @@ of_heap rule c _ = Err refused
 
 -- ---- types of references
 
-abbrev pub reference : Bool → HeapType ℕ → ValType ℕ
-reference nullable h = Ref (record { nullable = nullable; heap_type = h })
+abbrev pub reference_to : Bool → HeapType ℕ → ValType ℕ
+reference_to nullable h = Ref (record { nullable = nullable; heap_type = h })
 
 -- "(ref ht)" and "(ref null ht)"
 abbrev pub ref : HeapType ℕ → ValType ℕ
-ref h = reference false h
+ref h = reference_to false h
 
 abbrev pub ref_null : HeapType ℕ → ValType ℕ
-ref_null h = reference true h
+ref_null h = reference_to true h
 
 -- ---- parametric instructions
 
@@ -87,17 +87,17 @@ selected_of c _ = Err refused
 
 -- call x : t1* -> t2*
 abbrev pub call : OperandContext → ℕ → Checked InstructionType
-call c x = required (slice_get c.functions x) >>= λ type. function_type c type >>= λ s. Ok (s.parameters ⟶ s.results)
+call c x = required (slice_get c.functions x) >>= λ type. function_type_in c type >>= λ s. Ok (s.parameters ⟶ s.results)
 
 -- call_ref x : t1* (ref null x) -> t2*
 abbrev pub call_ref : OperandContext → ℕ → Checked InstructionType
-call_ref c x = function_type c x >>= λ s. Ok (s.parameters ++ ref_null (Concrete x) ∷ [] ⟶ s.results)
+call_ref c x = function_type_in c x >>= λ s. Ok (s.parameters ++ ref_null (Concrete x) ∷ [] ⟶ s.results)
 
 -- call_indirect x y, of the type x and the table y, whose references are to functions : t1* at -> t2*
 abbrev pub call_indirect : OperandContext → (x y : ℕ) → Checked InstructionType
 call_indirect c x y =
     required (slice_get c.tables y) >>= λ t. demand (matches_reference c t.element (record { nullable = true; heap_type = Abstract abstract.Func })) >>= λ u.
-    function_type c x >>= λ s. Ok (s.parameters ++ address t.address ∷ [] ⟶ s.results)
+    function_type_in c x >>= λ s. Ok (s.parameters ++ address t.address ∷ [] ⟶ s.results)
 
 -- ---- variable instructions
 
@@ -250,13 +250,13 @@ reference_test c h = top_reference c h >>= λ t. Ok (t ∷ [] ⟶ I32 ∷ [])
 
 -- ref.cast (ref null? ht) : rt -> (ref null? ht)
 abbrev pub reference_cast : Bool → OperandContext → HeapType ℕ → Checked InstructionType
-reference_cast nullable c h = top_reference c h >>= λ t. Ok (t ∷ [] ⟶ reference nullable h ∷ [])
+reference_cast nullable c h = top_reference c h >>= λ t. Ok (t ∷ [] ⟶ reference_to nullable h ∷ [])
 
 -- any.convert_extern, extern.convert_any: from one hierarchy to the other : (ref null? ht1) -> (ref null? ht2)
 abbrev pub converted : (from to : AbstractHeapType) → OperandContext → Immediates → Point KnownOperand → Checked (Change KnownOperand)
 converted from to c is p =
     pop_reference p >>= λ q. demand (matches_known c q.reference (ref_null (Abstract from))) >>= λ u.
-    Ok (leaving (Known (of_type (reference (may_be_null q.reference) (Abstract to))) ∷ q.below))
+    Ok (leaving (Known (of_type (reference_to (may_be_null q.reference) (Abstract to))) ∷ q.below))
 
 -- ---- aggregate instructions: structs
 

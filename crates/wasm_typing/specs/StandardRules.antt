@@ -18,7 +18,7 @@ use Rattle.wasm_body.specs.Validity.{Known, Point, Change, OperandRules, Checked
 use Rattle.wasm_body.specs.ValidityLaws.{KnownOperand, of_type}
 use Rattle.wasm_typing.specs.Contexts.{OperandContext, initial_locals}
 use Rattle.wasm_typing.specs.Matching.{matches_reference, matches_values, matches_known, is_valid_heap, difference}
-use Rattle.wasm_typing.specs.Operands.{InstructionType, ◌⟶◌, with_operands, typed, pop_reference, not_null}
+use Rattle.wasm_typing.specs.Operands.{InstructionType, ◌⟶◌, with_operand_list, typed, pop_reference, not_null}
 use Rattle.wasm_typing.specs.Rules.{Immediates, Rule, by_type, by_point, ref_null, of_index, of_indices, call, call_ref, call_indirect}
 use Rattle.wasm_typing.specs.RuleTable.{rule_of}
 
@@ -43,7 +43,7 @@ branch_if c is ts p = typed c (ts ++ I32 ∷ [] ⟶ ts) p
 -- br_on_null l : t* (ref null ht) -> t* (ref ht)
 abbrev pub branch_on_null : ConditionalRule
 branch_on_null c is ts p =
-    pop_reference p >>= λ q. typed c (ts ⟶ ts) (with_operands p q.below) >>= λ k. Ok (record k { operands = Known (not_null q.reference) ∷ k.operands })
+    pop_reference p >>= λ q. typed c (ts ⟶ ts) (with_operand_list p q.below) >>= λ k. Ok (record k { operands = Known (not_null q.reference) ∷ k.operands })
 
 -- the last type of a label, which has to be a reference, and those before it
 pub record LabelParts : Type 0 where
@@ -134,12 +134,12 @@ abbrev pub IsValidBody : Typing → OperandContext → (arguments : List ℕ) �
 IsValidBody m c arguments results xs = IsValid m (standard_rules c) results (initial_locals c arguments) xs
 
 -- The same as a test: no operator is refused, and the last closes the function's frame.
-abbrev pub is_empty : List ControlFrame → Bool
-is_empty [] = true
-is_empty (c ∷ cs) = false
+abbrev pub has_no_frames : List ControlFrame → Bool
+has_no_frames [] = true
+has_no_frames (c ∷ cs) = false
 
 abbrev pub closes_all : Checked (State KnownOperand) → Bool
-closes_all (Ok s) = is_empty s.controls
+closes_all (Ok s) = has_no_frames s.controls
 closes_all (Err e) = false
 
 abbrev pub is_valid_body : Typing → OperandContext → (arguments : List ℕ) → (results : List (ValType ℕ)) → List (Located NamedOperation) → Bool

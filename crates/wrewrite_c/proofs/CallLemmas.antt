@@ -6,19 +6,19 @@ use Rattle.std.specs.List.{list_any}
 use Rattle.std.specs.HashSet.{HashSet, IsEmpty, contains}
 use Rattle.wasm_sections.specs.declared.changes.Changes.{Changes}
 use Rattle.wasm_sections.specs.declared.omissions.OmittedSections.{OmittedSections}
-use Rattle.wasm_sections.specs.Omissions.{OmitsNothing, texts, has_name, names_debug, names_source_map}
+use Rattle.wasm_sections.specs.Omissions.{OmitsNothing, texts_of, has_name, names_debug, names_source_map}
 use Rattle.wasm_module.specs.declared.parsed.ParsedModule.{ParsedModule}
 use Rattle.wasm_module.specs.declared.changing.kept_bodies.KeptBodies.{KeptBodies}
 use Rattle.wasm_module.specs.KeptCode.{IsKept, AreKeptAs}
 use Rattle.wasm_module.specs.RewrittenCode.{Extends}
-use Rattle.wasm_module.specs.WrittenModules.{Writes, IsWrittenModule}
+use Rattle.wasm_module.specs.WrittenModules.{BodyWriting, IsWrittenModule}
 use Rattle.wasm_module.proofs.WriterLemmas.{kept_module}
 use Rattle.wrewrite_c.specs.declared.options.Options.{Options}
 use Rattle.wrewrite_c.specs.declared.outcome.Named.{Named}
 use Rattle.wrewrite_c.specs.declared.outcome.Stop.{Stop}
 use Rattle.wrewrite_c.specs.declared.outcome.Stop.TheVariants.{Refused, NoFunction}
-use Rattle.wrewrite_c.specs.Made.{without_debug, without_all, LeavesOut, IsMadeFrom, IsMadeOf, is_listed, HasFunctions, Adds}
-use Rattle.wrewrite_c.specs.Outcomes.{IsMissingIn, LacksFunction, IsNamed, IsNamedIn}
+use Rattle.wrewrite_c.specs.Made.{without_debug, without_all, LeavesOut, IsMadeFrom, IsMadeOf, is_among, HasFunctions, AddsIndex}
+use Rattle.wrewrite_c.specs.Outcomes.{IsMissingIn, LacksFunction, IsNamedFunction, IsNamedIn}
 
 -- ---- what is left out
 
@@ -42,7 +42,7 @@ leaves_out wanted old new none e = subst (λ (o : OmittedSections). LeavesOut wa
   debug = or_true wanted.strips_debug old.is_debug;
   all = or_true wanted.strips_all old.is_all;
   no_others = λ name.
-      unwanted (has_name (texts old.kept.items) name) old.is_all (has_name (texts old.named.items) name) old.is_debug (names_debug name) old.is_source_map_url
+      unwanted (has_name (texts_of old.kept.items) name) old.is_all (has_name (texts_of old.named.items) name) old.is_debug (names_debug name) old.is_source_map_url
       (names_source_map name) wanted.strips_all wanted.strips_debug (none name);
 })
 
@@ -50,7 +50,7 @@ leaves_out wanted old new none e = subst (λ (o : OmittedSections). LeavesOut wa
 
 -- after nothing that was written before
 pub made_new :
-    {B : Type 0} (writes : B → Writes) (a b : B) (parsed : ParsedModule) (changes : Changes) (omitted : OmittedSections) (wanted : Options) (old made : List ℕ) → b ≡ a →
+    {B : Type 0} (writes : B → BodyWriting) (a b : B) (parsed : ParsedModule) (changes : Changes) (omitted : OmittedSections) (wanted : Options) (old made : List ℕ) → b ≡ a →
     changes.given.items ≡ [] → LeavesOut wanted omitted → old ≡ [] → (new : List ℕ) × IsWrittenModule (writes b) parsed changes omitted new × (made ≡ old ++ new) →
     IsMadeFrom (writes a) parsed wanted made
 made_new writes a b parsed changes omitted wanted old made same none leaves empty w =
@@ -70,12 +70,12 @@ on_ok (Err e) f p = tt
 
 -- of the bytes of a module that was read, which has changed since, and whose bodies are written in this way or kept so
 pub made_of :
-    {A E : Type 0} (r : Result A E) (writes : Writes) (parsed now : ParsedModule) (wanted : Options) (new : List ℕ) → Extends parsed now →
+    {A E : Type 0} (r : Result A E) (writes : BodyWriting) (parsed now : ParsedModule) (wanted : Options) (new : List ℕ) → Extends parsed now →
     OnOk r (IsMadeFrom writes now wanted new) → OnOk r (IsMadeOf writes parsed.bytes.now wanted new)
 made_of r writes parsed now wanted new x h = on_ok r (λ m. record { parsed = now; bytes_are = x.bytes; is_made = m }) h
 
 kept_from :
-    (writes : Writes) (parsed now : ParsedModule) (kept : KeptBodies) (wanted : Options) (new : List ℕ) → Extends parsed now → AreKeptAs writes parsed kept →
+    (writes : BodyWriting) (parsed now : ParsedModule) (kept : KeptBodies) (wanted : Options) (new : List ℕ) → Extends parsed now → AreKeptAs writes parsed kept →
     IsMadeFrom (IsKept kept) now wanted new → IsMadeOf writes parsed.bytes.now wanted new
 kept_from writes parsed now kept wanted new x k h = record {
   parsed = parsed;
@@ -90,7 +90,7 @@ kept_from writes parsed now kept wanted new x k h = record {
 }
 
 pub made_of_kept :
-    {A E : Type 0} (r : Result A E) (writes : Writes) (parsed now : ParsedModule) (kept : KeptBodies) (wanted : Options) (new : List ℕ) → Extends parsed now →
+    {A E : Type 0} (r : Result A E) (writes : BodyWriting) (parsed now : ParsedModule) (kept : KeptBodies) (wanted : Options) (new : List ℕ) → Extends parsed now →
     AreKeptAs writes parsed kept → OnOk r (IsMadeFrom (IsKept kept) now wanted new) → OnOk r (IsMadeOf writes parsed.bytes.now wanted new)
 made_of_kept r writes parsed now kept wanted new x k h = on_ok r (λ m. kept_from writes parsed now kept wanted new x k m) h
 
@@ -107,10 +107,10 @@ has_none indices functions e = λ index. ap (λ (ks : List ℕ). list_any (λ k.
 
 pub has_more :
     {S : Type 0} (indices : List ℕ) (at index : ℕ) (old new : HashSet ℕ S) → at < length indices → index ≡ get_or indices at 0 → HasFunctions (take at indices) old →
-    Adds index old new → HasFunctions (take (at + 1) indices) new
+    AddsIndex index old new → HasFunctions (take (at + 1) indices) new
 has_more indices at index old new bound e h a = λ other.
-    a other ∙ ap (λ (b : Bool). cond (index == other) true b) (h other) ∙ or_last (index == other) (is_listed (take at indices) other)
-    ∙ ap (λ (i : ℕ). is_listed (take at indices) other || (i == other)) e ∙ sym (list_any_more (λ i. i == other) indices at 0 bound)
+    a other ∙ ap (λ (b : Bool). cond (index == other) true b) (h other) ∙ or_last (index == other) (is_among (take at indices) other)
+    ∙ ap (λ (i : ℕ). is_among (take at indices) other || (i == other)) e ∙ sym (list_any_more (λ i. i == other) indices at 0 bound)
 
 -- a set of ids in terms of their numbers
 by_number : {S : Type 0} (s : HashSet ℕ S) (d : ℕ) → contains (λ x y. (x == y) && true) s d ≡ contains (λ x y. x == y) s d
@@ -134,6 +134,6 @@ lacks parsed indices (NoFunction index) h = (h.0, (parsed, refl, h.1))
 
 -- in the module of these bytes
 pub named_in :
-    {E : Type 0} (r : Result Named E) (parsed : ParsedModule) (source : List ℕ) → parsed.bytes.now ≡ source → IfOk r (IsNamed parsed) → IfOk r (IsNamedIn source)
+    {E : Type 0} (r : Result Named E) (parsed : ParsedModule) (source : List ℕ) → parsed.bytes.now ≡ source → IfOk r (IsNamedFunction parsed) → IfOk r (IsNamedIn source)
 named_in (Ok named) parsed source same h = (parsed, same, h)
 named_in (Err e) parsed source same h = tt

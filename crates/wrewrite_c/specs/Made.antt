@@ -7,7 +7,7 @@ use Rattle.wasm_sections.specs.declared.omissions.OmittedSections.{OmittedSectio
 use Rattle.wasm_sections.specs.Omissions.{omits_name, names_debug}
 use Rattle.wasm_module.specs.declared.parsed.ParsedModule.{ParsedModule}
 use Rattle.wasm_module.specs.RewrittenCode.{IsChanged, keeps_locals}
-use Rattle.wasm_module.specs.WrittenModules.{Writes, IsWrittenModule}
+use Rattle.wasm_module.specs.WrittenModules.{BodyWriting, IsWrittenModule}
 use Rattle.module_tools.specs.declared.snipping.Snipping.{Snipping}
 use Rattle.module_tools.specs.FunctionChanges.{Snips}
 use Rattle.wrewrite_c.specs.declared.options.Options.{Options}
@@ -36,7 +36,7 @@ pub record LeavesOut (wanted : Options) (o : OmittedSections) : Type 0 where
 
 -- These bytes are the module that is written for this one: with bodies that are written in this way, with no section that is
 -- given, and without the custom sections that aren't wanted.
-pub record IsMadeFrom (writes : Writes) (parsed : ParsedModule) (wanted : Options) (new : List ℕ) : Type 0 where
+pub record IsMadeFrom (writes : BodyWriting) (parsed : ParsedModule) (wanted : Options) (new : List ℕ) : Type 0 where
   pub changes : Changes
   pub none_given : changes.given.items ≡ []
   pub omitted : OmittedSections
@@ -44,7 +44,7 @@ pub record IsMadeFrom (writes : Writes) (parsed : ParsedModule) (wanted : Option
   pub is_written : IsWrittenModule writes parsed changes omitted new
 
 -- The same for a module of these source bytes, as it was read.
-pub record IsMadeOf (writes : Writes) (source : List ℕ) (wanted : Options) (new : List ℕ) : Type 0 where
+pub record IsMadeOf (writes : BodyWriting) (source : List ℕ) (wanted : Options) (new : List ℕ) : Type 0 where
   pub parsed : ParsedModule
   pub bytes_are : parsed.bytes.now ≡ source
   pub is_made : IsMadeFrom writes parsed wanted new
@@ -52,16 +52,16 @@ pub record IsMadeOf (writes : Writes) (source : List ℕ) (wanted : Options) (ne
 -- ---- functions that are named by their indices
 
 -- whether an index is in a list
-abbrev pub is_listed : List ℕ → ℕ → Bool
-is_listed indices index = list_any (λ i. i == index) indices
+abbrev pub is_among : List ℕ → ℕ → Bool
+is_among indices index = list_any (λ i. i == index) indices
 
 -- A set has the functions with these indices, and no others.
 abbrev pub HasFunctions : {S : Type 0} → List ℕ → HashSet ℕ S → Type 0
-HasFunctions indices functions = (index : ℕ) → contains (λ x y. x == y) functions index ≡ is_listed indices index
+HasFunctions indices functions = (index : ℕ) → contains (λ x y. x == y) functions index ≡ is_among indices index
 
 -- One function is added.
-abbrev pub Adds : {S : Type 0} → (index : ℕ) → (old new : HashSet ℕ S) → Type 0
-Adds index old new = (other : ℕ) → contains (λ x y. x == y) new other ≡ cond (index == other) true (contains (λ x y. x == y) old other)
+abbrev pub AddsIndex : {S : Type 0} → (index : ℕ) → (old new : HashSet ℕ S) → Type 0
+AddsIndex index old new = (other : ℕ) → contains (λ x y. x == y) new other ≡ cond (index == other) true (contains (λ x y. x == y) old other)
 
 -- The same, with the bodies of the functions with these indices taken away.
 pub record IsSnippedOf (indices source : List ℕ) (wanted : Options) (new : List ℕ) : Type 0 where

@@ -5,7 +5,7 @@ use Rattle.wasm_sections.specs.declared.fault.ModuleFault.{ModuleFault}
 use Rattle.wasm_sections.specs.declared.fault.ModuleFault.TheVariants.{Memory, TooGreat}
 use Rattle.wasm_module.specs.declared.parsed.ParsedModule.{ParsedModule}
 use Rattle.wasm_sections.specs.CodeSections.{BodyAt}
-use Rattle.wasm_module.specs.Refusals.{IsRefused}
+use Rattle.wasm_module.specs.Refusals.{IsRefusedBody}
 use Rattle.wrewrite_c.specs.declared.options.Options.{Options}
 use Rattle.wrewrite_c.specs.declared.outcome.Outcome.{Outcome}
 use Rattle.wrewrite_c.specs.declared.outcome.Named.{Named}
@@ -13,7 +13,7 @@ use Rattle.wrewrite_c.specs.declared.outcome.Named.TheVariants.{One, None as Non
 use Rattle.wrewrite_c.specs.declared.outcome.Refusal.{Refusal}
 use Rattle.wrewrite_c.specs.declared.outcome.Stop.{Stop}
 use Rattle.wrewrite_c.specs.declared.outcome.Stop.TheVariants.{Refused, NoFunction}
-use Rattle.wrewrite_c.specs.Made.{is_listed}
+use Rattle.wrewrite_c.specs.Made.{is_among}
 use Rattle.wrewrite_c.specs.Options.{AreOptions}
 
 -- the index of a function, where there is none
@@ -74,25 +74,25 @@ IsMissing parsed index (NoFunction other) = (other ≡ index) × (HasBody parsed
 -- or one of these indices
 abbrev pub IsMissingIn : ParsedModule → (indices : List ℕ) → Stop → Type 0
 IsMissingIn parsed indices (Refused r) = r.error.fault ≡ Memory
-IsMissingIn parsed indices (NoFunction index) = (is_listed indices index ≡ true) × (HasBody parsed index → ⊥)
+IsMissingIn parsed indices (NoFunction index) = (is_among indices index ≡ true) × (HasBody parsed index → ⊥)
 
 -- The same of the module of these bytes, as it was read; or the module is refused.
 abbrev pub LacksFunction : (indices source : List ℕ) → Stop → Type 0
 LacksFunction indices source (Refused r) = Unit {0}
 LacksFunction indices source (NoFunction index) =
-    (is_listed indices index ≡ true) × ((parsed : ParsedModule) × (parsed.bytes.now ≡ source) × (HasBody parsed index → ⊥))
+    (is_among indices index ≡ true) × ((parsed : ParsedModule) × (parsed.bytes.now ≡ source) × (HasBody parsed index → ⊥))
 
 -- ---- functions with names
 
 -- The function that is found has a body in this module.
-abbrev pub IsNamed : ParsedModule → Named → Type 0
-IsNamed parsed (One index) = HasBody parsed index
-IsNamed parsed NoneNamed = Unit {0}
-IsNamed parsed Several = Unit {0}
+abbrev pub IsNamedFunction : ParsedModule → Named → Type 0
+IsNamedFunction parsed (One index) = HasBody parsed index
+IsNamedFunction parsed NoneNamed = Unit {0}
+IsNamedFunction parsed Several = Unit {0}
 
 -- the same of the module of these bytes, as it was read
 abbrev pub IsNamedIn : (source : List ℕ) → Named → Type 0
-IsNamedIn source named = (parsed : ParsedModule) × (parsed.bytes.now ≡ source) × IsNamed parsed named
+IsNamedIn source named = (parsed : ParsedModule) × (parsed.bytes.now ≡ source) × IsNamedFunction parsed named
 
 -- the outcome of a search: 2 where no function, or more than one, has the name
 abbrev pub IsOfNamed : Named → Outcome → Type 0
@@ -116,7 +116,7 @@ pub record IsOfFunction (source : List ℕ) (first : ℕ) (error : ModuleError) 
   pub bytes_are : parsed.bytes.now ≡ source
   pub body : BodyAt
   pub now : ParsedModule
-  pub is_refused : IsRefused parsed function body now error
+  pub is_refused : IsRefusedBody parsed function body now error
 
 -- Where a function is named, it is the one that is refused.
 abbrev pub IsOfCheck : (source : List ℕ) → (first : ℕ) → Stop → Type 0

@@ -3,7 +3,7 @@
 ghost use Rattle.std.specs.Prelude.{IfErr, IfSome};
 ghost use Rattle.wasm_sections.specs.CodeSections.{body_at};
 ghost use Rattle.wasm_module.specs.RewrittenCode.{Extends};
-ghost use Rattle.wasm_module.specs.Refusals.{IsRefused};
+ghost use Rattle.wasm_module.specs.Refusals.{IsRefusedBody};
 ghost use Rattle.wrewrite_c.specs.Outcomes.{IsOfCheck};
 
 use crate::outcome::{Refusal, Stop};
@@ -19,7 +19,7 @@ fn fault_of<'a>(
 ) -> Option<ModuleError>
     ensures extends { Extends parsed.old parsed.new }
     ensures refused { IfSome result
-        (IsRefused parsed.old body.entry.func (body_at body.entry) parsed.new) }
+        (IsRefusedBody parsed.old body.entry.func (body_at body.entry) parsed.new) }
 {
     match parsed.check(body, scratch) {
         Ok(()) => None,

@@ -1,7 +1,7 @@
 //! Functions that are found by their names.
 
 ghost use Rattle.std.specs.Prelude.{IfOk, IfErr};
-ghost use Rattle.wrewrite_c.specs.Outcomes.{IsNamed, IsNamedIn, IsOfModule};
+ghost use Rattle.wrewrite_c.specs.Outcomes.{IsNamedFunction, IsNamedIn, IsOfModule};
 
 use crate::outcome::{Named, Stop};
 use crate::reading::read;
@@ -11,7 +11,7 @@ use wasm_module::ParsedModule;
 
 /// The function with a body among those with a name.
 fn named(parsed: &ParsedModule<'_>, found: Found) -> Named
-    ensures { IsNamed parsed.now result }
+    ensures { IsNamedFunction parsed.now result }
 {
     match found {
         Found::One(index) if parsed.has_body(index) => Named::One(index),
@@ -22,7 +22,7 @@ fn named(parsed: &ParsedModule<'_>, found: Found) -> Named
 
 /// The function of a module that was read with this name.
 fn find_in(alloc: Global, parsed: &ParsedModule<'_>, name: &[u8]) -> Result<Named, Stop>
-    ensures found { IfOk result (IsNamed parsed.now) }
+    ensures found { IfOk result (IsNamedFunction parsed.now) }
     ensures stops { IfErr result IsOfModule }
 {
     let Ok(name) = str::from_utf8(name) else {

@@ -6,7 +6,7 @@ ghost use Rattle.module_tools.specs.FunctionChanges.{Snips};
 ghost use Rattle.wasm_sections.specs.Omissions.{OmitsNothing};
 ghost use Rattle.wasm_module.specs.RewrittenCode.{IsRewritten, IsChanged, keeps_locals};
 ghost use Rattle.wasm_module.specs.WrittenModules.{new_contents_in, IsWrittenModule};
-ghost use Rattle.wrewrite_c.specs.Made.{IsMadeFrom, IsMadeOf, IsSnippedOf, HasFunctions, Adds};
+ghost use Rattle.wrewrite_c.specs.Made.{IsMadeFrom, IsMadeOf, IsSnippedOf, HasFunctions, AddsIndex};
 ghost use Rattle.wrewrite_c.specs.Outcomes.{IsOfModule, IsMissing, IsMissingIn, LacksFunction};
 
 use crate::made::Made;
@@ -133,7 +133,7 @@ fn add_function(
     index: usize,
     functions: &mut IdHashSet<FunctionId>,
 ) -> Result<(), Stop>
-    ensures added { OnOk result (Adds index functions.old functions.new) }
+    ensures added { OnOk result (AddsIndex index functions.old functions.new) }
     ensures stops { IfErr result (IsMissing parsed.now index) }
 {
     if !parsed.has_body(index) {

@@ -13,7 +13,7 @@ use Rattle.wasm_body.specs.Control.{end_operation}
 use Rattle.wasm_body.specs.Translation.{at_location}
 use Rattle.wasm_body.specs.InstructionTable.{legacy_clause}
 use Rattle.wasm_body.specs.FunctionTree.{LegacyClause, handles, handles_all, delegates}
-use Rattle.wasm_body.specs.FlatText.{TextOperation, is_empty, are_handlers, are_lawful, try_closers}
+use Rattle.wasm_body.specs.FlatText.{TextOperation, has_no_clauses, are_handlers, are_lawful, try_closers}
 use Rattle.walrus_emit_state.specs.declared.closing.Closer.{Closer}
 use Rattle.walrus_emit_state.specs.declared.closing.SequenceScope.{SequenceScope}
 use Rattle.walrus_emit_state.specs.Emission.{Scope, scope_at, scopes_at}
@@ -186,7 +186,7 @@ remains b all left before x s t u closer next lawful split r a opens =
 -- ---- a handler that doesn't exist
 
 none_empty : (b : List InstrSeq) (before done : List LegacyCatch) (cs : List TextOperation) (e : EmitError)
-    → is_empty (map legacy_clause (before ++ done)) ≡ true → scopes_at b (handlers done) cs ≡ Err e → ⊥
+    → has_no_clauses (map legacy_clause (before ++ done)) ≡ true → scopes_at b (handlers done) cs ≡ Err e → ⊥
 none_empty b [] [] cs e h k = absurd (cc)
 none_empty b [] (x ∷ done) cs e h k = absurd (cc)
 none_empty b (y ∷ before) done cs e h k = absurd (cc)

@@ -13,8 +13,8 @@ use Rattle.wasm_body.specs.TreeOfFunction.{deeper, target_in}
 use Rattle.walrus_emit_state.specs.declared.closing.SequenceScope.{SequenceScope}
 use Rattle.walrus_emit_state.specs.declared.open_scopes.EnteredScope.{EnteredScope}
 use Rattle.walrus_emit_state.specs.TreeWriting.Closers.{places_of}
-use Rattle.walrus_emit_state.specs.TreeWriting.ScopeLists.{ScopeLists, Begins}
-use Rattle.walrus_emit_state.specs.TreeWriting.ScopeTables.{level_in, opened_in, AreKnown, IsTable, depth_in}
+use Rattle.walrus_emit_state.specs.TreeWriting.ScopeLists.{ScopeLists, BeginsScope}
+use Rattle.walrus_emit_state.specs.TreeWriting.ScopeTables.{level_in, opened_in, AreKnown, IsScopeTable, depth_in}
 
 -- ---- the target of a slot, from its level and the number of open sequences
 
@@ -71,7 +71,7 @@ flattened None = refl
 flattened (Some level) = refl
 
 pub depth_found : (levels : List (Option ℕ)) (coming : List SequenceScope) (es : List EnteredScope) (place level : ℕ)
-    → IsTable levels coming es → slice_index_or levels place None ≡ Some level
+    → IsScopeTable levels coming es → slice_index_or levels place None ≡ Some level
     → depth_in (places_of (opened_in es)) place ≡ in_32_bits (length es - level - 1)
 depth_found levels coming es place level h e =
     let around = places_of (opened_in es) in
@@ -82,7 +82,7 @@ depth_found levels coming es place level h e =
     ap (λ t. depth_of t >>= in_32_bits) is
 
 pub depth_missing : (levels : List (Option ℕ)) (coming : List SequenceScope) (es : List EnteredScope) (place : ℕ)
-    → IsTable levels coming es → slice_index_or levels place None ≡ None
+    → IsScopeTable levels coming es → slice_index_or levels place None ≡ None
     → depth_in (places_of (opened_in es)) place ≡ Err BranchOutside
 depth_missing levels coming es place h e =
     let around = places_of (opened_in es) in
@@ -102,7 +102,7 @@ pub begins : (levels new_levels : List (Option ℕ)) (coming new_coming : List S
     (entered new_entered : List EnteredScope) (e : EnteredScope) (old : ScopeLists)
     → record { count = length levels; coming = reverse coming; open_scopes = opened_in entered } ≡ old
     → length new_levels ≡ length levels → coming ≡ new_coming ++ e.scope ∷ [] → new_entered ≡ entered ++ e ∷ []
-    → Begins old (record { count = length new_levels; coming = reverse new_coming; open_scopes = opened_in new_entered })
+    → BeginsScope old (record { count = length new_levels; coming = reverse new_coming; open_scopes = opened_in new_entered })
 begins levels new_levels coming new_coming entered new_entered e old view many popped pushed =
     let next = reverse-append new_coming (e.scope ∷ []) in
     let more = opened_more entered e in record {

@@ -19,7 +19,7 @@ abbrev pub with_more : ScopeLists → List SequenceScope → ScopeLists
 with_more s more = record s { coming = more ++ s.coming }
 
 -- the next sequence is opened
-pub record Begins (old new : ScopeLists) : Type 0 where
+pub record BeginsScope (old new : ScopeLists) : Type 0 where
   pub scope : SequenceScope
   pub rest : List SequenceScope
   pub was_next : old.coming ≡ scope ∷ rest

@@ -31,7 +31,7 @@ AreKnown count [] = Unit {0}
 AreKnown count (s ∷ ss) = (s.place < count) × AreKnown count ss
 
 -- The table has the level of each slot, and each sequence that is to come exists.
-pub record IsTable (levels : List (Option ℕ)) (coming : List SequenceScope) (entered : List EnteredScope)
+pub record IsScopeTable (levels : List (Option ℕ)) (coming : List SequenceScope) (entered : List EnteredScope)
     : Type 0 where
   pub levels_are : (place : ℕ)
       → slice_index_or levels place None ≡ level_in (places_of (opened_in entered)) place

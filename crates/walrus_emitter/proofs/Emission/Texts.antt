@@ -11,7 +11,7 @@ use Rattle.walrus_ir.specs.declared.instr.Instr.TheVariants as instr
 use Rattle.walrus_ir.specs.declared.control.LegacyCatch.{LegacyCatch}
 use Rattle.walrus_ir.specs.declared.control.LegacyCatch.TheVariants.{Catch, CatchAll, Delegate}
 use Rattle.walrus_ir.specs.Tree.{Items, no_items, item, Sequences, no_sequences, sequence, Tree, alone}
-use Rattle.walrus_ir.specs.Unfolding.{SequenceAt, LocatedInstr, handlers, slots_in, AreItems, are_no_items, are_items, AreSequences, are_no_sequences, are_sequences}
+use Rattle.walrus_ir.specs.Unfolding.{SequenceAt, LocatedInstr, handlers, slots_in, AreTreeItems, are_no_items, are_items, AreSequences, are_no_sequences, are_sequences}
 use Rattle.walrus_ir.specs.Events.{WalkEvent, events, EndSequence, names, item_events, sequence_events}
 use Rattle.wasm_operators.specs.declared.types.BlockType.{BlockType}
 use Rattle.wasm_operators.specs.Operations.{RawOperation}
@@ -23,7 +23,7 @@ use Rattle.wasm_body.specs.Translation.{Located, at_location}
 use Rattle.wasm_body.specs.InstructionTable.{operation_of, legacy_clause, clauses_of_try}
 use Rattle.wasm_body.specs.FunctionTree.{Head, Instruction, last_location}
 use Rattle.wasm_body.specs.TreeOfFunction.{tree_of, head_of, instruction_in, items_in, sequences_in}
-use Rattle.wasm_body.specs.FlatText.{TextOperation, TextTranslation, then_by, closers, if_closers, try_closers, are_handlers, are_lawful, has_none, one_or_both, written_in_if, written_inside, written_items, written_sequences, first_type, opened, written, text, texts}
+use Rattle.wasm_body.specs.FlatText.{TextOperation, TextTranslation, then_by, closers, if_closers, try_closers, are_handlers, are_lawful, has_none, one_or_both, written_in_if, written_inside, written_items, written_sequences, first_type, opener_text, written, items_text, sequences_text}
 use Rattle.wasm_body.specs.Bytes.{Numbers, numbering, bytes_of, numbered_text}
 use Rattle.wasm_body.specs.Pairs.{pairs_from}
 use Rattle.walrus_emit_state.specs.Emission.{Scope, scopes_at, if_scopes, is_short, scopes_inside, first_type_at, Output, Emitter, slots_of, first_emitter, output_of, output_after, with_operator, emitter_after_all}
@@ -100,7 +100,7 @@ after_closing w (Some c) k = written w c.op c.location ∷ k
 abbrev closed_texts : TextTranslation ℕ BlockType → List Closing → Sequences Head Instruction → List Written → List Written
 closed_texts w cs no_sequences k = k
 closed_texts w [] (sequence h is r) k = k
-closed_texts w (c ∷ cs) (sequence h is r) k = text w is (after_closing w c (closed_texts w cs r k))
+closed_texts w (c ∷ cs) (sequence h is r) k = items_text w is (after_closing w c (closed_texts w cs r k))
 
 some_counted : (x : LocatedInstr) (xs : List LocatedInstr) → false ≡ (length (x ∷ xs) == 0)
 some_counted x xs = let e : (length (x ∷ xs) == 0) ≡ false = grind arith in sym e
@@ -111,18 +111,18 @@ module _ (balanced : InstrSeqType → Bool) (around : List ℕ) where
   those ss = written_sequences balanced (sequences_in around ss)
 
   texts_at_ends : (w : TextTranslation ℕ BlockType) (cs : List TextOperation) (ss : Sequences SequenceAt LocatedInstr) (k : List Written)
-      → texts w cs (those ss) k ≡ closed_texts w (at_ends cs ss) (those ss) k
+      → sequences_text w cs (those ss) k ≡ closed_texts w (at_ends cs ss) (those ss) k
   texts_at_ends w cs no_sequences k = refl
   texts_at_ends w [] (sequence h is r) k = refl
   texts_at_ends w (c ∷ cs) (sequence h is r) k =
-      ap (λ l. text w (written_items balanced (items_in (h.slot ∷ around) is)) (written w c h.seq.end ∷ l)) (texts_at_ends w cs r k)
+      ap (λ l. items_text w (written_items balanced (items_in (h.slot ∷ around) is)) (written w c h.seq.end ∷ l)) (texts_at_ends w cs r k)
 
   nothing_inside : (r : Role) → written_inside balanced r no_sequences ≡ no_sequences
   nothing_inside an_if = refl
   nothing_inside _ = refl
 
   -- the alternative of an `if` has no instruction in the tree if its sequence has none
-  none_counted : {b : List InstrSeq} {xs : List LocatedInstr} {is : Items SequenceAt LocatedInstr} → AreItems b xs is
+  none_counted : {b : List InstrSeq} {xs : List LocatedInstr} {is : Items SequenceAt LocatedInstr} → AreTreeItems b xs is
       → has_none (written_items balanced (items_in around is)) ≡ (length xs == 0)
   none_counted are_no_items = refl
   none_counted (are_items {x = x} {xs = xs} inside rest) = some_counted x xs
@@ -155,7 +155,7 @@ if_closings false l m = Some (at_location else_operation l) ∷ Some (at_locatio
 
 if_texts : (w : TextTranslation ℕ BlockType) (t : Bool) (h : Head) (is : Items Head Instruction) (g : Head) (js : Items Head Instruction) (k : List Written)
     → (t ≡ true → has_none js ≡ true)
-    → texts w (if_closers (one_or_both t h is g js no_sequences)) (one_or_both t h is g js no_sequences) k
+    → sequences_text w (if_closers (one_or_both t h is g js no_sequences)) (one_or_both t h is g js no_sequences) k
     ≡ closed_texts w (if_closings t h.end_location g.end_location) (sequence h is (sequence g js no_sequences)) k
 if_texts w false h is g js k none = refl
 if_texts w true h is g no_items k none = refl
@@ -214,7 +214,7 @@ record IsClosed (balanced : InstrSeqType → Bool) (b : List InstrSeq) (around :
   pub scopes : scopes_inside balanced b i ≡ Ok (scopes_in ss closings)
   pub closed : AreClosed ss closings
   pub same : (w : TextTranslation ℕ BlockType) (k : List Written)
-      → texts w (closers (role_of (operation_of i).opcode) (clauses_of_try i) (written_inside balanced (role_of (operation_of i).opcode) (those balanced around ss)))
+      → sequences_text w (closers (role_of (operation_of i).opcode) (clauses_of_try i) (written_inside balanced (role_of (operation_of i).opcode) (those balanced around ss)))
       (written_inside balanced (role_of (operation_of i).opcode) (those balanced around ss)) k
       ≡ closed_texts w closings (those balanced around ss) k
 
@@ -231,9 +231,9 @@ module _ (balanced : InstrSeqType → Bool) {b : List InstrSeq} where
   at_ends_closed : {ps : List ℕ} {ss : Sequences SequenceAt LocatedInstr} (around : List ℕ) (i : Instr) (cs : List TextOperation) → AreSequences b ps ss → AreClosed ss cs
       → scopes_inside balanced b i ≡ scopes_at b ps cs
       → ((w : TextTranslation ℕ BlockType) (k : List Written)
-      → texts w (closers (role_of (operation_of i).opcode) (clauses_of_try i) (written_inside balanced (role_of (operation_of i).opcode) (those balanced around ss)))
+      → sequences_text w (closers (role_of (operation_of i).opcode) (clauses_of_try i) (written_inside balanced (role_of (operation_of i).opcode) (those balanced around ss)))
       (written_inside balanced (role_of (operation_of i).opcode) (those balanced around ss)) k
-      ≡ texts w cs (those balanced around ss) k)
+      ≡ sequences_text w cs (those balanced around ss) k)
       → IsClosed balanced b around i ss
   at_ends_closed {ss = ss} around i cs s closed at same = record {
     closings = at_ends cs ss;
@@ -260,7 +260,7 @@ module _ (balanced : InstrSeqType → Bool) {b : List InstrSeq} where
             ∙ ap (λ (ss : List Scope). Ok ss) (if_scoped t x.consequent c is x.alternative a js));
         closed = if_closed t first is second js c.end a.end;
         same = λ w k.
-            ap (λ u. texts w (if_closers (one_or_both (balanced c.ty && u) (head_of c) is' (head_of a) js' no_sequences))
+            ap (λ u. sequences_text w (if_closers (one_or_both (balanced c.ty && u) (head_of c) is' (head_of a) js' no_sequences))
             (one_or_both (balanced c.ty && u) (head_of c) is' (head_of a) js' no_sequences) k) none
             ∙ if_texts w t (head_of c) is' (head_of a) js' k (λ h. none ∙ second_holds (balanced c.ty) (length a.instrs == 0) h);
       }
@@ -282,7 +282,7 @@ module _ (balanced : InstrSeqType → Bool) {b : List InstrSeq} where
         closings = [];
         scopes = refl;
         closed = tt;
-        same = λ w k. ap (λ ts. texts w (closers (role_of (operation_of i).opcode) (clauses_of_try i) ts) ts k) (nothing_inside balanced around (role_of (operation_of i).opcode));
+        same = λ w k. ap (λ ts. sequences_text w (closers (role_of (operation_of i).opcode) (clauses_of_try i) ts) ts k) (nothing_inside balanced around (role_of (operation_of i).opcode));
       })
 
 -- ---- one operator, and what comes after it
@@ -318,7 +318,7 @@ sequences_of s ss = written_sequences s.numbers.balanced (sequences_in (slots_of
 
 mutual
   pub items_written_out : {b : List InstrSeq} {xs : List LocatedInstr} {is : Items SequenceAt LocatedInstr} (s : Emitter) (es : List WalkEvent) (k : List Written) (go : Output → Result Emitter EmitError) →
-      s.sequences ≡ b → AreItems b xs is → EventsWrite s es (outputs s k go) → EventsWrite s (item_events is es) (outputs s (text (writing s) (items_of s is) k) go)
+      s.sequences ≡ b → AreTreeItems b xs is → EventsWrite s es (outputs s k go) → EventsWrite s (item_events is es) (outputs s (items_text (writing s) (items_of s is) k) go)
   items_written_out s es k go q are_no_items h o = h o
   items_written_out {b = b} s es k go q (are_items {x = x} {inside = ss} {rest = is} inside rest) h o =
       let around = slots_of s.open_scopes in
@@ -326,13 +326,13 @@ mutual
       let ts = written_inside s.numbers.balanced role (sequences_of s ss) in
       let found : first_type_at s.sequences (slots_in x.0) ≡ Ok (first_type ts) =
       ap (λ c. first_type_at c (slots_in x.0)) q ∙ (type_found around inside ∙ ap Ok (sym (type_written s.numbers.balanced role (sequences_in around ss)))) in
-      let own = opened (writing s) (instruction_in around x) (first_type ts) in
+      let own = opener_text (writing s) (instruction_in around x) (first_type ts) in
       let following = λ (op : Located RawOperation) (scopes : List Scope). with_operator (record s { coming = scopes ++ s.coming; output = o }) op in
       let scopes = scopes_inside s.numbers.balanced s.sequences x.0 in
       let later = names x.0 ++ sequence_events ss (item_events is es) in
-      let after = text (writing s) (items_of s is) k in
-      ap (λ r. (r >>= λ type. opened (writing s) (instruction_in around x) type >>= λ op. scopes >>= λ cs. Ok (following op cs)) >>= λ t. emitter_after_all t later) found
-      ∙ event_written own scopes following (λ t. emitter_after_all t later) (λ op. outputs s (texts (writing s) (closers role (clauses_of_try x.0) ts) ts after) go (output_after s.has_map s.base o op))
+      let after = items_text (writing s) (items_of s is) k in
+      ap (λ r. (r >>= λ type. opener_text (writing s) (instruction_in around x) type >>= λ op. scopes >>= λ cs. Ok (following op cs)) >>= λ t. emitter_after_all t later) found
+      ∙ event_written own scopes following (λ t. emitter_after_all t later) (λ op. outputs s (sequences_text (writing s) (closers role (clauses_of_try x.0) ts) ts after) go (output_after s.has_map s.base o op))
       (λ op e.
       let c = is_closed s.numbers.balanced around x.0 inside (lawful_of (are_lawful (clauses_of_try x.0)) _ op e) in (
         scopes_in ss c.closings,
@@ -422,7 +422,7 @@ tree_written_out {b = b} {start = start} to base m seq t e h =
     let seq_is : Some t.head.seq ≡ Some seq = sym top.in_arena ∙ e in
     let same : t.head.seq ≡ seq = cc seq_is in
     let s = last_emitter b to base m nothing in
-    let rs = texts (writing s) (end_operation ∷ []) (sequences_of s (alone t)) [] in
+    let rs = sequences_text (writing s) (end_operation ∷ []) (sequences_of s (alone t)) [] in
     ap (λ q. emitter_after_all (first_emitter b to base m (scope start end_operation q.end)) (events t)) (sym same)
     ∙ ap (λ p. emitter_after_all (first_emitter b to base m (scope p end_operation t.head.seq.end)) (events t)) (sym top.place)
     ∙ sequences_written_out s (Some (at_location end_operation t.head.seq.end) ∷ []) [] [] (λ o. Ok (with_output s o)) refl h tt (λ o. refl) nothing

@@ -12,7 +12,7 @@ use Rattle.wasm_operators.specs.declared.types.BlockType.TheVariants.{Empty}
 use Rattle.wasm_operators.specs.Operations.{block, RawOperation, operation}
 use Rattle.wasm_operators.specs.Shortest.{short_number, short_unsigned}
 use Rattle.wasm_body.specs.Bytes.{Numbers, numbering}
-use Rattle.wasm_body.specs.FlatText.{then_by, typed, are_lawful}
+use Rattle.wasm_body.specs.FlatText.{then_by, with_block_type, are_lawful}
 use Rattle.wasm_body.specs.InstructionTable.{PlacedOperation, operation_of, block_immediate, clauses_of_try}
 use Rattle.wasm_body.specs.Translation.{translate}
 use Rattle.wasm_body.specs.TreeOfFunction.{with_targets}
@@ -30,7 +30,7 @@ opener byte = operation (Byte byte) (block Empty ∷ [])
 
 numbered_opener : (to : Numbers) (around : List ℕ) (i : Instr) (byte : ℕ) → operation_of i ≡ operation (Byte byte) (block_immediate ∷ [])
     → numbered_operator to around (Simple None) i ≡ Ok (opener byte)
-numbered_opener to around i byte row = ap (λ (o : PlacedOperation). translate (typed (then_by (numbering to)) (Simple None)) (with_targets around o)) row
+numbered_opener to around i byte row = ap (λ (o : PlacedOperation). translate (with_block_type (then_by (numbering to)) (Simple None)) (with_targets around o)) row
 
 no_type : short_number 64 ≡ 64 ∷ []
 unfolding short_unsigned

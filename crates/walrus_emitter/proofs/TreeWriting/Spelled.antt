@@ -20,13 +20,13 @@ use Rattle.wasm_body.specs.declared.error.EmitError.{EmitError}
 use Rattle.wasm_body.specs.declared.error.EmitError.TheVariants.{TooLarge, Index}
 use Rattle.wasm_body.specs.declared.error.IndexError.TheVariants.{Unnumbered}
 use Rattle.wasm_body.specs.Bytes.{Numbers, numbering, in_32_bits}
-use Rattle.wasm_body.specs.FlatText.{exponent_of, then_by, typed}
+use Rattle.wasm_body.specs.FlatText.{exponent_of, then_by, with_block_type}
 use Rattle.wasm_body.specs.InstructionTable.{PlacedOperation, access_at, operation_of}
 use Rattle.wasm_body.specs.Translation.{translate}
 use Rattle.wasm_body.specs.TreeOfFunction.{with_targets}
 use Rattle.walrus_maps.specs.declared.ids_to_indices.IdsToIndices.{IdsToIndices}
 use Rattle.walrus_maps.specs.IndexMaps.{number_of}
-use Rattle.walrus_numbering.specs.NumberMaps.{fitting, numbers_by}
+use Rattle.walrus_numbering.specs.NumberMaps.{fitting_number, numbers_by}
 use Rattle.walrus_emit_state.specs.Emission.{emitter_after}
 use Rattle.walrus_emit_state.specs.TreeWriting.Closers.{places_of}
 use Rattle.walrus_emit_state.specs.TreeWriting.Drafts.{Drafted, with_bytes}
@@ -45,7 +45,7 @@ in_range n fits = ap (λ b. unless b TooLarge >>= λ _. Ok n) (lt-ltb n (2 ^ 32)
 pub numbered : (types : List ModuleType) (ids : IdsToIndices) (locals : List (ℕ × ℕ)) (space : Space) (id n : ℕ) → number_of ids space id ≡ Ok n → n < 2 ^ 32
     → (numbers_by types ids locals).number_of space id ≡ Ok n
 numbered types ids locals space id n found fits =
-    ap (λ r. with_fault Index (r >>= fitting (Unnumbered space))) found
+    ap (λ r. with_fault Index (r >>= fitting_number (Unnumbered space))) found
     ∙ ap (λ b. with_fault Index (unless b (Unnumbered space) >>= λ _. Ok n)) (lt-ltb n (2 ^ 32) fits)
 
 -- ---- the bytes of an instruction
@@ -58,7 +58,7 @@ pub record IsSpelled (to : Numbers) (around : List ℕ) (i : Instr) (bytes : Lis
 
 -- the operator of a row of the table
 abbrev numbered_row : Numbers → List ℕ → PlacedOperation → Result RawOperation EmitError
-numbered_row to around o = translate (typed (then_by (numbering to)) (Simple None)) (with_targets around o)
+numbered_row to around o = translate (with_block_type (then_by (numbering to)) (Simple None)) (with_targets around o)
 
 -- an opcode with one immediate
 abbrev with_one : ℕ → Result RawImmediate EmitError → Result RawOperation EmitError

@@ -17,7 +17,7 @@ use Rattle.wasm_numbers.specs.Results.{◌>>=◌}
 use Rattle.wasm_body.specs.Translation.{Located, at_location}
 use Rattle.wasm_body.specs.InstructionTable.{clauses_of_try}
 use Rattle.wasm_body.specs.TreeOfFunction.{instruction_in}
-use Rattle.wasm_body.specs.FlatText.{are_lawful, then_by, opened}
+use Rattle.wasm_body.specs.FlatText.{are_lawful, then_by, opener_text}
 use Rattle.wasm_body.specs.Bytes.{Numbers, numbering}
 use Rattle.walrus_emit_state.specs.declared.closing.SequenceScope.{SequenceScope}
 use Rattle.walrus_emit_state.specs.Emission.{Scope, Emitter, slots_of, closers_in, scopes_at, scopes_inside, first_type_at, with_operator, emitter_after}
@@ -40,7 +40,7 @@ own s i l type lawful =
     if lawful then (numbered_operator s.numbers (slots_of s.open_scopes) type i >>= λ x. Ok (at_location x l)) else Err BadClauses
 
 abbrev with_type : Emitter → Instr → ℕ → Result InstrSeqType EmitError → Result Emitter EmitError
-with_type s i l r = r >>= λ type. with_own s i (opened (then_by (numbering s.numbers)) (instruction_in (slots_of s.open_scopes) (i, l)) type)
+with_type s i l r = r >>= λ type. with_own s i (opener_text (then_by (numbering s.numbers)) (instruction_in (slots_of s.open_scopes) (i, l)) type)
 
 -- an instruction whose first sequence has this type
 abbrev Begins : Emitter → Instr → ℕ → Result Emitter EmitError → Type 0

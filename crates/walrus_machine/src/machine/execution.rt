@@ -5,7 +5,7 @@ ghost use Rattle.wasm_body.specs.Places.{run_by_place};
 ghost use Rattle.wasm_body.specs.Control.{control_of};
 ghost use Rattle.walrus_machine.specs.NamedOperators.{named_operation};
 ghost use Rattle.walrus_machine.specs.Runs.{outcome_of, ending_of, run_of};
-ghost use Rattle.walrus_machine.specs.Tables.{place_at};
+ghost use Rattle.walrus_machine.specs.Tables.{place_from};
 ghost use Rattle.walrus_machine.specs.Tracing.{continued_run, EndsTurnAs};
 
 use crate::machine::operator::controls;
@@ -29,7 +29,7 @@ impl<'a> State<'a> {
     /// as many as operators from the place on, since only a branch to a loop goes back.
     fn turn(&mut self, table: &Table<'a>, from: usize) -> Result<TurnEnd, AllocError>
         ensures { IfOk result (λ turn_end.
-            EndsTurnAs table.now (place_at table.now from) self.old turn_end self.new) }
+            EndsTurnAs table.now (place_from table.now from) self.old turn_end self.new) }
     {
         let mut place = from;
         let mut left = table.len().saturating_sub(from);
@@ -50,7 +50,7 @@ impl<'a> State<'a> {
     /// The run from the first operator on, with this many turns.
     fn run(&mut self, table: &Table<'a>, turns: u64) -> Result<Ending, AllocError>
         ensures { IfOk result (λ ending.
-            continued_run table.now self.old (M.bounded_run length turns (place_at table.now 0))
+            continued_run table.now self.old (M.bounded_run length turns (place_from table.now 0))
             ≡ continued_run table.now self.new (λ _ _. M.ends (ending_of ending))) }
     {
         let mut place: usize = 0;

@@ -192,7 +192,7 @@ impl NamedImmediates {
 
     /// The clauses of a `try_table`, or none if it is another operator.
     fn clauses(&self) -> &[NamedCatch]
-        ensures { map clause_meaning result.now ≡ C.catches (named_immediates self.now) }
+        ensures { map clause_meaning result.now ≡ C.catch_list (named_immediates self.now) }
     {
         match self {
             NamedImmediates::Clauses(_, clauses) => clauses,

@@ -3,7 +3,7 @@ ghost use Rattle.std.specs.Prelude.{◌≡◌, ◌+◌, List, map};
 ghost use Rattle.wasm_body.specs.Control.{Control as Meaning};
 ghost use Rattle.wasm_body.specs.Machine as M;
 ghost use Rattle.walrus_machine.specs.Controls.{clause_meaning};
-ghost use Rattle.walrus_machine.specs.Tables.{place_at};
+ghost use Rattle.walrus_machine.specs.Tables.{place_from};
 ghost use Rattle.walrus_machine.specs.Tracing.{label_of, response_of};
 
 use crate::machine::control::{Construct, Control};
@@ -39,7 +39,7 @@ fn jump(clauses: &[NamedCatch], tags: &BTreeSet<TagId>) -> Response
 /// clause that catches it is entered; `delegate` passes it on.
 fn catch(table: &Table<'_>, opener: usize, tags: &BTreeSet<TagId>) -> Response
     ensures { response_of table.now result ≡ M.try_responds tags.now.keys
-        (M.seek (M.catches tags.now.keys) 0 0 (place_at table.now (opener + 1))) }
+        (M.seek (M.catches tags.now.keys) 0 0 (place_from table.now (opener + 1))) }
 {
     let found = table.seek(Sought::Clause(tags), opener);
     let Some(control) = table.control(found.position) else {

@@ -4,7 +4,7 @@ ghost use Rattle.std.specs.Prelude.{IfOk, IfNone, IfSome, OnSome};
 ghost use Rattle.wasm_body.specs.Control.{Control as Meaning};
 ghost use Rattle.wasm_body.specs.Machine as M;
 ghost use Rattle.walrus_machine.specs.Runs.{outcome_of};
-ghost use Rattle.walrus_machine.specs.Tracing.{label_of, opens, caught_in, Does, Finds, ContinuesAs};
+ghost use Rattle.walrus_machine.specs.Tracing.{label_of, machine_labels, caught_in, Does, Finds, ContinuesAs};
 
 use crate::machine::control::Construct;
 use crate::machine::label::{Label, Response};
@@ -164,7 +164,7 @@ impl<'a> State<'a> {
     /// The tags that the handler of a label caught; none if the label isn't that of a handler.
     pub fn caught_at(&self, n: u32) -> Option<&'a BTreeSet<TagId>>
         ensures { (cs : List Meaning)
-            → M.caught_at (opens cs self.now.labels.items) n ≡ caught_in result }
+            → M.caught_at (machine_labels cs self.now.labels.items) n ≡ caught_in result }
     {
         let depth = n as usize;
         if depth < self.labels.len() {

@@ -3,8 +3,8 @@ ghost use Rattle.std.specs.Prelude.{◌≡◌, ◌+◌, ◌<◌, ◌^◌, ◌∷
 ghost use Rattle.wasm_body.specs.Control as C;
 ghost use Rattle.wasm_body.specs.Machine as M;
 ghost use Rattle.walrus_machine.specs.Controls.{action_meaning, construct_meaning, control_meaning};
-ghost use Rattle.walrus_machine.specs.Tables.{place_at};
-ghost use Rattle.walrus_machine.specs.Tracing.{opened, Does, ContinuesAs, Steps};
+ghost use Rattle.walrus_machine.specs.Tables.{place_from};
+ghost use Rattle.walrus_machine.specs.Tracing.{opened_label, Does, ContinuesAs, StepsAt};
 
 use crate::machine::control::{Action, Construct, Control};
 use crate::machine::label::Label;
@@ -19,7 +19,7 @@ impl<'a> State<'a> {
     fn plain(&mut self, table: &Table<'_>, position: usize) -> Result<Next, AllocError>
         requires { position + 1 < 2 ^ 64 }
         ensures { IfOk result (λ next.
-            Steps table.now (C.Does C.Plain) position self.old next self.new) }
+            StepsAt table.now (C.Does C.Plain) position self.old next self.new) }
     {
         let Some(outcome) = self.next_outcome() else {
             return Ok(Next::Finished(Ending::OutcomesOut));
@@ -45,7 +45,7 @@ impl<'a> State<'a> {
     /// A `throw`, which takes the outcome `Raise` with its tag.
     fn throw(&mut self, table: &Table<'_>, position: usize, tag: TagId) -> Result<Next, AllocError>
         ensures { IfOk result (λ next.
-            Steps table.now (C.Does (C.Throw tag)) position self.old next self.new) }
+            StepsAt table.now (C.Does (C.Throw tag)) position self.old next self.new) }
     {
         let Some(outcome) = self.next_outcome() else {
             return Ok(Next::Finished(Ending::OutcomesOut));
@@ -68,7 +68,7 @@ impl<'a> State<'a> {
     /// A `throw_ref`, which takes the outcome `Raise` or `Trap`.
     fn throw_ref(&mut self, table: &Table<'_>, position: usize) -> Result<Next, AllocError>
         ensures { IfOk result (λ next.
-            Steps table.now (C.Does C.ThrowRef) position self.old next self.new) }
+            StepsAt table.now (C.Does C.ThrowRef) position self.old next self.new) }
     {
         let Some(outcome) = self.next_outcome() else {
             return Ok(Next::Finished(Ending::OutcomesOut));
@@ -92,7 +92,7 @@ impl<'a> State<'a> {
     /// A tail call, which takes the outcome `Go` or `Trap`.
     fn tail_call(&mut self, table: &Table<'_>, position: usize) -> Result<Next, AllocError>
         ensures { IfOk result (λ next.
-            Steps table.now (C.Does C.TailCall) position self.old next self.new) }
+            StepsAt table.now (C.Does C.TailCall) position self.old next self.new) }
     {
         let Some(outcome) = self.next_outcome() else {
             return Ok(Next::Finished(Ending::OutcomesOut));
@@ -121,7 +121,7 @@ impl<'a> State<'a> {
     ) -> Result<Next, AllocError>
         requires { position + 1 < 2 ^ 64 }
         ensures { IfOk result (λ next.
-            Steps table.now (C.Does (C.ConditionalBranch n)) position self.old next self.new) }
+            StepsAt table.now (C.Does (C.ConditionalBranch n)) position self.old next self.new) }
     {
         let Some(outcome) = self.next_outcome() else {
             return Ok(Next::Finished(Ending::OutcomesOut));
@@ -151,7 +151,7 @@ impl<'a> State<'a> {
         default: u32,
     ) -> Result<Next, AllocError>
         ensures { IfOk result (λ next.
-            Steps table.now (C.Does (C.TableBranch targets.now default)) position
+            StepsAt table.now (C.Does (C.TableBranch targets.now default)) position
             self.old next self.new) }
     {
         let Some(outcome) = self.next_outcome() else {
@@ -172,7 +172,7 @@ impl<'a> State<'a> {
     /// A `rethrow`, which throws an exception with the tags that the handler of a label caught.
     fn rethrow(&mut self, table: &Table<'_>, position: usize, n: u32) -> Result<Next, AllocError>
         ensures { IfOk result (λ next.
-            Steps table.now (C.Does (C.Rethrow n)) position self.old next self.new) }
+            StepsAt table.now (C.Does (C.Rethrow n)) position self.old next self.new) }
     {
         self.executed(position)?;
         match self.caught_at(n) {
@@ -192,7 +192,7 @@ impl<'a> State<'a> {
     ) -> Result<(), AllocError>
         requires { position + 1 < 2 ^ 64 }
         ensures { IfOk result (λ _. Does self.old self.new (λ cs k ls o.
-            k (opened cs (construct_meaning construct.now) position ∷ ls) o)) }
+            k (opened_label cs (construct_meaning construct.now) position ∷ ls) o)) }
     {
         let label = Label {
             opener: position,
@@ -208,8 +208,8 @@ impl<'a> State<'a> {
     fn other_way(&mut self, table: &Table<'_>, position: usize) -> Result<Next, AllocError>
         requires { position + 1 < 2 ^ 64 }
         ensures { IfOk result (λ next. ContinuesAs table.now (λ _ go ls o.
-            M.other_way go (opened table.now C.If position) ls o
-            (M.seek M.is_else 0 0 (place_at table.now (position + 1)))) self.old next self.new) }
+            M.other_way go (opened_label table.now C.If position) ls o
+            (M.seek M.is_else 0 0 (place_from table.now (position + 1)))) self.old next self.new) }
     {
         let found = table.seek(Sought::Else, position);
         let Some(control) = table.control(found.position) else {
@@ -229,7 +229,7 @@ impl<'a> State<'a> {
     fn enter_if(&mut self, table: &Table<'_>, position: usize) -> Result<Next, AllocError>
         requires { position + 1 < 2 ^ 64 }
         ensures { IfOk result (λ next.
-            Steps table.now (C.Opens C.If) position self.old next self.new) }
+            StepsAt table.now (C.Opens C.If) position self.old next self.new) }
     {
         let Some(outcome) = self.next_outcome() else {
             return Ok(Next::Finished(Ending::OutcomesOut));
@@ -259,7 +259,7 @@ impl<'a> State<'a> {
         position: usize,
     ) -> Result<Next, AllocError>
         requires { position + 1 < 2 ^ 64 }
-        ensures { IfOk result (λ next. Steps table.now (C.Opens (construct_meaning construct.now))
+        ensures { IfOk result (λ next. StepsAt table.now (C.Opens (construct_meaning construct.now))
             position self.old next self.new) }
     {
         match construct {
@@ -284,7 +284,7 @@ impl<'a> State<'a> {
     ) -> Result<Next, AllocError>
         requires { position + 1 < 2 ^ 64 }
         ensures { IfOk result (λ next.
-            Steps table.now (C.Does (action_meaning action.now)) position self.old next self.new) }
+            StepsAt table.now (C.Does (action_meaning action.now)) position self.old next self.new) }
     {
         match action {
             Action::Nop => Ok(Next::Continue(position + 1)),
@@ -345,7 +345,7 @@ impl<'a> State<'a> {
     ) -> Result<Next, AllocError>
         requires { position + 1 < 2 ^ 64 }
         ensures { IfOk result (λ next.
-            Steps table.now (control_meaning control.now) position self.old next self.new) }
+            StepsAt table.now (control_meaning control.now) position self.old next self.new) }
     {
         match control {
             Control::Does(action) => {

@@ -6,8 +6,8 @@ ghost use Rattle.wasm_body.specs.Control.{Control as Meaning};
 ghost use Rattle.wasm_body.specs.Machine.{found, has, after_closer};
 ghost use Rattle.wasm_body.specs.Machine as M;
 ghost use Rattle.walrus_machine.specs.Controls.{control_meaning};
-ghost use Rattle.walrus_machine.specs.Tables.{place_at, IsAhead, LevelsAhead, AreAhead};
-ghost use Rattle.walrus_machine.specs.Tables.{control_at, test_of, passes};
+ghost use Rattle.walrus_machine.specs.Tables.{place_from, IsAhead, LevelsAhead, AreAhead};
+ghost use Rattle.walrus_machine.specs.Tables.{control_at, test_of, passes_by};
 
 use crate::machine::control::Control;
 use std::alloc::{AllocError, Global};
@@ -113,7 +113,7 @@ impl Sought<'_> {
 
     /// Whether a search continues past this operator, which divides or closes the construct.
     fn passes(self, control: &Control<'_>) -> bool
-        ensures { result ≡ passes (test_of self.entry) (control_meaning control.now) }
+        ensures { result ≡ passes_by (test_of self.entry) (control_meaning control.now) }
     {
         control.is_part() && !self.is(control)
     }
@@ -192,8 +192,8 @@ impl<'a> Table<'a> {
     /// The next part, or else the closer, of the construct around the place after the operator at a
     /// position.
     fn part(&self, position: usize) -> usize
-        ensures { place_at self.now result
-            ≡ (M.seek (λ _. true) 0 0 (place_at self.now (position + 1))).rest }
+        ensures { place_from self.now result
+            ≡ (M.seek (λ _. true) 0 0 (place_from self.now (position + 1))).rest }
     {
         match self.ahead.get(position) {
             Some(ahead) => ahead.part,
@@ -203,7 +203,7 @@ impl<'a> Table<'a> {
 
     /// The place after the closer of the construct that is opened at a position.
     pub fn after_closer(&self, opener: usize) -> usize
-        ensures { place_at self.now result ≡ after_closer (place_at self.now (opener + 1)) }
+        ensures { place_from self.now result ≡ after_closer (place_from self.now (opener + 1)) }
     {
         match self.ahead.get(opener) {
             Some(ahead) => ahead.following,
@@ -213,8 +213,8 @@ impl<'a> Table<'a> {
 
     /// The first wanted part, or else the closer, of the construct that is opened at a position.
     pub fn seek(&self, sought: Sought<'_>, opener: usize) -> Found
-        ensures { M.seek (test_of sought.entry) 0 0 (place_at self.now (opener + 1))
-            ≡ found result.passed (place_at self.now result.position) }
+        ensures { M.seek (test_of sought.entry) 0 0 (place_from self.now (opener + 1))
+            ≡ found result.passed (place_from self.now result.position) }
     {
         let mut passed: usize = 0;
         let mut position = self.part(opener);

@@ -14,7 +14,7 @@ use Rattle.wasm_operators.specs.Immediates.{Table}
 use Rattle.wasm_operators.specs.Operations.{CatchClause, Immediate, branch_table, clauses, block, operation, RawOperation}
 use Rattle.wasm_body.specs.declared.error.EmitError.{EmitError}
 use Rattle.wasm_body.specs.Bytes.{Numbers, numbers_in_32_bits, numbered_block, numbering, in_32_bits}
-use Rattle.wasm_body.specs.FlatText.{exponent_of, then_by, typed}
+use Rattle.wasm_body.specs.FlatText.{exponent_of, then_by, with_block_type}
 use Rattle.wasm_body.specs.Naming.{block_types}
 use Rattle.wasm_body.specs.Translation.{Translation, translate, translate_clause, translate_immediates}
 use Rattle.wasm_body.specs.TreeOfFunction.{target_in, to_targets}
@@ -50,7 +50,7 @@ same_target f t q e = let same : t ≡ q = cc e in ap f (sym same)
 
 module _ (to : Numbers) (around : List ℕ) (type : InstrSeqType) where
   abbrev by_target : Translation Target (Unit {0}) ℕ BlockType EmitError
-  by_target = typed (then_by (numbering to)) type
+  by_target = with_block_type (then_by (numbering to)) type
 
   abbrev by_place : Translation ℕ (Unit {0}) ℕ BlockType EmitError
   by_place = from_places to around type

@@ -9,7 +9,7 @@ use Rattle.wasm_body.specs.declared.error.EmitError.{EmitError}
 use Rattle.wasm_body.specs.declared.error.EmitError.TheVariants.{Memory}
 use Rattle.wasm_body.specs.Translation.{translate}
 use Rattle.wasm_body.specs.Bytes.{Numbers, numbering}
-use Rattle.wasm_body.specs.FlatText.{then_by, typed}
+use Rattle.wasm_body.specs.FlatText.{then_by, with_block_type}
 use Rattle.wasm_body.specs.InstructionTable.{operation_of}
 use Rattle.wasm_body.specs.TreeOfFunction.{with_targets}
 use Rattle.walrus_emit_state.specs.declared.closing.Closer.{Closer}
@@ -20,7 +20,7 @@ use Rattle.walrus_emit_state.specs.TreeWriting.Closers.{closing}
 abbrev pub numbered_operator : Numbers → List ℕ → InstrSeqType → Instr
     → Result RawOperation EmitError
 numbered_operator to around type i =
-    translate (typed (then_by (numbering to)) type) (with_targets around (operation_of i))
+    translate (with_block_type (then_by (numbering to)) type) (with_targets around (operation_of i))
 
 -- what closes a sequence
 abbrev pub numbered_closer : Numbers → Closer → Result RawOperation EmitError

@@ -13,7 +13,7 @@ use Rattle.wasm_body.specs.declared.error.ParseError.TheVariants.{TypeMissing}
 use Rattle.wasm_numbers.specs.Results.{◌>>=◌, unless}
 use Rattle.wasm_body.specs.Control.{Role, a_block, a_loop, an_if, a_try, a_try_table, role_of, Control, Does, Opens, Else, Catch, CatchAll, End, Delegate, If, Try, control_by, control_of, with_control}
 use Rattle.wasm_body.specs.SourceTree.{Sequence, Empty, Single, Wrapped, IfThen, IfElse, TryCatch, TryDelegate, Clauses, Ended, Catches, CatchesAll, construct_of, Body}
-use Rattle.wasm_body.specs.Frames.{Frame, OfWrapper, Consequent, Alternative, TryBody, Handler, HandlerOfAll, Rule, Follows, FollowsIn, function_frames}
+use Rattle.wasm_body.specs.Frames.{SequenceFrame, OfWrapper, Consequent, Alternative, TryBody, Handler, HandlerOfAll, FrameRule, Follows, FollowsIn, function_frames}
 use Rattle.wasm_body.specs.Translation.{translate, translate_immediates}
 use Rattle.wasm_body.specs.Naming.{NamedOperation, Occurrence, Environment, naming, allowed, block_types, first_signature, block_signature, has_pick, has_types, named_in}
 use Rattle.wasm_body.specs.Parsing.Accepted.{HasSpelling, mark, IsNamed, Lawful}
@@ -49,7 +49,7 @@ typed_as m a_try_table o n h = one_signature m (block_types o.immediates) n (h r
 typed_as m _ o n h = none_left (block_types o.immediates) n
 
 -- the module has a type of a sequence for an opener
-opener_has_pick : (env : Environment) (frames : List (Frame Occurrence)) (r : Role) (is : List (Immediate ℕ Signature))
+opener_has_pick : (env : Environment) (frames : List (SequenceFrame Occurrence)) (r : Role) (is : List (Immediate ℕ Signature))
     → (o : NamedOperation) (u : Unit {0})
     → has_types env frames (control_by r is) o ≡ Ok u → opens r ≡ true → has_pick env (block_signature o) ≡ Ok u
 opener_has_pick env fs a_block is o u e h = e
@@ -67,7 +67,7 @@ test_passed false f u e = absurd cc
 abbrev pub HasKinds : Occurrence → Type 0
 HasKinds x = kinds_of x.spelt.opcode ≡ Some (map kind_of x.spelt.immediates)
 
-pub named_typed : (env : Environment) (frames : List (Frame Occurrence)) (o : RawOperation) (named : NamedOperation)
+pub named_typed : (env : Environment) (frames : List (SequenceFrame Occurrence)) (o : RawOperation) (named : NamedOperation)
     → kinds_of o.opcode ≡ Some (map kind_of o.immediates)
     → named_in env frames o ≡ Ok named → IsTypedAs (typing_of env) (role_of named.opcode) named
 named_typed env fs o named kinds e =
@@ -94,10 +94,10 @@ named_typed env fs o named kinds e =
 
 -- ---- consequences of a rule at each operator of a tree
 
-module _ {A : Type 0} (R : Rule A) (P : A → Control → Type 0)
-    (given : (frames : List (Frame A)) (a : A) (c : Control) → R frames (with_control a c) → P a c) where
+module _ {A : Type 0} (R : FrameRule A) (P : A → Control → Type 0)
+    (given : (frames : List (SequenceFrame A)) (a : A) (c : Control) → R frames (with_control a c) → P a c) where
   mutual
-    pub each_of_follows : (fs : List (Frame A)) (s : Sequence A) → Follows R fs s → Each P s
+    pub each_of_follows : (fs : List (SequenceFrame A)) (s : Sequence A) → Follows R fs s → Each P s
     each_of_follows fs Empty h = tt
     each_of_follows fs (Single a action r) h = (given fs a (Does action) h.0, each_of_follows fs r h.1)
     each_of_follows fs (Wrapped a w b e r) h =
@@ -117,7 +117,7 @@ module _ {A : Type 0} (R : Rule A) (P : A → Control → Type 0)
     each_of_follows fs (TryDelegate a b e n r) h =
         (given fs a (Opens Try) h.0, each_of_follows (TryBody a ∷ fs) b h.1, given (TryBody a ∷ fs) e (Delegate n) h.2, each_of_follows fs r h.3)
 
-    each_in_follows : (fs : List (Frame A)) (a : A) (f : Frame A) (cs : Clauses A) → FollowsIn R fs a f cs → EachIn P cs
+    each_in_follows : (fs : List (SequenceFrame A)) (a : A) (f : SequenceFrame A) (cs : Clauses A) → FollowsIn R fs a f cs → EachIn P cs
     each_in_follows fs a f (Ended e) h = given (f ∷ fs) e End h
     each_in_follows fs a f (Catches i t b cs) h =
         (given (f ∷ fs) i (Catch t) h.0, each_of_follows (Handler a ∷ fs) b h.1, each_in_follows fs a (Handler a) cs h.2)
@@ -128,7 +128,7 @@ module _ {A : Type 0} (R : Rule A) (P : A → Control → Type 0)
 
 -- the operator has its name in some place
 abbrev pub NamedSomewhere : Environment → Occurrence → Control → Type 0
-NamedSomewhere env x c = (frames : List (Frame Occurrence)) × (named_in env frames x.spelt ≡ Ok x.named)
+NamedSomewhere env x c = (frames : List (SequenceFrame Occurrence)) × (named_in env frames x.spelt ≡ Ok x.named)
 
 all_typed : (env : Environment) (xs : List Occurrence) → AllByRecursion HasKinds xs → AllMarked (NamedSomewhere env) (map mark xs)
     → AreTyped (typing_of env) (map name_at xs)

@@ -27,13 +27,13 @@ use Rattle.wasm_body.specs.declared.error.ParseError.TheVariants.{Index}
 use Rattle.wasm_body.specs.declared.error.ParseError.{ParseError}
 use Rattle.wasm_numbers.specs.Results.{◌>>=◌, infallible, with_fault}
 use Rattle.wasm_body.specs.Control.{Role, a_block, a_loop, an_if, a_try, a_try_table, a_catch, a_catch_all, a_delegate, an_else, an_end, role_of, Control, End, first_index, first_depth, control_by, control_of, with_control}
-use Rattle.wasm_body.specs.Frames.{Frame}
+use Rattle.wasm_body.specs.Frames.{SequenceFrame}
 use Rattle.wasm_body.specs.Translation.{Translation, translate, translate_immediate, translate_immediates, Located}
 use Rattle.wasm_body.specs.Naming.{Environment, NamedOperation, Occurrence, naming, id_at, name_block, block_types, first_signature, allowed, has_types, named_in}
 use Rattle.wasm_body.specs.FunctionTree.{Target, Depth}
 use Rattle.wasm_body.specs.NormalForm.{typing_of, construct_type, kept, kept_operation, name_at, named_body, body_tree}
-use Rattle.wasm_body.specs.FlatText.{TextTranslation, then_by, typed}
-use Rattle.wasm_body.specs.Bytes.{Numbers, in_32_bits, numbers_in_32_bits, numbered_block, numbering, with_numbers, numbered_text, bytes_of, tree_bytes}
+use Rattle.wasm_body.specs.FlatText.{TextTranslation, then_by, with_block_type}
+use Rattle.wasm_body.specs.Bytes.{Numbers, in_32_bits, numbers_in_32_bits, numbered_block, numbering, writing_numbers, numbered_text, bytes_of, tree_bytes}
 use Rattle.wasm_body.specs.SourceTree.{Body}
 use Rattle.wasm_body.specs.Parsing.Accepted.{mark, Lawful}
 use Rattle.wasm_body.proofs.Structure.Along.{AllMarked, each_of, each_mapped}
@@ -119,7 +119,7 @@ all_spelt [] text s = tt
 all_spelt (i ∷ is) text s = (spelt_fits i s.0 s.3, all_spelt is s.1 s.4)
 
 -- an operator has the same kinds of immediates after naming
-pub named_kinds : {A : Type 0} (env : Environment) (fs : List (Frame A)) (o : RawOperation) (named : NamedOperation) → translate (naming env fs) o ≡ Ok named
+pub named_kinds : {A : Type 0} (env : Environment) (fs : List (SequenceFrame A)) (o : RawOperation) (named : NamedOperation) → translate (naming env fs) o ≡ Ok named
     → kinds_of o.opcode ≡ Some (map kind_of o.immediates) → kinds_of named.opcode ≡ Some (map kind_in named.immediates)
 named_kinds env fs o named is kinds =
     let first = bound (translate_immediates (naming env fs) o.immediates) (λ js. Ok (operation o.opcode js)) named is in
@@ -142,13 +142,13 @@ pub record AreNumbered (Q : EmitError → Type 0) (env : Environment) (to : Numb
   pub blocks : (b : BlockType) (s : Signature) (t : InstrSeqType) → name_block env b ≡ Ok s → pick env.types s ≡ Some t → IfErr (numbered_block to t) Q
 
 -- the result of naming an operator in its place is its translation
-pub translated : (env : Environment) (fs : List (Frame Occurrence)) (o : RawOperation) (named : NamedOperation) → named_in env fs o ≡ Ok named → translate (naming env fs) o ≡ Ok named
+pub translated : (env : Environment) (fs : List (SequenceFrame Occurrence)) (o : RawOperation) (named : NamedOperation) → named_in env fs o ≡ Ok named → translate (naming env fs) o ≡ Ok named
 translated env fs o named e =
     let types : NamedOperation → Result (Unit {0}) ParseError = λ n. has_types env fs (control_of n) n in
     let was_allowed = bound (allowed fs (control_of o)) (λ u. translate (naming env fs) o >>= λ n. types n >>= λ v. Ok n) named e in
     let found = bound (translate (naming env fs) o) (λ n. types n >>= λ v. Ok n) named was_allowed.2 in
-    let typed = bound (types found.0) (λ v. Ok found.0) named found.2 in
-    let same : found.0 ≡ named = cc typed.2 in
+    let with_block_type = bound (types found.0) (λ v. Ok found.0) named found.2 in
+    let same : found.0 ≡ named = cc with_block_type.2 in
     found.1 ∙ ap Ok same
 
 module _ (Q : EmitError → Type 0) (env : Environment) (to : Numbers) (has : AreNumbered Q env to) where
@@ -175,7 +175,7 @@ module _ (Q : EmitError → Type 0) (env : Environment) (to : Numbers) (has : Ar
   same_target : (n : ℕ) (q : Target) → (let s : Result Target ⊥ = Ok (Depth n) in s) ≡ Ok q → writing.label q ≡ in_32_bits n
   same_target n q e = let same : Depth n ≡ q = cc e in ap writing.label (sym same)
 
-  written_lead : (t : InstrSeqType) → LeadAll (kept_raw env) (typed writing t) (renumbered t)
+  written_lead : (t : InstrSeqType) → LeadAll (kept_raw env) (with_block_type writing t) (renumbered t)
   written_lead t = record {
     indices = λ space n q e. same_index ((numbers_in_32_bits to).number_of space) (sure_number (id_at env space n)) q e;
     locals = λ n q e. same_index (numbers_in_32_bits to).local_number (sure_number (with_fault Index (env.local_of n))) q e;
@@ -187,11 +187,11 @@ module _ (Q : EmitError → Type 0) (env : Environment) (to : Numbers) (has : Ar
     counts = λ n u e. refl;
   }
 
-  its_faults : {A : Type 0} (fs : List (Frame A)) (t : InstrSeqType) → IfErr (numbered_block to t) Q → FaultsAre Q (naming env fs) (renumbered t)
-  its_faults fs t typed = record {
+  its_faults : {A : Type 0} (fs : List (SequenceFrame A)) (t : InstrSeqType) → IfErr (numbered_block to t) Q → FaultsAre Q (naming env fs) (renumbered t)
+  its_faults fs t with_block_type = record {
     indices = λ space n h. numbered space n (env.id_of space n) refl h;
     locals = λ n h. numbered_local n (env.local_of n) refl h;
-    blocks = λ b h. typed;
+    blocks = λ b h. with_block_type;
   }
     where
       numbered : (space : Space) (n : ℕ) (r : Result ℕ IndexError) → env.id_of space n ≡ r → IsOk (with_fault Index r) → IfErr ((numbers_in_32_bits to).number_of space (sure_number (id_at env space n))) Q
@@ -207,7 +207,7 @@ module _ (Q : EmitError → Type 0) (env : Environment) (to : Numbers) (has : Ar
   all_within f (x ∷ xs) h = (ok_no_fault Q (f x) h.0, all_within f xs h.1)
 
   -- an immediate that fits has no fault
-  others_within : {A : Type 0} (fs : List (Frame A)) (t : InstrSeqType) (i : RawImmediate) → Fits i → OthersWithin Q (naming env fs) (renumbered t) i
+  others_within : {A : Type 0} (fs : List (SequenceFrame A)) (t : InstrSeqType) (i : RawImmediate) → Fits i → OthersWithin Q (naming env fs) (renumbered t) i
   others_within fs t (label l) f = ok_no_fault Q (in_32_bits l) f
   others_within fs t (handler n) f = ok_no_fault Q (in_32_bits n) f
   others_within fs t (outer n) f = ok_no_fault Q (in_32_bits n) f
@@ -217,7 +217,7 @@ module _ (Q : EmitError → Type 0) (env : Environment) (to : Numbers) (has : Ar
   others_within fs t (cast c) f = ok_no_fault Q (in_32_bits c.label) f
   others_within fs t _ f = tt
 
-  all_others : {A : Type 0} (fs : List (Frame A)) (t : InstrSeqType) (is : List RawImmediate) → AllByRecursion Fits is → AllByRecursion (OthersWithin Q (naming env fs) (renumbered t)) is
+  all_others : {A : Type 0} (fs : List (SequenceFrame A)) (t : InstrSeqType) (is : List RawImmediate) → AllByRecursion Fits is → AllByRecursion (OthersWithin Q (naming env fs) (renumbered t)) is
   all_others fs t [] f = tt
   all_others fs t (i ∷ is) f = (others_within fs t i f.0, all_others fs t is f.1)
 
@@ -225,22 +225,22 @@ module _ (Q : EmitError → Type 0) (env : Environment) (to : Numbers) (has : Ar
   ok_of r x e = ap is_ok e
 
   -- the faults of writing an operator that was read and named are of Q
-  written_operation : {A : Type 0} (fs : List (Frame A)) (t : InstrSeqType) (o : RawOperation) (text : List ℕ) (named : NamedOperation) →
-      Spells o text → translate (naming env fs) o ≡ Ok named → IfErr (numbered_block to t) Q → IfErr (translate (typed writing t) (kept_operation named)) Q
+  written_operation : {A : Type 0} (fs : List (SequenceFrame A)) (t : InstrSeqType) (o : RawOperation) (text : List ℕ) (named : NamedOperation) →
+      Spells o text → translate (naming env fs) o ≡ Ok named → IfErr (numbered_block to t) Q → IfErr (translate (with_block_type writing t) (kept_operation named)) Q
   written_operation fs t o text named spelt is type =
       let kept = kept_of env fs o named is in
-      let lead = translate_leads (kept_raw env) (typed writing t) (renumbered t) o.immediates
-      (lead_all (kept_raw env) (typed writing t) (renumbered t) (written_lead t) o.immediates (all_of (Leads (kept_raw env).block (typed writing t).block (renumbered t).block) (λ b d h. refl) (block_types o.immediates)))
+      let lead = translate_leads (kept_raw env) (with_block_type writing t) (renumbered t) o.immediates
+      (lead_all (kept_raw env) (with_block_type writing t) (renumbered t) (written_lead t) o.immediates (all_of (Leads (kept_raw env).block (with_block_type writing t).block (renumbered t).block) (λ b d h. refl) (block_types o.immediates)))
       (kept_operation named).immediates kept.kept in
       let first = bound (translate_immediates (naming env fs) o.immediates) (λ js. Ok (record { opcode = o.opcode; immediates = js })) named is in
       let h = immediates_faults Q (naming env fs) (renumbered t) (its_faults fs t type) o.immediates
       (all_others fs t o.immediates (all_spelt o.immediates spelt.others spelt.immediates)) (ok_of (translate_immediates (naming env fs) o.immediates) first.0 first.1) in
-      last_within Q (translate_immediates (typed writing t) (kept_operation named).immediates) (λ js. record { opcode = named.opcode; immediates = js }) (subst (λ r. IfErr r Q) (sym lead) h)
+      last_within Q (translate_immediates (with_block_type writing t) (kept_operation named).immediates) (λ js. record { opcode = named.opcode; immediates = js }) (subst (λ r. IfErr r Q) (sym lead) h)
 
   -- ---- an operator of a body
 
   -- the type of the sequences in a construct is that of its block type, or that of none
-  type_within : (fs : List (Frame Occurrence)) (o : RawOperation) (named : NamedOperation) → translate (naming env fs) o ≡ Ok named → IfErr (numbered_block to (construct_type (typing_of env) named)) Q
+  type_within : (fs : List (SequenceFrame Occurrence)) (o : RawOperation) (named : NamedOperation) → translate (naming env fs) o ≡ Ok named → IfErr (numbered_block to (construct_type (typing_of env) named)) Q
   type_within fs o named is =
       let first = bound (translate_immediates (naming env fs) o.immediates) (λ js. Ok (record { opcode = o.opcode; immediates = js })) named is in
       let same : named ≡ record { opcode = o.opcode; immediates = first.0 } = cc first.2 in
@@ -256,21 +256,21 @@ module _ (Q : EmitError → Type 0) (env : Environment) (to : Numbers) (has : Ar
 
   -- the text of an operator's one immediate
   alone_within : (o : NamedOperation) (i : Immediate ℕ Signature) (k : Immediate Target (Unit {0})) → o.immediates ≡ i ∷ [] → infallible (translate_immediates kept (i ∷ [])) ≡ k ∷ [] →
-      IfErr (translate (typed writing (Simple None)) (kept_operation o)) Q → IfErr (translate_immediate (typed writing (Simple None)) k) Q
+      IfErr (translate (with_block_type writing (Simple None)) (kept_operation o)) Q → IfErr (translate_immediate (with_block_type writing (Simple None)) k) Q
   alone_within o i k e kept_so h =
-      let t = typed writing (Simple None) in
+      let t = with_block_type writing (Simple None) in
       let all = first_within Q (translate_immediates t (kept_operation o).immediates) (λ is. Ok (operation o.opcode is)) h in
       let alone : (kept_operation o).immediates ≡ k ∷ [] = ap (λ is. infallible (translate_immediates kept is)) e ∙ kept_so in
       first_within Q (translate_immediate t k) (λ j. Ok (j ∷ [])) (subst (λ is. IfErr (translate_immediates t is) Q) alone all)
 
-  tag_within : (o : NamedOperation) → map kind_in o.immediates ≡ an_index Tags ∷ [] → IfErr (translate (typed writing (Simple None)) (kept_operation o)) Q → IfErr (writing.index Tags (first_index o.immediates)) Q
+  tag_within : (o : NamedOperation) → map kind_in o.immediates ≡ an_index Tags ∷ [] → IfErr (translate (with_block_type writing (Simple None)) (kept_operation o)) Q → IfErr (writing.index Tags (first_index o.immediates)) Q
   tag_within o p h =
       let t = only_tag o.immediates p in
       let made : ℕ → Immediate ℕ BlockType = λ m. index Tags m in
       subst (λ is. IfErr (writing.index Tags (first_index is)) Q) (sym t.1)
       (first_within Q (writing.index Tags t.0) (λ m. Ok (made m)) (alone_within o (index Tags t.0) (index Tags t.0) t.1 refl h))
 
-  outer_within : (o : NamedOperation) → map kind_in o.immediates ≡ an_outer ∷ [] → IfErr (translate (typed writing (Simple None)) (kept_operation o)) Q → IfErr (writing.outer (first_depth o.immediates)) Q
+  outer_within : (o : NamedOperation) → map kind_in o.immediates ≡ an_outer ∷ [] → IfErr (translate (with_block_type writing (Simple None)) (kept_operation o)) Q → IfErr (writing.outer (first_depth o.immediates)) Q
   outer_within o p h =
       let d = only_outer o.immediates p in
       let made : ℕ → Immediate ℕ BlockType = λ m. outer m in
@@ -278,8 +278,8 @@ module _ (Q : EmitError → Type 0) (env : Environment) (to : Numbers) (has : Ar
       (first_within Q (writing.outer d.0) (λ m. Ok (made m)) (alone_within o (outer d.0) (outer d.0) d.1 refl h))
 
   by_role : (r : Role) (a : Located NamedOperation) → Needs r (map kind_in a.op.immediates) →
-      IfErr (translate (typed writing (Simple None)) (kept_operation a.op)) Q → IfErr (translate (typed writing (construct_type (typing_of env) a.op)) (kept_operation a.op)) Q →
-      Writes Q (with_numbers to) (typing_of env) a (control_by r a.op.immediates)
+      IfErr (translate (with_block_type writing (Simple None)) (kept_operation a.op)) Q → IfErr (translate (with_block_type writing (construct_type (typing_of env) a.op)) (kept_operation a.op)) Q →
+      Writes Q (writing_numbers to) (typing_of env) a (control_by r a.op.immediates)
   by_role a_block a p single opener = opener
   by_role a_loop a p single opener = opener
   by_role an_if a p single opener = opener
@@ -293,9 +293,9 @@ module _ (Q : EmitError → Type 0) (env : Environment) (to : Numbers) (has : Ar
   by_role _ a p single opener = single
 
   abbrev Written : Occurrence → Control → Type 0
-  Written x c = CanWrite Q (with_numbers to) (typing_of env) (name_at x) c
+  Written x c = CanWrite Q (writing_numbers to) (typing_of env) (name_at x) c
 
-  writes_occurrence : (x : Occurrence) (fs : List (Frame Occurrence)) → named_in env fs x.spelt ≡ Ok x.named → HasText x → Written x (control_of x.named)
+  writes_occurrence : (x : Occurrence) (fs : List (SequenceFrame Occurrence)) → named_in env fs x.spelt ≡ Ok x.named → HasText x → Written x (control_of x.named)
   writes_occurrence x fs is has_text =
       let spelt = has_text.1 in
       let named = translated env fs x.spelt x.named is in
@@ -308,7 +308,7 @@ module _ (Q : EmitError → Type 0) (env : Environment) (to : Numbers) (has : Ar
   -- ---- a body
 
   abbrev Somewhere : Occurrence → Control → Type 0
-  Somewhere x c = (fs : List (Frame Occurrence)) × (named_in env fs x.spelt ≡ Ok x.named)
+  Somewhere x c = (fs : List (SequenceFrame Occurrence)) × (named_in env fs x.spelt ≡ Ok x.named)
 
   all_written : (xs : List Occurrence) → AllByRecursion HasText xs → AllMarked Somewhere (map mark xs) → AllMarked Written (map mark xs)
   all_written [] t h = tt
@@ -319,7 +319,7 @@ module _ (Q : EmitError → Type 0) (env : Environment) (to : Numbers) (has : Ar
       let named = named_somewhere env xs b lawful in
       let marks = subst (AllMarked Written) lawful.is_body (all_written xs texts named) in
       let each = (each_of Written b.sequence (with_control b.close End ∷ []) marks).0 in
-      normal_text Q (with_numbers to) (typing_of env) (named_body b) (each_mapped (CanWrite Q (with_numbers to) (typing_of env)) name_at b.sequence each)
+      normal_text Q (writing_numbers to) (typing_of env) (named_body b) (each_mapped (CanWrite Q (writing_numbers to) (typing_of env)) name_at b.sequence each)
 
   -- The normal form of an accepted body has bytes, or a fault of Q.
   pub bytes_within : (xs : List Occurrence) (b : Body Occurrence) → AllByRecursion HasText xs → Lawful env xs b → IfErr (tree_bytes to (body_tree env b)) Q

@@ -14,13 +14,13 @@ use Rattle.wasm_body.specs.declared.error.IndexError.{IndexError}
 use Rattle.wasm_body.specs.declared.error.ParseError.TheVariants.{Index}
 use Rattle.wasm_body.specs.Control.{Role, a_block, a_loop, an_if, a_try, a_try_table, role_of, end_operation, Control}
 use Rattle.wasm_body.specs.SourceTree.{Sequence, Empty, Single, Wrapped, IfThen, IfElse, TryCatch, TryDelegate, Clauses, Ended, Catches, CatchesAll}
-use Rattle.wasm_body.specs.Frames.{Frame}
+use Rattle.wasm_body.specs.Frames.{SequenceFrame}
 use Rattle.wasm_body.specs.Translation.{Translation, translate, translate_immediate, translate_immediates, Located, at_location}
 use Rattle.wasm_body.specs.Naming.{Environment, NamedOperation, naming}
 use Rattle.wasm_body.specs.FunctionTree.{Head, LegacyClause, handles, handles_all, delegates, Instruction, FunctionTree}
-use Rattle.wasm_body.specs.NormalForm.{Typing, kept, kept_operation, Fate, Drops, Stays, Diverges, fate, with_fate, instruction, legacy_clauses, normal, handlers}
-use Rattle.wasm_body.specs.FlatText.{TextOperation, TextTranslation, has_none, one_or_both, written_in_if, written_inside, written_items, written_sequences, then_by, typed, are_lawful, try_closers, if_closers, closers, written, opened, first_type, text, texts}
-use Rattle.wasm_body.specs.LocalNumbers.{locals_among, locals_in, locals_inside, locals_of}
+use Rattle.wasm_body.specs.NormalForm.{Typing, kept, kept_operation, Fate, Drops, Stays, MakesUnreachable, fate, with_fate, instruction, legacy_clauses, normal, handler_sequences}
+use Rattle.wasm_body.specs.FlatText.{TextOperation, TextTranslation, has_none, one_or_both, written_in_if, written_inside, written_items, written_sequences, then_by, with_block_type, are_lawful, try_closers, if_closers, closers, written, opener_text, first_type, items_text, sequences_text}
+use Rattle.wasm_body.specs.LocalNumbers.{locals_among, locals_in_items, locals_inside, locals_of}
 use Rattle.wasm_body.specs.Bytes.{Numbers, in_32_bits, numbered_block, numbering, numbered_text, bytes_of, tree_bytes}
 use Rattle.wasm_body.proofs.Translation.Steps.{bound, after_two, ok-infallible}
 use Rattle.wasm_body.proofs.Translation.Kinds.{kind_kept, through, at_once}
@@ -80,35 +80,35 @@ module _ {M C : Type 0} (w : TextTranslation M C) (g : ℕ → Result ℕ EmitEr
   abbrev ResultList : Type 0
   ResultList = List (Result (Located (Operation M C)) EmitError)
 
-  same_opened : (i : Instruction) (t : InstrSeqType) → Agree w g (locals_among i.op.immediates) → opened w i t ≡ opened (renumbered w g) i t
+  same_opened : (i : Instruction) (t : InstrSeqType) → Agree w g (locals_among i.op.immediates) → opener_text w i t ≡ opener_text (renumbered w g) i t
   same_opened i t h =
-      ap (λ r. if are_lawful i.clauses then (r >>= λ x. Ok (at_location x i.location)) else Err BadClauses) (same_operator (typed w t) g i.op h)
+      ap (λ r. if are_lawful i.clauses then (r >>= λ x. Ok (at_location x i.location)) else Err BadClauses) (same_operator (with_block_type w t) g i.op h)
 
   same_written : (c : TextOperation) (l : ℕ) → NamesNone c → written w c l ≡ written (renumbered w g) c l
   same_written c l h = ap (λ r. r >>= λ x. Ok (at_location x l)) (same_operator w g c (subst (Agree w g) (sym h) tt))
 
   mutual
-    same_text : (is : Items Head Instruction) (k : ResultList) → Agree w g (locals_in is) → text w is k ≡ text (renumbered w g) is k
+    same_text : (is : Items Head Instruction) (k : ResultList) → Agree w g (locals_in_items is) → items_text w is k ≡ items_text (renumbered w g) is k
     same_text no_items k h = refl
     same_text (item i ss r) k h =
         let P : ℕ → Type 0 = λ n. w.local n ≡ g n in
-        let own = split P (locals_among i.op.immediates) (locals_inside ss ++ locals_in r) h in
-        let inside = split P (locals_inside ss) (locals_in r) own.1 in
+        let own = split P (locals_among i.op.immediates) (locals_inside ss ++ locals_in_items r) h in
+        let inside = split P (locals_inside ss) (locals_in_items r) own.1 in
         let cs = closers (role_of i.op.opcode) i.clauses ss in
-        ap (λ x. x ∷ texts w cs ss (text w r k)) (same_opened i (first_type ss) own.0)
-        ∙ ap (λ l. opened (renumbered w g) i (first_type ss) ∷ l)
-        (ap (texts w cs ss) (same_text r k inside.1) ∙ same_texts cs ss (text (renumbered w g) r k) (names_none (role_of i.op.opcode) i.clauses ss) inside.0)
+        ap (λ x. x ∷ sequences_text w cs ss (items_text w r k)) (same_opened i (first_type ss) own.0)
+        ∙ ap (λ l. opener_text (renumbered w g) i (first_type ss) ∷ l)
+        (ap (sequences_text w cs ss) (same_text r k inside.1) ∙ same_texts cs ss (items_text (renumbered w g) r k) (names_none (role_of i.op.opcode) i.clauses ss) inside.0)
 
     same_texts : (cs : List TextOperation) (ss : Sequences Head Instruction) (k : ResultList) → AllByRecursion NamesNone cs → Agree w g (locals_inside ss)
-        → texts w cs ss k ≡ texts (renumbered w g) cs ss k
+        → sequences_text w cs ss k ≡ sequences_text (renumbered w g) cs ss k
     same_texts [] no_sequences k n h = refl
     same_texts [] (sequence d is r) k n h = refl
     same_texts (c ∷ cs) no_sequences k n h = refl
     same_texts (c ∷ cs) (sequence d is r) k n h =
-        let each = split (λ n. w.local n ≡ g n) (locals_in is) (locals_inside r) h in
-        ap (text w is)
-        (ap (λ x. x ∷ texts w cs r k) (same_written c d.end_location n.0) ∙ ap (λ l. written (renumbered w g) c d.end_location ∷ l) (same_texts cs r k n.1 each.1))
-        ∙ same_text is (written (renumbered w g) c d.end_location ∷ texts (renumbered w g) cs r k) each.0
+        let each = split (λ n. w.local n ≡ g n) (locals_in_items is) (locals_inside r) h in
+        ap (items_text w is)
+        (ap (λ x. x ∷ sequences_text w cs r k) (same_written c d.end_location n.0) ∙ ap (λ l. written (renumbered w g) c d.end_location ∷ l) (same_texts cs r k n.1 each.1))
+        ∙ same_text is (written (renumbered w g) c d.end_location ∷ sequences_text (renumbered w g) cs r k) each.0
 
 -- ---- the tree as it is written names the same locals
 
@@ -134,10 +134,10 @@ module _ (balanced : InstrSeqType → Bool) where
   inside_locals _ ss = refl
 
   mutual
-    written_locals : (is : Items Head Instruction) → locals_in (written_items balanced is) ≡ locals_in is
+    written_locals : (is : Items Head Instruction) → locals_in_items (written_items balanced is) ≡ locals_in_items is
     written_locals no_items = refl
     written_locals (item i ss r) =
-        ap (λ ls. locals_among i.op.immediates ++ (ls ++ locals_in (written_items balanced r)))
+        ap (λ ls. locals_among i.op.immediates ++ (ls ++ locals_in_items (written_items balanced r)))
         (inside_locals (role_of i.op.opcode) (written_sequences balanced ss) ∙ written_each_locals ss)
         ∙ ap (λ ls. locals_among i.op.immediates ++ (locals_inside ss ++ ls)) (written_locals r)
 
@@ -145,7 +145,7 @@ module _ (balanced : InstrSeqType → Bool) where
     written_each_locals no_sequences = refl
     written_each_locals (sequence h is r) =
         ap (λ ls. ls ++ locals_inside (written_sequences balanced r)) (written_locals is)
-        ∙ ap (λ ls. locals_in is ++ ls) (written_each_locals r)
+        ∙ ap (λ ls. locals_in_items is ++ ls) (written_each_locals r)
 
 -- ---- the bytes of a tree
 
@@ -175,8 +175,8 @@ module _ (to : Numbers) (g : ℕ → Result ℕ EmitError) where
       let is = written_items to.balanced t.items in
       let agree = subst (Agree w fitted) (sym (written_locals to.balanced t.items)) (fit_alike (locals_of t) h) in
       let all = same_text w fitted is (written w end_operation t.head.end_location ∷ []) agree in
-      let whole : numbered_text to t ≡ gather (text (renumbered w fitted) is (written (renumbered w fitted) end_operation t.head.end_location ∷ [])) = ap gather all in
-      ap (λ r. r >>= λ xs. Ok (bytes_of xs)) (whole ∙ ap (λ v. gather (text v is (written v end_operation t.head.end_location ∷ []))) writings)
+      let whole : numbered_text to t ≡ gather (items_text (renumbered w fitted) is (written (renumbered w fitted) end_operation t.head.end_location ∷ [])) = ap gather all in
+      ap (λ r. r >>= λ xs. Ok (bytes_of xs)) (whole ∙ ap (λ v. gather (items_text v is (written v end_operation t.head.end_location ∷ []))) writings)
 
 -- ---- the locals of a normal form
 
@@ -196,35 +196,35 @@ module _ (P : ℕ → Type 0) where
   module _ (m : Typing) where
     -- an instruction's locals, those of the sequences in it, and those of the instructions after it
     item_has : (a : Located NamedOperation) (cs : List LegacyClause) (inside : List ℕ) (r : Sequence (Located NamedOperation)) → AllByRecursion P (locals_among a.op.immediates)
-        → AllByRecursion P inside → AllByRecursion P (locals_in (normal m r)) → AllByRecursion P (locals_among (instruction a cs).op.immediates ++ (inside ++ locals_in (normal m r)))
+        → AllByRecursion P inside → AllByRecursion P (locals_in_items (normal m r)) → AllByRecursion P (locals_among (instruction a cs).op.immediates ++ (inside ++ locals_in_items (normal m r)))
     item_has a cs inside r h g k =
-        joined (locals_among (instruction a cs).op.immediates) (inside ++ locals_in (normal m r)) (kept_has a cs h) (joined inside (locals_in (normal m r)) g k)
+        joined (locals_among (instruction a cs).op.immediates) (inside ++ locals_in_items (normal m r)) (kept_has a cs h) (joined inside (locals_in_items (normal m r)) g k)
 
-    single_has : (f : Fate) (a : Located NamedOperation) (r : Items Head Instruction) → AllByRecursion P (locals_among a.op.immediates) → AllByRecursion P (locals_in r)
-        → AllByRecursion P (locals_in (with_fate f (instruction a []) r))
+    single_has : (f : Fate) (a : Located NamedOperation) (r : Items Head Instruction) → AllByRecursion P (locals_among a.op.immediates) → AllByRecursion P (locals_in_items r)
+        → AllByRecursion P (locals_in_items (with_fate f (instruction a []) r))
     single_has Drops a r h k = k
-    single_has Stays a r h k = joined (locals_among (instruction a []).op.immediates) (locals_in r) (kept_has a [] h) k
-    single_has Diverges a r h k = joined (locals_among (instruction a []).op.immediates) [] (kept_has a [] h) tt
+    single_has Stays a r h k = joined (locals_among (instruction a []).op.immediates) (locals_in_items r) (kept_has a [] h) k
+    single_has MakesUnreachable a r h k = joined (locals_among (instruction a []).op.immediates) [] (kept_has a [] h) tt
 
     mutual
-      pub normal_has : (s : Sequence (Located NamedOperation)) → Each Has s → AllByRecursion P (locals_in (normal m s))
+      pub normal_has : (s : Sequence (Located NamedOperation)) → Each Has s → AllByRecursion P (locals_in_items (normal m s))
       normal_has Empty h = tt
       normal_has (Single a action r) h = single_has (fate action) a (normal m r) h.0 (normal_has r h.1)
-      normal_has (Wrapped a w b e r) h = item_has a [] (locals_in (normal m b) ++ []) r h.0 (joined (locals_in (normal m b)) [] (normal_has b h.1) tt) (normal_has r h.3)
-      normal_has (IfThen a b e r) h = item_has a [] (locals_in (normal m b) ++ []) r h.0 (joined (locals_in (normal m b)) [] (normal_has b h.1) tt) (normal_has r h.3)
+      normal_has (Wrapped a w b e r) h = item_has a [] (locals_in_items (normal m b) ++ []) r h.0 (joined (locals_in_items (normal m b)) [] (normal_has b h.1) tt) (normal_has r h.3)
+      normal_has (IfThen a b e r) h = item_has a [] (locals_in_items (normal m b) ++ []) r h.0 (joined (locals_in_items (normal m b)) [] (normal_has b h.1) tt) (normal_has r h.3)
       normal_has (IfElse a b l c e r) h =
-          item_has a [] (locals_in (normal m b) ++ (locals_in (normal m c) ++ [])) r h.0
-          (joined (locals_in (normal m b)) (locals_in (normal m c) ++ []) (normal_has b h.1) (joined (locals_in (normal m c)) [] (normal_has c h.3) tt)) (normal_has r h.5)
+          item_has a [] (locals_in_items (normal m b) ++ (locals_in_items (normal m c) ++ [])) r h.0
+          (joined (locals_in_items (normal m b)) (locals_in_items (normal m c) ++ []) (normal_has b h.1) (joined (locals_in_items (normal m c)) [] (normal_has c h.3) tt)) (normal_has r h.5)
       normal_has (TryCatch a b cs r) h =
-          item_has a (legacy_clauses cs) (locals_in (normal m b) ++ locals_inside (handlers m a.op cs)) r h.0
-          (joined (locals_in (normal m b)) (locals_inside (handlers m a.op cs)) (normal_has b h.1) (handlers_have a.op cs h.2)) (normal_has r h.3)
+          item_has a (legacy_clauses cs) (locals_in_items (normal m b) ++ locals_inside (handler_sequences m a.op cs)) r h.0
+          (joined (locals_in_items (normal m b)) (locals_inside (handler_sequences m a.op cs)) (normal_has b h.1) (handlers_have a.op cs h.2)) (normal_has r h.3)
       normal_has (TryDelegate a b e n r) h =
-          item_has a (delegates n ∷ []) (locals_in (normal m b) ++ []) r h.0 (joined (locals_in (normal m b)) [] (normal_has b h.1) tt) (normal_has r h.3)
+          item_has a (delegates n ∷ []) (locals_in_items (normal m b) ++ []) r h.0 (joined (locals_in_items (normal m b)) [] (normal_has b h.1) tt) (normal_has r h.3)
 
-      handlers_have : (o : NamedOperation) (cs : Clauses (Located NamedOperation)) → EachIn Has cs → AllByRecursion P (locals_inside (handlers m o cs))
+      handlers_have : (o : NamedOperation) (cs : Clauses (Located NamedOperation)) → EachIn Has cs → AllByRecursion P (locals_inside (handler_sequences m o cs))
       handlers_have o (Ended e) h = tt
-      handlers_have o (Catches a t b cs) h = joined (locals_in (normal m b)) (locals_inside (handlers m o cs)) (normal_has b h.1) (handlers_have o cs h.2)
-      handlers_have o (CatchesAll a b e) h = joined (locals_in (normal m b)) [] (normal_has b h.1) tt
+      handlers_have o (Catches a t b cs) h = joined (locals_in_items (normal m b)) (locals_inside (handler_sequences m o cs)) (normal_has b h.1) (handlers_have o cs h.2)
+      handlers_have o (CatchesAll a b e) h = joined (locals_in_items (normal m b)) [] (normal_has b h.1) tt
 
 -- ---- where the names come from
 
@@ -249,7 +249,7 @@ module _ {L B M C E : Type 0} (t : Translation L B M C E) where
       (λ ks h. subst (AllByRecursion (Made t)) (sym (first_local first.0 ks)) (one_made i first.0 first.1 (locals_among ks) (all_made is ks h))) js first.2
 
 -- the locals of a named operator are locals that naming gives
-pub named_locals : {A : Type 0} → (env : Environment) (fs : List (Frame A)) (o : RawOperation) (named : NamedOperation) → translate (naming env fs) o ≡ Ok named
+pub named_locals : {A : Type 0} → (env : Environment) (fs : List (SequenceFrame A)) (o : RawOperation) (named : NamedOperation) → translate (naming env fs) o ≡ Ok named
     → AllByRecursion (IsOfLocal env) (locals_among named.immediates)
 named_locals env fs o named e =
     let first = bound (translate_immediates (naming env fs) o.immediates) (λ js. Ok (operation o.opcode js)) named e in

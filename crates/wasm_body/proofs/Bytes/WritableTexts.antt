@@ -16,7 +16,7 @@ use Rattle.wasm_body.specs.SourceTree.{Sequence, Body, body_text}
 use Rattle.wasm_body.specs.Translation.{translate, at_location}
 use Rattle.wasm_body.specs.Naming.{NamedOperation}
 use Rattle.wasm_body.specs.NormalForm.{Typing, construct_type, kept_operation, normal_form}
-use Rattle.wasm_body.specs.FlatText.{Writing, typed, tree_text}
+use Rattle.wasm_body.specs.FlatText.{Writing, with_block_type, tree_text}
 use Rattle.wasm_body.proofs.Translation.Faults.{steps_within, last_within}
 use Rattle.wasm_body.proofs.Structure.Along.{Each, AllMarked, HasControl, weaker, all_of_each}
 use Rattle.wasm_body.specs.RewrittenTree.{end_at, catch_at, delegate_at, rewritten}
@@ -34,8 +34,8 @@ all_gathered Q (r ∷ rs) h = steps_within Q r (λ x. gather rs >>= λ xs. Ok (x
 module _ {M C : Type 0} (Q : EmitError → Type 0) (w : Writing M C) (m : Typing) where
   -- for an operator of the source: its writing has a result, or a fault of Q
   abbrev pub Writes : Named → Control → Type 0
-  Writes a (Does action) = IfErr (translate (typed w.translation (Simple None)) (kept_operation a.op)) Q
-  Writes a (Opens construct) = IfErr (translate (typed w.translation (construct_type m a.op)) (kept_operation a.op)) Q
+  Writes a (Does action) = IfErr (translate (with_block_type w.translation (Simple None)) (kept_operation a.op)) Q
+  Writes a (Opens construct) = IfErr (translate (with_block_type w.translation (construct_type m a.op)) (kept_operation a.op)) Q
   Writes a (Catch t) = IfErr (w.translation.index Tags t) Q
   Writes a (Delegate n) = IfErr (w.translation.outer n) Q
   Writes a _ = Unit {0}
@@ -47,7 +47,7 @@ module _ {M C : Type 0} (Q : EmitError → Type 0) (w : Writing M C) (m : Typing
   abbrev IsWrittenWithin : Named → Control → Type 0
   IsWrittenWithin a c = IfErr (written_result w.translation m (with_control a c)) Q
 
-  written_at : (a : Named) (t : InstrSeqType) → IfErr (translate (typed w.translation t) (kept_operation a.op)) Q → IfErr (translate (named_by w.translation t) a.op >>= λ x. Ok (at_location x a.location)) Q
+  written_at : (a : Named) (t : InstrSeqType) → IfErr (translate (with_block_type w.translation t) (kept_operation a.op)) Q → IfErr (translate (named_by w.translation t) a.op >>= λ x. Ok (at_location x a.location)) Q
   written_at a t h = last_within Q (translate (named_by w.translation t) a.op) (λ x. at_location x a.location) (subst (λ r. IfErr r Q) (named_written w.translation t a.op) h)
 
   written_index : (t l : ℕ) → IfErr (w.translation.index Tags t) Q → IsWrittenWithin (catch_at t l) (Catch t)

@@ -114,7 +114,7 @@ after_the_end = refl
 
 -- ---- labels
 
--- 0f 0c 05 0b: also in dead code
+-- 0f 0c 05 0b: also in unreachable code
 no_such_label : the_names (return ∷ br 5 ∷ end ∷ []) ≡ Refused NoSuchLabel 1
 no_such_label = refl
 
@@ -168,8 +168,8 @@ function_out_of_range : the_names (call 2 ∷ end ∷ []) ≡ Refused (Index (Ou
 function_out_of_range = refl
 
 -- 00 10 09 0b
-dead_function_out_of_range : the_names (unreachable ∷ call 9 ∷ end ∷ []) ≡ Refused (Index (OutOfRange Funcs 9)) 1
-dead_function_out_of_range = refl
+unreachable_function_out_of_range : the_names (unreachable ∷ call 9 ∷ end ∷ []) ≡ Refused (Index (OutOfRange Funcs 9)) 1
+unreachable_function_out_of_range = refl
 
 -- 20 04 0b
 local_out_of_range : the_names (local_get 4 ∷ end ∷ []) ≡ Refused (Index (LocalOutOfRange 0 4)) 0
@@ -201,8 +201,8 @@ no_type_of_handler : the_names (try (Value I32) ∷ const 1 ∷ catch 1 ∷ end 
 no_type_of_handler = refl
 
 -- 00 06 7f 41 01 07 01 0b 1a 0b
-no_type_of_dead_handler : the_names (unreachable ∷ try (Value I32) ∷ const 1 ∷ catch 1 ∷ end ∷ drop ∷ end ∷ []) ≡ Refused TypeMissing 3
-no_type_of_dead_handler = refl
+no_type_of_unreachable_handler : the_names (unreachable ∷ try (Value I32) ∷ const 1 ∷ catch 1 ∷ end ∷ drop ∷ end ∷ []) ≡ Refused TypeMissing 3
+no_type_of_unreachable_handler = refl
 
 -- the handler of all has no parameters, and the results of the `try`
 no_type_of_handler_of_all : names odd (try (FuncType 8) ∷ catch_all ∷ end ∷ end ∷ []) ≡ Refused TypeMissing 1

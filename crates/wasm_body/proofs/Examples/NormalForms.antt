@@ -45,7 +45,7 @@ ends_of_if_alone : tree demo (const 1 ∷ if Empty ∷ unreachable ∷ end ∷ e
     no_items))
 ends_of_if_alone = refl
 
--- 02 01 41 05 0f 0b 00 0b: a block whose inside is dead, and the operators after it
+-- 02 01 41 05 0f 0b 00 0b: a block whose inside is unreachable, and the operators after it
 ends_of_block : tree demo (const 1 ∷ block (FuncType 1) ∷ drop ∷ return ∷ drop ∷ end ∷ unreachable ∷ end ∷ [])
     ≡ of_demo 7
     (alone (const 1) 0
@@ -222,16 +222,16 @@ dropped_if = refl
 dropped_try : IsWrittenAs (return ∷ try Empty ∷ delegate 0 ∷ end ∷ []) (return ∷ end ∷ [])
 dropped_try = refl
 
--- 02 40 02 40 0c 01 0b 41 05 1a 0b 0b: the operators after a block whose inside is dead
-after_dead_block : IsKept (block Empty ∷ block Empty ∷ br 1 ∷ end ∷ const 5 ∷ drop ∷ end ∷ end ∷ [])
-after_dead_block = refl
+-- 02 40 02 40 0c 01 0b 41 05 1a 0b 0b: the operators after a block whose inside is unreachable
+after_unreachable_block : IsKept (block Empty ∷ block Empty ∷ br 1 ∷ end ∷ const 5 ∷ drop ∷ end ∷ end ∷ [])
+after_unreachable_block = refl
 
--- each sequence by itself: a dead consequent, alternative, body and handler
-after_dead_sequences :
+-- each sequence by itself: an unreachable consequent, alternative, body and handler
+after_unreachable_sequences :
     IsKept
     (if Empty ∷ return ∷ else ∷ return ∷ end ∷ try Empty ∷ return ∷ catch 0 ∷ return ∷ catch_all ∷ return ∷ end ∷ loop Empty ∷ return ∷ end
     ∷ const 5 ∷ drop ∷ end ∷ [])
-after_dead_sequences = refl
+after_unreachable_sequences = refl
 
 -- 41 01 04 40 0b 0b, 41 01 04 40 05 0b 0b, 41 01 04 40 05 01 0b 0b and 41 01 04 40 05 00 0b 0b
 kept_if : IsKept (const 1 ∷ if Empty ∷ end ∷ end ∷ [])
@@ -287,8 +287,8 @@ kept_delegate : IsKept (try Empty ∷ delegate 0 ∷ end ∷ [])
 kept_delegate = refl
 
 -- 06 40 08 00 01 41 07 07 00 19 0b 0b
-diverging_try : IsWrittenAs (try Empty ∷ throw 0 ∷ nop ∷ const 7 ∷ catch 0 ∷ catch_all ∷ end ∷ end ∷ []) (try Empty ∷ throw 0 ∷ catch 0 ∷ catch_all ∷ end ∷ end ∷ [])
-diverging_try = refl
+unreachable_after_try : IsWrittenAs (try Empty ∷ throw 0 ∷ nop ∷ const 7 ∷ catch 0 ∷ catch_all ∷ end ∷ end ∷ []) (try Empty ∷ throw 0 ∷ catch 0 ∷ catch_all ∷ end ∷ end ∷ [])
+unreachable_after_try = refl
 
 -- 02 40 1f 40 01 02 00 0b 0b 0b and 1f 40 01 02 00 0b 0b
 kept_table : IsKept (block Empty ∷ try_table Empty (catches_all 0 ∷ []) ∷ end ∷ end ∷ end ∷ [])

@@ -104,20 +104,20 @@ with_nop_lawful = record { entry = refl; is_body = refl; named = ((refl, (refl, 
 
 -- ---- 0c 00 02 40 01 0b 0b
 
-abbrev dead : Body Occurrence
-dead = record {
+abbrev unreachable_body : Body Occurrence
+unreachable_body = record {
   sequence = Single (a_br 0) (Branch 0) (Wrapped (an_empty_block 2) OfBlock (Single (a_nop 4) Nop source.Empty) (an_end 5) source.Empty);
   close = an_end 6;
 }
 
-abbrev dead_list : List Occurrence
-dead_list = a_br 0 ∷ an_empty_block 2 ∷ a_nop 4 ∷ an_end 5 ∷ an_end 6 ∷ []
+abbrev unreachable_list : List Occurrence
+unreachable_list = a_br 0 ∷ an_empty_block 2 ∷ a_nop 4 ∷ an_end 5 ∷ an_end 6 ∷ []
 
-dead_spelt : AllByRecursion HasSpelling dead_list
-dead_spelt = (br_spelt 0, (block_spelt 2, (nop_spelt 4, (end_spelt 5, (end_spelt 6, tt)))))
+unreachable_spelt : AllByRecursion HasSpelling unreachable_list
+unreachable_spelt = (br_spelt 0, (block_spelt 2, (nop_spelt 4, (end_spelt 5, (end_spelt 6, tt)))))
 
-dead_lawful : Lawful odd dead_list dead
-dead_lawful = record { entry = refl; is_body = refl; named = ((refl, (refl, (refl, tt), refl, tt)), refl) }
+unreachable_lawful : Lawful odd unreachable_list unreachable_body
+unreachable_lawful = record { entry = refl; is_body = refl; named = ((refl, (refl, (refl, tt), refl, tt)), refl) }
 
 -- ---- 41 07 02 00 01 0b 1a 0b
 

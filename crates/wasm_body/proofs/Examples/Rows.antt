@@ -9,7 +9,7 @@ use Rattle.wasm_body.specs.declared.error.ParseError.{ParseError}
 use Rattle.wasm_body.specs.declared.error.ParseError.TheVariants.{Trailing, MissingEnd}
 use Rattle.wasm_body.specs.Control.{control_of, end_operation}
 use Rattle.wasm_body.specs.SourceTree.{Empty, Body}
-use Rattle.wasm_body.specs.Frames.{Frame, function_frames, moves}
+use Rattle.wasm_body.specs.Frames.{SequenceFrame, function_frames, moves}
 use Rattle.wasm_body.specs.Translation.{Located, at_location}
 use Rattle.wasm_body.specs.Naming.{NamedOperation, Occurrence, Environment, named_in}
 use Rattle.wasm_body.specs.Parsing.Accepted.{mark}
@@ -43,7 +43,7 @@ as_text (Err e) = Unwritten e
 -- ---- naming
 
 -- from the number i on, inside these frames
-abbrev named_from : Environment → Option (List (Frame Occurrence)) → ℕ → List RawOperation → Computed (List Occurrence)
+abbrev named_from : Environment → Option (List (SequenceFrame Occurrence)) → ℕ → List RawOperation → Computed (List Occurrence)
 named_from env frames i [] = Is []
 named_from env None i (o ∷ os) = Refused Trailing i
 named_from env (Some []) i (o ∷ os) = Refused Trailing i

@@ -114,30 +114,30 @@ of_another_type = refl
 -- ---- code that can't be reached
 
 -- 41 07 0c 00 1a 0b, where `drop` has nothing to take
-dead_drop : Keeps one [] (const 7 ∷ br 0 ∷ drop ∷ const 7 ∷ end ∷ []) (const 7 ∷ br 0 ∷ end ∷ [])
-dead_drop = record { taken = refl; kept = refl }
+unreachable_drop : Keeps one [] (const 7 ∷ br 0 ∷ drop ∷ const 7 ∷ end ∷ []) (const 7 ∷ br 0 ∷ end ∷ [])
+unreachable_drop = record { taken = refl; kept = refl }
 
 -- `add` has nothing to take but what is unknown: without unknown operands it would be refused.
-dead_add : Keeps one [] (block number ∷ const 7 ∷ br 0 ∷ add ∷ end ∷ end ∷ []) (block number ∷ const 7 ∷ br 0 ∷ end ∷ end ∷ [])
-dead_add = record { taken = refl; kept = refl }
+unreachable_add : Keeps one [] (block number ∷ const 7 ∷ br 0 ∷ add ∷ end ∷ end ∷ []) (block number ∷ const 7 ∷ br 0 ∷ end ∷ end ∷ [])
+unreachable_add = record { taken = refl; kept = refl }
 
 -- 00 41 07 0b: the `end` of what is written takes an operand that isn't there. Without unknown operands the source would be
 -- accepted, and the text refused.
-dead_const : Keeps one [] (unreachable ∷ const 7 ∷ end ∷ []) (unreachable ∷ end ∷ [])
-dead_const = record { taken = refl; kept = refl }
+unreachable_const : Keeps one [] (unreachable ∷ const 7 ∷ end ∷ []) (unreachable ∷ end ∷ [])
+unreachable_const = record { taken = refl; kept = refl }
 
 -- What is there has to match: after `unreachable` too an operand too many is refused. It isn't written, and the text is accepted: so
 -- nothing is said the other way.
-dead_too_many : Refuses one [] (unreachable ∷ const 7 ∷ const 7 ∷ end ∷ [])
-dead_too_many = refl
+unreachable_too_many : Refuses one [] (unreachable ∷ const 7 ∷ const 7 ∷ end ∷ [])
+unreachable_too_many = refl
 
-dead_of_another_type : Refuses (I64 ∷ []) [] (unreachable ∷ const 7 ∷ end ∷ [])
-dead_of_another_type = refl
+unreachable_of_another_type : Refuses (I64 ∷ []) [] (unreachable ∷ const 7 ∷ end ∷ [])
+unreachable_of_another_type = refl
 
 -- whole constructs
-dead_constructs : Keeps [] []
+unreachable_constructs : Keeps [] []
     (return ∷ loop taking ∷ (if) nothing ∷ const 7 ∷ br 1 ∷ (else) ∷ const 7 ∷ drop ∷ end ∷ end ∷ end ∷ []) (return ∷ end ∷ [])
-dead_constructs = record { taken = refl; kept = refl }
+unreachable_constructs = record { taken = refl; kept = refl }
 
 -- what follows a tail call is kept
 after_tail_call : Keeps one [] (return_call 0 ∷ add ∷ nop ∷ end ∷ []) (return_call 0 ∷ add ∷ end ∷ [])
@@ -196,12 +196,12 @@ forgotten_by_else : Refuses one [] (const 7 ∷ (if) number ∷ const 7 ∷ loca
 forgotten_by_else = refl
 
 -- and also what was so in code that can't be reached, which the text no longer has
-forgotten_dead : Refuses one [] (block nothing ∷ br 0 ∷ local_set 0 ∷ end ∷ local_get 0 ∷ end ∷ [])
-forgotten_dead = refl
+forgotten_unreachable : Refuses one [] (block nothing ∷ br 0 ∷ local_set 0 ∷ end ∷ local_get 0 ∷ end ∷ [])
+forgotten_unreachable = refl
 
-dead_set : Keeps one [] (const 7 ∷ local_set 0 ∷ block nothing ∷ br 0 ∷ local_set 0 ∷ end ∷ local_get 0 ∷ end ∷ [])
+unreachable_set : Keeps one [] (const 7 ∷ local_set 0 ∷ block nothing ∷ br 0 ∷ local_set 0 ∷ end ∷ local_get 0 ∷ end ∷ [])
     (const 7 ∷ local_set 0 ∷ block nothing ∷ br 0 ∷ end ∷ local_get 0 ∷ end ∷ [])
-dead_set = record { taken = refl; kept = refl }
+unreachable_set = record { taken = refl; kept = refl }
 
 -- ---- labels
 
@@ -257,11 +257,11 @@ hands_too_much = refl
 -- ---- heights
 
 -- After `br 0` the operands are cut to the height of the block, and the frame is unreachable.
-heights_dead : validated one [] (const 7 ∷ block number ∷ const 7 ∷ br 0 ∷ [])
+heights_unreachable : validated one [] (const 7 ∷ block number ∷ const 7 ∷ br 0 ∷ [])
     ≡ Ok (state (record { operands = Known I32 ∷ []; initialised = [] })
     (record { opened = OfBlock; start_types = []; end_types = one; height = 1; locals_height = 0; unreachable = true }
     ∷ record { opened = OfFunction; start_types = []; end_types = one; height = 0; locals_height = 0; unreachable = false } ∷ []))
-heights_dead = refl
+heights_unreachable = refl
 
 -- The block's `end` gives its number all the same, and what was initialised in it is forgotten.
 heights_ended : validated one [] (const 7 ∷ block number ∷ const 7 ∷ local_set 0 ∷ const 7 ∷ br 0 ∷ end ∷ [])

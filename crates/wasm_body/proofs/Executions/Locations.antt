@@ -13,7 +13,7 @@ use Rattle.wasm_body.specs.SourceTree.{Body, body_text}
 use Rattle.wasm_body.specs.Translation.{translate, Located, at_location}
 use Rattle.wasm_body.specs.NormalForm.{Typing, typing_of, normal_form, name_at, named_body}
 use Rattle.wasm_body.specs.FlatText.{Writing, TextTranslation, tree_text, with_names}
-use Rattle.wasm_body.specs.Bytes.{Numbers, with_numbers, numbered_text}
+use Rattle.wasm_body.specs.Bytes.{Numbers, writing_numbers, numbered_text}
 use Rattle.wasm_body.specs.Typed.{AreTyped}
 use Rattle.wasm_body.specs.TextLaws.{IsNamedBody, IsTextOf}
 use Rattle.wasm_body.specs.Machine.{Event, Executed, Taken, Run}
@@ -141,7 +141,7 @@ module _ (m : Typing) (xs : List Named) (b : Body Named) (hx : IsNamedBody xs b)
   located_alike : map (λ z. z.location) numbered.0 ≡ map (λ y. y.location) ys
   located_alike =
       let has_control = source_controls m xs b hx h in
-      text_at (with_numbers to) m b has_control numbered.0 numbered.1
+      text_at (writing_numbers to) m b has_control numbered.0 numbered.1
       ∙ (ap (λ balanced. map (λ x. x.shown.location) (body_text (anew_by balanced m b))) (λ i t. alike t i)
       ∙ sym (text_at (with_names m) m b has_control ys text))
 

@@ -4,7 +4,7 @@ use Rattle.std.proofs.Common.{◌≡◌, ℕ, zero, suc, ◌+◌, List, [], ◌�
 use Rattle.std.specs.Prelude.{slice_get}
 use Rattle.wasm_body.specs.Control.{Action, Nop, Plain, Branch, ConditionalBranch, TableBranch, Return, Unreachable, Throw, ThrowRef, Rethrow, TailCall, Clause, Construct, Block, Loop, TryTable, If, Try, Control, Does, Opens, Catch, Marked, with_control}
 use Rattle.wasm_body.proofs.Structure.Mapped.{map_mark}
-use Rattle.wasm_body.specs.Machine.{Shape, Opener, Part, Closer, Other, shape_of, Found, found, seek_at, seek, tail, after_closer, Tags, has, Outcome, Go, Trap, Raise, Way, Entry, Executed, Taken, TailCalled, TurnsOut, Mismatch, Run, ends, then, Label, label, handler, From, Response, Passes, Hands, Jumps, Enters, takes, jump, catches, clause_at, clause_found, try_responds, responds_as, responds, arrive, branch, react, raise, caught_at, rethrow, target, take_outcome, take_way, take_entry, act, is_else, other_at, other_way, enter, leave, step, straight, bounded_run, run}
+use Rattle.wasm_body.specs.Machine.{Shape, Opener, Part, Closer, Other, control_shape, Found, found, seek_at, seek, tail, after_closer, Tags, has, Outcome, Go, Trap, Raise, Way, Entry, Executed, Taken, TailCalled, TurnsOut, Mismatch, Run, ends, then, Label, label, handler, From, Response, Passes, Hands, Jumps, Enters, takes, jump, catches, clause_at, clause_found, try_responds, responds_as, responds, arrive, branch, react, raise, caught_at, rethrow, target, take_outcome, take_way, take_entry, act, is_else, other_at, other_way, enter, leave, step, straight, bounded_run, run}
 use Rattle.wasm_body.specs.Places.{show_run, placed_from, run_by_place, shown_by}
 
 -- ---- operators, labels and the rest with other values shown
@@ -46,7 +46,7 @@ module _ (A B : Type 0) (f : A → B) where
   seek_moved : (test : Control → Bool) (d i : ℕ) (xs : List (Marked A)) → seek test d i (moved f xs) ≡ move_found f (seek test d i xs)
   seek_moved test d i [] = refl
   seek_moved test d i (x ∷ xs) =
-      at_moved (shape_of x.control) d (test x.control) i (x ∷ xs) (λ d j. seek test d j xs) (λ d j. seek test d j (moved f xs))
+      at_moved (control_shape x.control) d (test x.control) i (x ∷ xs) (λ d j. seek test d j xs) (λ d j. seek test d j (moved f xs))
       (λ d j. seek_moved test d j xs)
 
   tail_moved : (xs : List (Marked A)) → tail (moved f xs) ≡ moved f (tail xs)

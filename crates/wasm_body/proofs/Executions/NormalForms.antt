@@ -7,14 +7,14 @@ use Rattle.wasm_body.specs.SourceTree.{Sequence, Empty, Single, Wrapped, IfThen,
 use Rattle.wasm_body.specs.NormalForm.{Typing, balances, construct_type, normal, fate, typing_of, name_at, named_body}
 use Rattle.wasm_body.specs.Naming.{NamedOperation}
 use Rattle.wasm_body.specs.TextLaws.{IsNamedBody}
-use Rattle.wasm_body.specs.RewrittenTree.{single_with_fate, is_empty, written_if, rewritten, rewritten_clauses, rewritten_body, rewritten_text}
+use Rattle.wasm_body.specs.RewrittenTree.{single_with_fate, is_empty_sequence, written_if, rewritten, rewritten_clauses, rewritten_body, rewritten_text}
 use Rattle.wasm_body.proofs.NormalForm.Rewritten.{Named, emptied, second_holds}
 use Rattle.wasm_body.proofs.NormalForm.NamedTexts.{has_text, text_body}
 use Rattle.wasm_body.proofs.Bytes.LawfulTyped.{lawful_named}
 use Rattle.wasm_body.specs.Machine.{Outcome, straight, run}
 use Rattle.wasm_body.specs.Places.{show_run, run_by_place, shown_by}
 use Rattle.wasm_body.specs.ExecutionLaws.{controls, NamedExecutionsKept, ExecutionsKept, RunsShowOperators, EmptyContinues}
-use Rattle.wasm_body.proofs.Executions.RewritesTo.{RewritesTo, empty, drop_nop, keep, diverging, wrapped, if_then, if_else, add_else, drop_else, try_catch, try_delegate, ClausesRewriteTo, ended, catches_one, catches_all, runs_alike}
+use Rattle.wasm_body.proofs.Executions.RewritesTo.{RewritesTo, empty, drop_nop, keep, unreachable_after, wrapped, if_then, if_else, add_else, drop_else, try_catch, try_delegate, ClausesRewriteTo, ended, catches_one, catches_all, runs_alike}
 use Rattle.wasm_body.proofs.Executions.Same.{the_count}
 use Rattle.wasm_body.proofs.Executions.Natural.{shown_by-run}
 
@@ -24,14 +24,14 @@ single_rewrites : (a : Named) (action : Action) (r r' : Sequence Named) → Rewr
     → RewritesTo (Single a action r) (single_with_fate (fate action) a action r')
 single_rewrites a Nop r r' f = drop_nop f
 single_rewrites a Plain r r' f = keep f
-single_rewrites a (Branch n) r r' f = diverging refl
+single_rewrites a (Branch n) r r' f = unreachable_after refl
 single_rewrites a (ConditionalBranch n) r r' f = keep f
-single_rewrites a (TableBranch ts d) r r' f = diverging refl
-single_rewrites a Return r r' f = diverging refl
-single_rewrites a Unreachable r r' f = diverging refl
-single_rewrites a (Throw t) r r' f = diverging refl
-single_rewrites a ThrowRef r r' f = diverging refl
-single_rewrites a (Rethrow n) r r' f = diverging refl
+single_rewrites a (TableBranch ts d) r r' f = unreachable_after refl
+single_rewrites a Return r r' f = unreachable_after refl
+single_rewrites a Unreachable r r' f = unreachable_after refl
+single_rewrites a (Throw t) r r' f = unreachable_after refl
+single_rewrites a ThrowRef r r' f = unreachable_after refl
+single_rewrites a (Rethrow n) r r' f = unreachable_after refl
 single_rewrites a TailCall r r' f = keep f
 
 added_rewrites : (t : Bool) (a e : Named) (b b' : Sequence Named) (l n : ℕ) (r r' : Sequence Named) → RewritesTo b b' → RewritesTo r r'
@@ -54,8 +54,8 @@ module _ (balanced : NamedOperation → Bool) where
         added_rewrites (balanced a.op) a e b (rewritten balanced b) e.location default_location r (rewritten balanced r)
         (rewritten_rewrites b) (rewritten_rewrites r)
     rewritten_rewrites (IfElse a b l c e r) =
-        else_rewrites (balanced a.op && is_empty (rewritten balanced c)) a l e b (rewritten balanced b) c (rewritten balanced c) l.location e.location r (rewritten balanced r)
-        (λ h. emptied (rewritten balanced c) (second_holds (balanced a.op) (is_empty (rewritten balanced c)) h))
+        else_rewrites (balanced a.op && is_empty_sequence (rewritten balanced c)) a l e b (rewritten balanced b) c (rewritten balanced c) l.location e.location r (rewritten balanced r)
+        (λ h. emptied (rewritten balanced c) (second_holds (balanced a.op) (is_empty_sequence (rewritten balanced c)) h))
         (rewritten_rewrites b) (rewritten_rewrites c) (rewritten_rewrites r)
     rewritten_rewrites (TryCatch a b cs r) = try_catch (rewritten_rewrites b) (clauses_rewrite cs) (rewritten_rewrites r)
     rewritten_rewrites (TryDelegate a b e n r) = try_delegate (rewritten_rewrites b) (rewritten_rewrites r)

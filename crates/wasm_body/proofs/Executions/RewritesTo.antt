@@ -2,9 +2,9 @@
 use Rattle.std.proofs.Common.{◌≡◌, ℕ, zero, suc, ◌≤◌, List, [], ◌∷◌, length, false, refl, sym, ap, ◌∙◌, arith}
 use Rattle.wasm_body.specs.Control.{Action, Nop, Control, Construct, If, Try, Opens, Else, Catch, CatchAll, End, Delegate, Marked, with_control}
 use Rattle.wasm_body.specs.SourceTree.{Sequence, Empty, Single, Wrapped, IfThen, IfElse, TryCatch, TryDelegate, Clauses, Ended, Catches, CatchesAll, Wrapper, construct_of, text, clauses_text, Body, body_text}
-use Rattle.wasm_body.specs.NormalForm.{fate, Diverges}
+use Rattle.wasm_body.specs.NormalForm.{fate, MakesUnreachable}
 use Rattle.wasm_body.specs.TextLaws.{EndsSequence}
-use Rattle.wasm_body.specs.Machine.{Outcome, bounded_run, run, Closer, shape_of, seek, seek_at, after_closer, tail, Label, label, handler, catches, is_else, other_at}
+use Rattle.wasm_body.specs.Machine.{Outcome, bounded_run, run, Closer, control_shape, seek, seek_at, after_closer, tail, Label, label, handler, catches, is_else, other_at}
 use Rattle.wasm_body.proofs.Executions.Same.{Bound, the_count, go, bounded_run-go, Same, Agree, seek_text, text_longer, clauses_longer}
 use Rattle.wasm_body.proofs.Executions.Steps.{weaken, nop_same, kept_same, last_same, stop_same, last_end, no_labels}
 use Rattle.wasm_body.proofs.Executions.Constructs.{Closes, wrapped_same, if_outside, if_same, try_same}
@@ -17,7 +17,7 @@ mutual
     empty : RewritesTo Empty Empty
     drop_nop : {a : A} {r r' : Sequence A} → RewritesTo r r' → RewritesTo (Single a Nop r) r'
     keep : {a : A} {action : Action} {r r' : Sequence A} → RewritesTo r r' → RewritesTo (Single a action r) (Single a action r')
-    diverging : {a : A} {action : Action} {r : Sequence A} → fate action ≡ Diverges → RewritesTo (Single a action r) (Single a action Empty)
+    unreachable_after : {a : A} {action : Action} {r : Sequence A} → fate action ≡ MakesUnreachable → RewritesTo (Single a action r) (Single a action Empty)
     wrapped : {a e e' : A} {w : Wrapper} {b b' r r' : Sequence A} → RewritesTo b b' → RewritesTo r r'
         → RewritesTo (Wrapped a w b e r) (Wrapped a w b' e' r')
     if_then : {a e e' : A} {b b' r r' : Sequence A} → RewritesTo b b' → RewritesTo r r' → RewritesTo (IfThen a b e r) (IfThen a b' e' r')
@@ -41,7 +41,7 @@ mutual
 -- ---- the closers of constructs
 
 -- after a sequence comes the closer
-closes : {A : Type 0} → (s : Sequence A) (e : A) (c : Control) (r : List (Marked A)) → shape_of c ≡ Closer
+closes : {A : Type 0} → (s : Sequence A) (e : A) (c : Control) (r : List (Marked A)) → control_shape c ≡ Closer
     → Closes (text s (with_control e c ∷ r)) (with_control e c ∷ r) r
 closes s e c r h = record {
   following =
@@ -292,7 +292,7 @@ mutual
   alike (drop_nop {a = a} {r = r} {r' = r'} f) t k k' ls ls' agree = nop_same a t (text r k) (text r' k') ls ls' (alike f t k k' ls ls' agree)
   alike (keep {a = a} {action = action} {r = r} {r' = r'} f) t k k' ls ls' agree =
       let rest = rest_agrees r r' (alike f) t k k' ls ls' agree in kept_same action a t (text r k) (text r' k') ls ls' rest.outside rest.same
-  alike (diverging {a = a} {action = action} {r = r} h) t k k' ls ls' agree =
+  alike (unreachable_after {a = a} {action = action} {r = r} h) t k k' ls ls' agree =
       last_same action a t (text r k) k' ls ls' h
       (weaken t t _ _ _ _ ls ls' (omega arith) (text_longer r k) (omega arith) agree.outside)
   alike (wrapped {a = a} {e = e} {e' = e'} {w = w} {b = b} {b' = b'} {r = r} {r' = r'} f g) t k k' ls ls' agree =

@@ -1,7 +1,7 @@
 -- One step from two places at which the machine does the same.
 use Rattle.std.proofs.Common.{◌≡◌, ℕ, zero, suc, ◌≤◌, List, [], ◌∷◌, length, Bool, true, false, cond, Option, Some, None, refl, sym, ap, ◌∙◌, arith}
 use Rattle.wasm_body.specs.Control.{Action, Nop, Plain, Branch, ConditionalBranch, TableBranch, Return, Unreachable, Throw, ThrowRef, Rethrow, TailCall, Control, Does, Opens, End, Marked, with_control}
-use Rattle.wasm_body.specs.NormalForm.{fate, Diverges}
+use Rattle.wasm_body.specs.NormalForm.{fate, MakesUnreachable}
 use Rattle.wasm_body.specs.TextLaws.{EndsSequence}
 use Rattle.wasm_body.specs.Machine.{Outcome, Go, Trap, Raise, Way, Entry, Executed, Mismatch, Run, ends, then, Tags, after_closer, Label, Response, branch, raise, caught_at, rethrow, take_outcome, take_way, take_entry, act, step, leave, has, target, arrive, react, responds}
 use Rattle.wasm_body.proofs.Executions.Same.{Bound, the_count, again, go, Same, SameOutside}
@@ -68,23 +68,23 @@ rethrow_same f f' (Some s) h = h s
 -- ---- operators by themselves
 
 -- an operator that cuts, whatever comes after it
-diverging_same : {A : Type 0} → (action : Action) (a : A) (t : ℕ) (r r' : List (Marked A)) (labels labels' : List (Label A))
-    → SameOutside t (length r) (length r') labels labels' → fate action ≡ Diverges
+unreachable_after_same : {A : Type 0} → (action : Action) (a : A) (t : ℕ) (r r' : List (Marked A)) (labels labels' : List (Label A))
+    → SameOutside t (length r) (length r') labels labels' → fate action ≡ MakesUnreachable
     → (β : Bound A) (u n m : ℕ) (outcomes : List Outcome) → u ≤ t → length r ≤ n → length r' ≤ m
     → act (again β u) (go β u n) action a r labels outcomes ≡ act (again the_count u) (go the_count u m) action a r' labels' outcomes
-diverging_same (Branch j) a t r r' ls ls' e c β u n m o hu hn hm = ap (then (Executed a)) (e.branches β u n m j o hu hn hm)
-diverging_same (TableBranch ts d) a t r r' ls ls' e c β u n m o hu hn hm = entry_same a _ _ (λ k o. e.branches β u n m (target ts d k) o hu hn hm) o
-diverging_same Return a t r r' ls ls' e c β u n m o hu hn hm = refl
-diverging_same Unreachable a t r r' ls ls' e c β u n m o hu hn hm = refl
-diverging_same (Throw g) a t r r' ls ls' e c β u n m o hu hn hm =
+unreachable_after_same (Branch j) a t r r' ls ls' e c β u n m o hu hn hm = ap (then (Executed a)) (e.branches β u n m j o hu hn hm)
+unreachable_after_same (TableBranch ts d) a t r r' ls ls' e c β u n m o hu hn hm = entry_same a _ _ (λ k o. e.branches β u n m (target ts d k) o hu hn hm) o
+unreachable_after_same Return a t r r' ls ls' e c β u n m o hu hn hm = refl
+unreachable_after_same Unreachable a t r r' ls ls' e c β u n m o hu hn hm = refl
+unreachable_after_same (Throw g) a t r r' ls ls' e c β u n m o hu hn hm =
     take_outcome_same (λ s. has s g) false a _ _ _ _ (λ o. refl) (λ s o. e.raises β u n m s o 0 hu hn hm) o
-diverging_same ThrowRef a t r r' ls ls' e c β u n m o hu hn hm = take_outcome_same (λ s. true) true a _ _ _ _ (λ o. refl) (λ s o. e.raises β u n m s o 0 hu hn hm) o
-diverging_same (Rethrow j) a t r r' ls ls' e c β u n m o hu hn hm =
+unreachable_after_same ThrowRef a t r r' ls ls' e c β u n m o hu hn hm = take_outcome_same (λ s. true) true a _ _ _ _ (λ o. refl) (λ s o. e.raises β u n m s o 0 hu hn hm) o
+unreachable_after_same (Rethrow j) a t r r' ls ls' e c β u n m o hu hn hm =
     ap (then (Executed a))
     (ap (rethrow (λ s. raise (again β u) (go β u n) s ls o 0)) (e.handlers j)
     ∙ rethrow_same (λ s. raise (again β u) (go β u n) s ls o 0) (λ s. raise (again the_count u) (go the_count u m) s ls' o 0) (caught_at ls' j)
     (λ s. e.raises β u n m s o 0 hu hn hm))
-diverging_same _ a t r r' ls ls' e c β u n m o hu hn hm = absurd (cc c)
+unreachable_after_same _ a t r r' ls ls' e c β u n m o hu hn hm = absurd (cc c)
 
 -- an operator after which the same follows
 act_same : {A : Type 0} → (action : Action) (a : A) (t : ℕ) (r r' : List (Marked A)) (labels labels' : List (Label A))
@@ -97,7 +97,7 @@ act_same Plain a t r r' ls ls' e s β u n m o hu hn hm =
 act_same (ConditionalBranch j) a t r r' ls ls' e s β u n m o hu hn hm =
     way_same a _ _ (λ w o. cond_same w _ _ _ _ (e.branches β u n m j o hu hn hm) (s β u n m o hu hn hm)) o
 act_same TailCall a t r r' ls ls' e s β u n m o hu hn hm = refl
-act_same action a t r r' ls ls' e s β u n m o hu hn hm = diverging_same action a t r r' ls ls' e refl β u n m o hu hn hm
+act_same action a t r r' ls ls' e s β u n m o hu hn hm = unreachable_after_same action a t r r' ls ls' e refl β u n m o hu hn hm
 
 pub nop_same : {A : Type 0} → (a : A) (t : ℕ) (r r' : List (Marked A)) (labels labels' : List (Label A))
     → Same t r labels r' labels' → Same t (with_control a (Does Nop) ∷ r) labels r' labels'
@@ -111,10 +111,10 @@ kept_same action a t r r' ls ls' e s =
     step_same (with_control a (Does action)) (with_control a (Does action)) t r r' ls ls' (act_same action a t r r' ls ls' e s)
 
 pub last_same : {A : Type 0} → (action : Action) (a : A) (t : ℕ) (r r' : List (Marked A)) (labels labels' : List (Label A))
-    → fate action ≡ Diverges → SameOutside t (length r) (length r') labels labels'
+    → fate action ≡ MakesUnreachable → SameOutside t (length r) (length r') labels labels'
     → Same t (with_control a (Does action) ∷ r) labels (with_control a (Does action) ∷ r') labels'
 last_same action a t r r' ls ls' c e =
-    step_same (with_control a (Does action)) (with_control a (Does action)) t r r' ls ls' (diverging_same action a t r r' ls ls' e c)
+    step_same (with_control a (Does action)) (with_control a (Does action)) t r r' ls ls' (unreachable_after_same action a t r r' ls ls' e c)
 
 -- ---- a label more
 

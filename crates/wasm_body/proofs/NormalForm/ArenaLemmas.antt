@@ -5,8 +5,8 @@ use Rattle.std.specs.List.{AllByRecursion}
 use Rattle.std.proofs.Common.{refl, ap, ◌∙◌, arith}
 use Rattle.walrus_ir.specs.declared.seq.InstrSeq.{InstrSeq}
 use Rattle.walrus_ir.specs.Tree.{Items, no_items, item, Sequences, no_sequences, sequence}
-use Rattle.walrus_ir.specs.Unfolding.{SequenceAt, LocatedInstr, AreItems, are_no_items, are_items, AreSequences, are_no_sequences, are_sequences, slots_reached, slots_reached_each, among, Apart}
-use Rattle.wasm_body.specs.Keeping.{joined}
+use Rattle.walrus_ir.specs.Unfolding.{SequenceAt, LocatedInstr, AreTreeItems, are_no_items, are_items, AreSequences, are_no_sequences, are_sequences, slots_reached, slots_reached_each, among, Apart}
+use Rattle.wasm_body.specs.Keeping.{joined_items}
 use Rattle.wasm_body.specs.TreeOfFunction.{instruction_in, items_in, sequences_in}
 use Rattle.wasm_body.specs.Intervals.{RiseIn, AllRiseIn}
 
@@ -34,17 +34,17 @@ mutual
   all_rise-wider low lower (sequence p is rest) high higher l h r =
       (r.0, (let a = r.1 in omega arith), r.2, all_rise-wider r.0 r.0 rest high higher (omega arith) h r.3)
 
-pub rise-joined : (low : ℕ) (is js : Items SequenceAt LocatedInstr) (middle high : ℕ) → RiseIn low is middle → RiseIn middle js high → RiseIn low (joined is js) high
+pub rise-joined : (low : ℕ) (is js : Items SequenceAt LocatedInstr) (middle high : ℕ) → RiseIn low is middle → RiseIn middle js high → RiseIn low (joined_items is js) high
 rise-joined low no_items js middle high r s = rise-wider middle low js high high r (omega arith) s
 rise-joined low (item x ss rest) js middle high r s = (r.0, r.1, rise-joined r.0 rest js middle high r.2 s)
 
 -- ---- one list of items after another
 
-pub items-joined : {b : List InstrSeq} {xs ys : List LocatedInstr} {is js : Items SequenceAt LocatedInstr} → AreItems b xs is → AreItems b ys js → AreItems b (xs ++ ys) (joined is js)
+pub items-joined : {b : List InstrSeq} {xs ys : List LocatedInstr} {is js : Items SequenceAt LocatedInstr} → AreTreeItems b xs is → AreTreeItems b ys js → AreTreeItems b (xs ++ ys) (joined_items is js)
 items-joined are_no_items t = t
 items-joined (are_items r s) t = are_items r (items-joined s t)
 
-pub in-joined : (around : List ℕ) (is js : Items SequenceAt LocatedInstr) → items_in around (joined is js) ≡ joined (items_in around is) (items_in around js)
+pub in-joined : (around : List ℕ) (is js : Items SequenceAt LocatedInstr) → items_in around (joined_items is js) ≡ joined_items (items_in around is) (items_in around js)
 in-joined around no_items js = refl
 in-joined around (item x ss r) js = ap (item (instruction_in around x) (sequences_in around ss)) (in-joined around r js)
 
@@ -54,7 +54,7 @@ abbrev pub SameIn : (b c : List InstrSeq) (low high : ℕ) → Type 0
 SameIn b c low high = (p : ℕ) → low ≤ p → p < high → slice_get c p ≡ slice_get b p
 
 mutual
-  pub items-same : {b : List InstrSeq} {xs : List LocatedInstr} {is : Items SequenceAt LocatedInstr} (c : List InstrSeq) (low high : ℕ) → SameIn b c low high → RiseIn low is high → AreItems b xs is → AreItems c xs is
+  pub items-same : {b : List InstrSeq} {xs : List LocatedInstr} {is : Items SequenceAt LocatedInstr} (c : List InstrSeq) (low high : ℕ) → SameIn b c low high → RiseIn low is high → AreTreeItems b xs is → AreTreeItems c xs is
   items-same c low high same r are_no_items = are_no_items
   items-same c low high same r (are_items {inside = ss} {rest = is} s t) =
       are_items

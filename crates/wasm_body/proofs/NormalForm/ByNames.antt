@@ -6,7 +6,7 @@ use Rattle.wasm_body.specs.SourceTree.{Sequence, Empty, Single, Wrapped, IfThen,
 use Rattle.wasm_body.specs.Translation.{at_location}
 use Rattle.wasm_body.specs.Naming.{NamedOperation}
 use Rattle.wasm_body.specs.FunctionTree.{Head, Instruction, handles, delegates, bare, bare_items, bare_sequences, IsSameTree}
-use Rattle.wasm_body.specs.NormalForm.{Typing, Fate, Drops, Stays, Diverges, fate, instruction, kept_operation, with_fate, construct_type, handler_type, legacy_clauses, normal, handlers, normal_form}
+use Rattle.wasm_body.specs.NormalForm.{Typing, Fate, Drops, Stays, MakesUnreachable, fate, instruction, kept_operation, with_fate, construct_type, handler_type, legacy_clauses, normal, handler_sequences, normal_form}
 use Rattle.wasm_body.proofs.Structure.ReadingTrees.{one_body}
 use Rattle.wasm_body.proofs.Structure.Mapped.{map_mark, text_mapped}
 use Rattle.wasm_body.proofs.NormalForm.Rewritten.{Named}
@@ -23,7 +23,7 @@ single_nowhere : (f : Fate) (a : Named) (r r' : Items Head Instruction) → bare
     → bare_items (with_fate f (instruction (nowhere a) []) r) ≡ bare_items (with_fate f (instruction a []) r')
 single_nowhere Drops a r r' e = e
 single_nowhere Stays a r r' e = ap (λ x. item (kept_operation a.op, []) no_sequences x) e
-single_nowhere Diverges a r r' e = refl
+single_nowhere MakesUnreachable a r r' e = refl
 
 clauses_nowhere : (cs : Clauses Named) → legacy_clauses (map_clauses nowhere cs) ≡ legacy_clauses cs
 clauses_nowhere (Ended e) = refl
@@ -40,18 +40,18 @@ mutual
       item_again (bare (instruction a [])) (construct_type m a.op) (bare_nowhere m b)
       (ap (λ x. sequence (construct_type m a.op) x no_sequences) (bare_nowhere m c)) (bare_nowhere m r)
   bare_nowhere m (TryCatch a b cs r) =
-      let first = sequence (construct_type m a.op) (bare_items (normal m (map_sequence nowhere b))) (bare_sequences (handlers m a.op (map_clauses nowhere cs))) in
+      let first = sequence (construct_type m a.op) (bare_items (normal m (map_sequence nowhere b))) (bare_sequences (handler_sequences m a.op (map_clauses nowhere cs))) in
       ap (λ l. item (kept_operation a.op, l) first (bare_items (normal m (map_sequence nowhere r)))) (clauses_nowhere cs)
       ∙ item_again (kept_operation a.op, legacy_clauses cs) (construct_type m a.op) (bare_nowhere m b) (handlers_nowhere m a.op cs) (bare_nowhere m r)
   bare_nowhere m (TryDelegate a b e n r) =
       item_again (bare (instruction a (delegates n ∷ []))) (construct_type m a.op) (bare_nowhere m b) refl (bare_nowhere m r)
 
   handlers_nowhere : (m : Typing) (o : NamedOperation) (cs : Clauses Named)
-      → bare_sequences (handlers m o (map_clauses nowhere cs)) ≡ bare_sequences (handlers m o cs)
+      → bare_sequences (handler_sequences m o (map_clauses nowhere cs)) ≡ bare_sequences (handler_sequences m o cs)
   handlers_nowhere m o (Ended e) = refl
   handlers_nowhere m o (Catches a t b cs) =
       let type = handler_type m o (m.tag_parameters t) in
-      ap (λ x. sequence type x (bare_sequences (handlers m o (map_clauses nowhere cs)))) (bare_nowhere m b)
+      ap (λ x. sequence type x (bare_sequences (handler_sequences m o (map_clauses nowhere cs)))) (bare_nowhere m b)
       ∙ ap (λ x. sequence type (bare_items (normal m b)) x) (handlers_nowhere m o cs)
   handlers_nowhere m o (CatchesAll a b e) = ap (λ x. sequence (handler_type m o []) x no_sequences) (bare_nowhere m b)
 

@@ -12,7 +12,7 @@ use Rattle.wasm_body.specs.Translation.{translate, translate_immediates}
 use Rattle.wasm_body.specs.Naming.{NamedOperation, block_types}
 use Rattle.wasm_body.specs.FunctionTree.{Target, Depth, Outside}
 use Rattle.wasm_body.specs.NormalForm.{Typing, kept, kept_operation}
-use Rattle.wasm_body.specs.FlatText.{typed, with_names}
+use Rattle.wasm_body.specs.FlatText.{with_block_type, with_names}
 use Rattle.wasm_body.specs.Typed.{HasSignatures}
 use Rattle.wasm_body.proofs.Translation.Steps.{Leads, after_one, ok-infallible}
 use Rattle.wasm_body.proofs.Translation.Translations.{LeadAll, lead_all, translate_leads, same, translate_same}
@@ -32,7 +32,7 @@ label_leads m n Outside e = absurd cc
 number_leads : (n k : ℕ) → (let r : Result ℕ ⊥ = Ok n in r) ≡ Ok k → (let r : Result ℕ EmitError = Ok k in r) ≡ Ok n
 number_leads n k e = let h : k ≡ n = cc in ap Ok h
 
-all_lead : (m : Typing) (t : InstrSeqType) → LeadAll kept (typed (with_names m).translation t) same
+all_lead : (m : Typing) (t : InstrSeqType) → LeadAll kept (with_block_type (with_names m).translation t) same
 all_lead m t = record {
   indices = λ space n. number_leads n;
   locals = number_leads;
@@ -46,11 +46,11 @@ all_lead m t = record {
 
 -- at a sequence whose type has the operator's block type as signature
 pub kept_written : (m : Typing) (t : InstrSeqType) (o : NamedOperation) → HasSignatures m t (block_types o.immediates)
-    → translate (typed (with_names m).translation t) (kept_operation o) ≡ Ok o
+    → translate (with_block_type (with_names m).translation t) (kept_operation o) ≡ Ok o
 kept_written m t o h =
-    after_one (translate_immediates (typed (with_names m).translation t) (kept_operation o).immediates) (Ok o.immediates)
+    after_one (translate_immediates (with_block_type (with_names m).translation t) (kept_operation o).immediates) (Ok o.immediates)
     (λ is. Ok (record { opcode = o.opcode; immediates = is }))
-    (translate_leads kept (typed (with_names m).translation t) same o.immediates
-    (lead_all kept (typed (with_names m).translation t) same (all_lead m t) o.immediates (block_types_lead m t (block_types o.immediates) h))
+    (translate_leads kept (with_block_type (with_names m).translation t) same o.immediates
+    (lead_all kept (with_block_type (with_names m).translation t) same (all_lead m t) o.immediates (block_types_lead m t (block_types o.immediates) h))
     (kept_operation o).immediates (ok-infallible (translate_immediates kept o.immediates))
     ∙ translate_same o.immediates)

@@ -6,7 +6,7 @@ use Rattle.wasm_operators.specs.Operations.{RawOperation}
 use Rattle.wasm_body.specs.declared.error.ParseError.{ParseError}
 use Rattle.wasm_body.specs.declared.error.ParseError.TheVariants.{Index, NoSuchLabel, RethrowOutsideHandler}
 use Rattle.wasm_numbers.specs.Results.{◌>>=◌, with_fault, unless}
-use Rattle.wasm_body.specs.Frames.{Frame, handler_at, outside}
+use Rattle.wasm_body.specs.Frames.{SequenceFrame, handler_at, outside}
 use Rattle.wasm_body.specs.Translation.{Translation, translate, translate_immediates}
 use Rattle.wasm_body.specs.Naming.{Environment, NamedOperation, naming, id_at, open_label, handler_label, block_types}
 use Rattle.wasm_body.specs.FunctionTree.{Target, Depth}
@@ -37,10 +37,10 @@ pub number_leads : (r : Result ℕ ParseError) (q : ℕ) → r ≡ Ok q → (let
 number_leads r q e = ap (λ t. Ok (sure_number t)) (sym e)
 
 -- labels stay as they are
-pub open_same : {A : Type 0} → (fs : List (Frame A)) (n q : ℕ) → open_label fs n ≡ Ok q → q ≡ n
+pub open_same : {A : Type 0} → (fs : List (SequenceFrame A)) (n q : ℕ) → open_label fs n ≡ Ok q → q ≡ n
 open_same fs n q e = let b = bound (unless (nat_lt n (length fs)) NoSuchLabel) (λ u. Ok n) q e in let c : n ≡ q = cc b.2 in sym c
 
-pub handler_same : {A : Type 0} → (fs : List (Frame A)) (n q : ℕ) → handler_label fs n ≡ Ok q → q ≡ n
+pub handler_same : {A : Type 0} → (fs : List (SequenceFrame A)) (n q : ℕ) → handler_label fs n ≡ Ok q → q ≡ n
 handler_same fs n q e =
     let b = bound (open_label fs n) (λ m. unless (handler_at fs n) RethrowOutsideHandler >>= λ u. Ok n) q e in
     let d = bound (unless (handler_at fs n) RethrowOutsideHandler) (λ u. Ok n) q b.2 in
@@ -49,7 +49,7 @@ handler_same fs n q e =
 pub same_leads : (n q : ℕ) → q ≡ n → (let s : Result ℕ ⊥ = Ok q in s) ≡ Ok n
 same_leads n q e = ap Ok e
 
-module _ {A : Type 0} (env : Environment) (fs : List (Frame A)) where
+module _ {A : Type 0} (env : Environment) (fs : List (SequenceFrame A)) where
   named_lead : LeadAll (naming env fs) kept (kept_raw env)
   named_lead = record {
     indices = λ space n q e. number_leads (id_at env space n) q e;

@@ -8,9 +8,9 @@ use Rattle.wasm_body.specs.Control.{Action}
 use Rattle.wasm_body.specs.SourceTree.{Sequence, Empty, Single, Wrapped, IfThen, IfElse, TryCatch, TryDelegate, Clauses, Ended, Catches, CatchesAll}
 use Rattle.wasm_body.specs.Naming.{NamedOperation}
 use Rattle.wasm_body.specs.FunctionTree.{handles, delegates, Bare, bare, bare_items, bare_sequences}
-use Rattle.wasm_body.specs.NormalForm.{Typing, balances, Fate, Drops, Stays, Diverges, fate, instruction, kept_operation, with_fate, construct_type, handler_type, legacy_clauses, normal, handlers}
+use Rattle.wasm_body.specs.NormalForm.{Typing, balances, Fate, Drops, Stays, MakesUnreachable, fate, instruction, kept_operation, with_fate, construct_type, handler_type, legacy_clauses, normal, handler_sequences}
 use Rattle.wasm_body.specs.TextLaws.{NormalAgain}
-use Rattle.wasm_body.specs.RewrittenTree.{single_with_fate, is_empty, written_if, rewritten, rewritten_clauses, rewritten_body}
+use Rattle.wasm_body.specs.RewrittenTree.{single_with_fate, is_empty_sequence, written_if, rewritten, rewritten_clauses, rewritten_body}
 use Rattle.wasm_body.proofs.NormalForm.Rewritten.{Named, emptied, second_holds}
 use Rattle.wasm_body.proofs.NormalForm.NamedTexts.{text_is_body}
 use Rattle.wasm_body.proofs.Structure.ReadingTrees.{one_body}
@@ -21,7 +21,7 @@ single_again : (m : Typing) (a : Named) (action : Action) (f : Fate) → fate ac
 single_again m a action Drops h r r' e = e
 single_again m a action Stays h r r' e =
     ap (λ f. bare_items (with_fate f (instruction a []) (normal m r'))) h ∙ ap (λ x. item (bare (instruction a [])) no_sequences x) e
-single_again m a action Diverges h r r' e = ap (λ f. bare_items (with_fate f (instruction a []) (normal m Empty))) h
+single_again m a action MakesUnreachable h r r' e = ap (λ f. bare_items (with_fate f (instruction a []) (normal m Empty))) h
 
 clauses_again : (balanced : NamedOperation → Bool) (cs : Clauses Named) → legacy_clauses (rewritten_clauses balanced cs) ≡ legacy_clauses cs
 clauses_again balanced (Ended e) = refl
@@ -61,21 +61,21 @@ module _ (balanced : NamedOperation → Bool) (m : Typing) where
         if_again m (balanced a.op) a b (rewritten balanced b) e.location Empty Empty default_location r (rewritten balanced r)
         (λ h. refl) (again b) refl (again r)
     again (IfElse a b l c e r) =
-        if_again m (balanced a.op && is_empty (rewritten balanced c)) a b (rewritten balanced b) l.location c (rewritten balanced c) e.location r (rewritten balanced r)
+        if_again m (balanced a.op && is_empty_sequence (rewritten balanced c)) a b (rewritten balanced b) l.location c (rewritten balanced c) e.location r (rewritten balanced r)
         (λ h. sym (again c)
-        ∙ ap (λ s. bare_items (normal m s)) (emptied (rewritten balanced c) (second_holds (balanced a.op) (is_empty (rewritten balanced c)) h)))
+        ∙ ap (λ s. bare_items (normal m s)) (emptied (rewritten balanced c) (second_holds (balanced a.op) (is_empty_sequence (rewritten balanced c)) h)))
         (again b) (again c) (again r)
     again (TryCatch a b cs r) =
-        let inside = sequence (construct_type m a.op) (bare_items (normal m (rewritten balanced b))) (bare_sequences (handlers m a.op (rewritten_clauses balanced cs))) in
+        let inside = sequence (construct_type m a.op) (bare_items (normal m (rewritten balanced b))) (bare_sequences (handler_sequences m a.op (rewritten_clauses balanced cs))) in
         ap (λ l. item (kept_operation a.op, l) inside (bare_items (normal m (rewritten balanced r)))) (clauses_again balanced cs)
         ∙ item_again (kept_operation a.op, legacy_clauses cs) (construct_type m a.op) (again b) (handlers_again a.op cs) (again r)
     again (TryDelegate a b e n r) = item_again (bare (instruction a (delegates n ∷ []))) (construct_type m a.op) (again b) refl (again r)
 
     handlers_again : (o : NamedOperation) (cs : Clauses Named)
-        → bare_sequences (handlers m o (rewritten_clauses balanced cs)) ≡ bare_sequences (handlers m o cs)
+        → bare_sequences (handler_sequences m o (rewritten_clauses balanced cs)) ≡ bare_sequences (handler_sequences m o cs)
     handlers_again o (Ended e) = refl
     handlers_again o (Catches a t b cs) =
-        ap (λ x. sequence (handler_type m o (m.tag_parameters t)) x (bare_sequences (handlers m o (rewritten_clauses balanced cs)))) (again b)
+        ap (λ x. sequence (handler_type m o (m.tag_parameters t)) x (bare_sequences (handler_sequences m o (rewritten_clauses balanced cs)))) (again b)
         ∙ ap (λ x. sequence (handler_type m o (m.tag_parameters t)) (bare_items (normal m b)) x) (handlers_again o cs)
     handlers_again o (CatchesAll a b e) = ap (λ x. sequence (handler_type m o []) x no_sequences) (again b)
 

@@ -10,8 +10,8 @@ use Rattle.wasm_body.specs.SourceTree.{Sequence, Empty, Single, Wrapped, IfThen,
 use Rattle.wasm_body.specs.Translation.{Located}
 use Rattle.wasm_body.specs.Naming.{NamedOperation, block_types}
 use Rattle.wasm_body.specs.FunctionTree.{Head, LegacyClause, Instruction, last_location}
-use Rattle.wasm_body.specs.NormalForm.{Typing, Fate, Drops, Stays, Diverges, fate, legacy_clauses}
-use Rattle.wasm_body.specs.RewrittenTree.{end_at, else_at, catch_at, catch_all_at, delegate_at, single_with_fate, is_empty, written_if, rewritten, rewritten_clauses}
+use Rattle.wasm_body.specs.NormalForm.{Typing, Fate, Drops, Stays, MakesUnreachable, fate, legacy_clauses}
+use Rattle.wasm_body.specs.RewrittenTree.{end_at, else_at, catch_at, catch_all_at, delegate_at, single_with_fate, is_empty_sequence, written_if, rewritten, rewritten_clauses}
 use Rattle.wasm_body.specs.FlatText.{TextOperation, are_lawful, are_handlers, if_closers, try_closers, closers, written_in_if, written_inside}
 use Rattle.wasm_body.specs.Typed.{IsOpener, IsTypedAs}
 use Rattle.wasm_body.proofs.Structure.Along.{Each, EachIn, HasControl}
@@ -25,7 +25,7 @@ Sourced m a c = HasControl a c × IsTypedAs m (role_of a.op.opcode) a.op
 
 -- ---- nothing is written
 
-pub emptied : (s : Sequence Named) → is_empty s ≡ true → s ≡ Empty
+pub emptied : (s : Sequence Named) → is_empty_sequence s ≡ true → s ≡ Empty
 emptied Empty h = refl
 emptied _ h = absurd (cc h)
 
@@ -45,7 +45,7 @@ module _ (balanced : NamedOperation → Bool) (P Q : Named → Control → Type 
   each_fate : (f : Fate) (a : Named) (action : Action) (r : Sequence Named) → P a (Does action) → Each Q r → Each Q (single_with_fate f a action r)
   each_fate Drops a action r h g = g
   each_fate Stays a action r h g = (kept a action h, g)
-  each_fate Diverges a action r h g = (kept a action h, tt)
+  each_fate MakesUnreachable a action r h g = (kept a action h, tt)
 
   each_if : (t : Bool) (a : Named) (b : Sequence Named) (l : ℕ) (c : Sequence Named) (m : ℕ) (r : Sequence Named)
       → Q a (Opens If) → Each Q b → Each Q c → Each Q r → Each Q (written_if t a b l c m r)
@@ -61,7 +61,7 @@ module _ (balanced : NamedOperation → Bool) (P Q : Named → Control → Type 
         each_if (balanced a.op) a (rewritten balanced b) e.location Empty default_location (rewritten balanced r)
         (opened a If h.0) (each_rewritten b h.1) tt (each_rewritten r h.3)
     each_rewritten (IfElse a b l c e r) h =
-        each_if (balanced a.op && is_empty (rewritten balanced c)) a (rewritten balanced b) l.location (rewritten balanced c) e.location (rewritten balanced r)
+        each_if (balanced a.op && is_empty_sequence (rewritten balanced c)) a (rewritten balanced b) l.location (rewritten balanced c) e.location (rewritten balanced r)
         (opened a If h.0) (each_rewritten b h.1) (each_rewritten c h.3) (each_rewritten r h.5)
     each_rewritten (TryCatch a b cs r) h = (opened a Try h.0, each_rewritten b h.1, each_clause cs h.2, each_rewritten r h.3)
     each_rewritten (TryDelegate a b e n r) h = (opened a Try h.0, each_rewritten b h.1, delegated e n default_location h.2, each_rewritten r h.3)
@@ -78,7 +78,7 @@ module _ (balanced : NamedOperation → Bool) (P : Named → Control → Type 0)
       → Each P (single_with_fate f a action r) → Each P (single_with_fate f a action s)
   fewer_single Drops a action r s g h = g h
   fewer_single Stays a action r s g h = (h.0, g h.1)
-  fewer_single Diverges a action r s g h = (h.0, tt)
+  fewer_single MakesUnreachable a action r s g h = (h.0, tt)
 
   fewer_in_if : (t : Bool) (a : Named) (b : Sequence Named) (l : ℕ) (c : Sequence Named) (m : ℕ) (r : Sequence Named)
       → Each P (IfElse a b (else_at l) c (end_at m) r) → Each P (written_if t a b l c m r)
@@ -94,7 +94,7 @@ module _ (balanced : NamedOperation → Bool) (P : Named → Control → Type 0)
         fewer_in_if (balanced a.op) a (rewritten balanced b) e.location Empty default_location (rewritten balanced r)
         (h.0, each_fewer b h.1, h.2, tt, h.4, each_fewer r h.5)
     each_fewer (IfElse a b l c e r) h =
-        fewer_in_if (balanced a.op && is_empty (rewritten balanced c)) a (rewritten balanced b) l.location (rewritten balanced c) e.location (rewritten balanced r)
+        fewer_in_if (balanced a.op && is_empty_sequence (rewritten balanced c)) a (rewritten balanced b) l.location (rewritten balanced c) e.location (rewritten balanced r)
         (h.0, each_fewer b h.1, h.2, each_fewer c h.3, h.4, each_fewer r h.5)
     each_fewer (TryCatch a b cs r) h = (h.0, each_fewer b h.1, clauses_fewer cs h.2, each_fewer r h.3)
     each_fewer (TryDelegate a b e n r) h = (h.0, each_fewer b h.1, h.2, each_fewer r h.3)

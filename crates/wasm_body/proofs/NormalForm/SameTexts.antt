@@ -14,8 +14,8 @@ use Rattle.wasm_numbers.specs.Results.{◌>>=◌, gather}
 use Rattle.wasm_body.specs.Control.{Role, an_if, role_of, end_operation}
 use Rattle.wasm_body.specs.Translation.{translate, Located, at_location}
 use Rattle.wasm_body.specs.FunctionTree.{Head, LegacyClause, Instruction, Bare, bare, bare_items, bare_sequences}
-use Rattle.wasm_body.specs.FlatText.{Writing, TextTranslation, TextOperation, are_lawful, has_none, one_or_both, written_in_if, written_inside, written_items, written_sequences, closers, if_closers, written, typed, first_type, text, texts}
-use Rattle.wasm_body.specs.Bytes.{with_numbers, numbered_text, bytes_of}
+use Rattle.wasm_body.specs.FlatText.{Writing, TextTranslation, TextOperation, are_lawful, has_none, one_or_both, written_in_if, written_inside, written_items, written_sequences, closers, if_closers, written, with_block_type, first_type, items_text, sequences_text}
+use Rattle.wasm_body.specs.Bytes.{writing_numbers, numbered_text, bytes_of}
 use Rattle.wasm_body.specs.ReadBack.{SameBytes}
 use Rattle.wasm_body.specs.TextLaws.{without_locations, SameTexts}
 use Rattle.wasm_body.proofs.Translation.Steps.{after_one}
@@ -30,7 +30,7 @@ bare_type no_sequences = Simple None
 bare_type (sequence t is r) = t
 
 abbrev bare_opened : {M C : Type 0} → TextTranslation M C → Bare → InstrSeqType → Result (Operation M C) EmitError
-bare_opened w i t = if are_lawful i.1 then translate (typed w t) i.0 else Err BadClauses
+bare_opened w i t = if are_lawful i.1 then translate (with_block_type w t) i.0 else Err BadClauses
 
 abbrev mutual
   bare_text : {M C : Type 0} → TextTranslation M C → Items InstrSeqType Bare → List (Result (Operation M C) EmitError)
@@ -111,9 +111,9 @@ located_bare (Ok x) l = refl
 located_bare (Err e) l = refl
 
 opened_bare : {M C : Type 0} → (w : TextTranslation M C) (b : Bool) (i : Instruction) (t : InstrSeqType)
-    → without_location (if b then (translate (typed w t) i.op >>= λ x. Ok (at_location x i.location)) else Err BadClauses)
-    ≡ (if b then translate (typed w t) i.op else Err BadClauses)
-opened_bare w true i t = located_bare (translate (typed w t) i.op) i.location
+    → without_location (if b then (translate (with_block_type w t) i.op >>= λ x. Ok (at_location x i.location)) else Err BadClauses)
+    ≡ (if b then translate (with_block_type w t) i.op else Err BadClauses)
+opened_bare w true i t = located_bare (translate (with_block_type w t) i.op) i.location
 opened_bare w false i t = refl
 
 type_bare : (ss : Sequences Head Instruction) → first_type ss ≡ bare_type (bare_sequences ss)
@@ -131,26 +131,26 @@ closers_bare _ cs ss = refl
 
 mutual
   text_bare : {M C : Type 0} → (w : TextTranslation M C) (is : Items Head Instruction) (k : List (Result (Located (Operation M C)) EmitError))
-      → map without_location (text w is k) ≡ bare_text w (bare_items is) (map without_location k)
+      → map without_location (items_text w is k) ≡ bare_text w (bare_items is) (map without_location k)
   text_bare w no_items k = refl
   text_bare w (item i ss r) k =
       let role = role_of i.op.opcode in
       let ts = bare_sequences ss in
       let here = bare_opened w (bare i) (bare_type ts) in
-      ap (λ x. x ∷ map without_location (texts w (closers role i.clauses ss) ss (text w r k)))
+      ap (λ x. x ∷ map without_location (sequences_text w (closers role i.clauses ss) ss (items_text w r k)))
       (opened_bare w (are_lawful i.clauses) i (first_type ss) ∙ ap (λ t. bare_opened w (bare i) t) (type_bare ss))
-      ∙ (ap (λ l. here ∷ l) (texts_bare w (closers role i.clauses ss) ss (text w r k))
-      ∙ (ap (λ l. here ∷ bare_texts w l ts (map without_location (text w r k))) (closers_bare role i.clauses ss)
+      ∙ (ap (λ l. here ∷ l) (texts_bare w (closers role i.clauses ss) ss (items_text w r k))
+      ∙ (ap (λ l. here ∷ bare_texts w l ts (map without_location (items_text w r k))) (closers_bare role i.clauses ss)
       ∙ ap (λ l. here ∷ bare_texts w (closers role i.clauses ts) ts l) (text_bare w r k)))
 
   texts_bare : {M C : Type 0}
       → (w : TextTranslation M C) (cs : List TextOperation) (ss : Sequences Head Instruction) (k : List (Result (Located (Operation M C)) EmitError))
-      → map without_location (texts w cs ss k) ≡ bare_texts w cs (bare_sequences ss) (map without_location k)
+      → map without_location (sequences_text w cs ss k) ≡ bare_texts w cs (bare_sequences ss) (map without_location k)
   texts_bare w cs no_sequences k = refl
   texts_bare w [] (sequence h is r) k = refl
   texts_bare w (c ∷ cs) (sequence h is r) k =
-      text_bare w is (written w c h.end_location ∷ texts w cs r k)
-      ∙ (ap (λ x. bare_text w (bare_items is) (x ∷ map without_location (texts w cs r k))) (located_bare (translate w c) h.end_location)
+      text_bare w is (written w c h.end_location ∷ sequences_text w cs r k)
+      ∙ (ap (λ x. bare_text w (bare_items is) (x ∷ map without_location (sequences_text w cs r k))) (located_bare (translate w c) h.end_location)
       ∙ ap (λ l. bare_text w (bare_items is) (translate w c ∷ l)) (texts_bare w cs r k))
 
 gathered_bare : {X : Type 0} → (rs : List (Result (Located X) EmitError))
@@ -171,11 +171,11 @@ same_texts M C w t u h =
     let rs = written_sequences w.balanced (alone u) in
     let same : bare_sequences ss ≡ bare_sequences rs =
     written_each_bare w.balanced (alone t) ∙ (ap (bare_written_each w.balanced) h ∙ sym (written_each_bare w.balanced (alone u))) in
-    gathered_bare (texts w.translation (end_operation ∷ []) ss [])
+    gathered_bare (sequences_text w.translation (end_operation ∷ []) ss [])
     ∙ (ap gather (texts_bare w.translation (end_operation ∷ []) ss [])
     ∙ (ap (λ s. gather (bare_texts w.translation (end_operation ∷ []) s [])) same
     ∙ (sym (ap gather (texts_bare w.translation (end_operation ∷ []) rs []))
-    ∙ sym (gathered_bare (texts w.translation (end_operation ∷ []) rs [])))))
+    ∙ sym (gathered_bare (sequences_text w.translation (end_operation ∷ []) rs [])))))
 
 -- ---- and the same bytes, or the same fault
 
@@ -192,5 +192,5 @@ pub same_bytes : SameBytes
 same_bytes to t u h =
     bytes_bare (numbered_text to t)
     ∙ (after_one (without_locations (numbered_text to t)) (without_locations (numbered_text to u)) (λ os. Ok (flat_map short os))
-    (same_texts ℕ BlockType (with_numbers to) t u h)
+    (same_texts ℕ BlockType (writing_numbers to) t u h)
     ∙ sym (bytes_bare (numbered_text to u)))

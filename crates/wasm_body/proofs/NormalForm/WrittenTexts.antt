@@ -22,14 +22,14 @@ use Rattle.wasm_body.specs.SourceTree.{Sequence, Empty, Single, Wrapped, IfThen,
 use Rattle.wasm_body.specs.Translation.{Translation, relabelled, translate, translate_immediate, translate_immediates, translate_clause, translate_heap, translate_value, translate_tag, translate_cast, Located, at_location}
 use Rattle.wasm_body.specs.Naming.{NamedOperation, block_types}
 use Rattle.wasm_body.specs.FunctionTree.{Target, Depth, Head, LegacyClause, delegates, Instruction, last_location}
-use Rattle.wasm_body.specs.NormalForm.{Typing, kept, Fate, Drops, Stays, Diverges, fate, instruction, with_fate, head, construct_type, handler_type, legacy_clauses, closed_at, normal, handlers, normal_form, kept_operation}
-use Rattle.wasm_body.specs.FlatText.{Writing, TextTranslation, are_lawful, try_closers, closers, has_none, one_or_both, written_items, written_sequences, written, typed, opened, first_type, texts, tree_text, to_ids, with_ids, then_by, text as items_text}
-use Rattle.wasm_body.specs.Bytes.{Numbers, numbering, with_numbers, numbered_text, bytes_of, tree_bytes}
+use Rattle.wasm_body.specs.NormalForm.{Typing, kept, Fate, Drops, Stays, MakesUnreachable, fate, instruction, with_fate, head, construct_type, handler_type, legacy_clauses, closed_at, normal, handler_sequences, normal_form, kept_operation}
+use Rattle.wasm_body.specs.FlatText.{Writing, TextTranslation, are_lawful, try_closers, closers, has_none, one_or_both, written_items, written_sequences, written, with_block_type, opener_text, first_type, sequences_text, tree_text, to_ids, with_ids, then_by, items_text as items_text}
+use Rattle.wasm_body.specs.Bytes.{Numbers, numbering, writing_numbers, numbered_text, bytes_of, tree_bytes}
 use Rattle.wasm_body.proofs.NormalForm.Exponents.{exponent_of-pow}
 use Rattle.wasm_body.proofs.Structure.Along.{Each, EachIn, HasControl}
 use Rattle.wasm_body.proofs.Translation.Steps.{Leads, after_one, after_two, all_of, each-ok, ok-infallible, bound}
 use Rattle.wasm_body.proofs.Translation.Translations.{LeadAll, lead_all, translate_leads}
-use Rattle.wasm_body.specs.RewrittenTree.{end_at, else_at, catch_at, catch_all_at, delegate_at, single_with_fate, is_empty, written_if, rewritten, rewritten_clauses, rewritten_body_by}
+use Rattle.wasm_body.specs.RewrittenTree.{end_at, else_at, catch_at, catch_all_at, delegate_at, single_with_fate, is_empty_sequence, written_if, rewritten, rewritten_clauses, rewritten_body_by}
 use Rattle.wasm_body.proofs.NormalForm.Rewritten.{Named, closers_by, closers_control, inside_by, inside_controls, wrapper_closers, wrapper_inside, clauses_lawful}
 
 -- ---- the text of a named operator in the tree
@@ -45,7 +45,7 @@ module _ {M C : Type 0} (w : TextTranslation M C) where
   kept_label : (n : ℕ) (q : Target) → (let s : Result Target ⊥ = Ok (Depth n) in s) ≡ Ok q → w.label q ≡ w.label (Depth n)
   kept_label n q e = let same : Depth n ≡ q = cc e in ap w.label (sym same)
 
-  kept_lead : (t : InstrSeqType) → LeadAll kept (typed w t) (named_by t)
+  kept_lead : (t : InstrSeqType) → LeadAll kept (with_block_type w t) (named_by t)
   kept_lead t = record {
     indices = λ space n. kept_number (w.index space) n;
     locals = kept_number w.local;
@@ -57,12 +57,12 @@ module _ {M C : Type 0} (w : TextTranslation M C) where
     counts = λ n u e. refl;
   }
 
-  pub named_written : (t : InstrSeqType) (o : NamedOperation) → translate (typed w t) (kept_operation o) ≡ translate (named_by t) o
+  pub named_written : (t : InstrSeqType) (o : NamedOperation) → translate (with_block_type w t) (kept_operation o) ≡ translate (named_by t) o
   named_written t o =
-      after_one (translate_immediates (typed w t) (kept_operation o).immediates) (translate_immediates (named_by t) o.immediates)
+      after_one (translate_immediates (with_block_type w t) (kept_operation o).immediates) (translate_immediates (named_by t) o.immediates)
       (λ is. Ok (record { opcode = o.opcode; immediates = is }))
-      (translate_leads kept (typed w t) (named_by t) o.immediates
-      (lead_all kept (typed w t) (named_by t) (kept_lead t) o.immediates (all_of (Leads kept.block (typed w t).block (named_by t).block) (λ b c h. refl) (block_types o.immediates)))
+      (translate_leads kept (with_block_type w t) (named_by t) o.immediates
+      (lead_all kept (with_block_type w t) (named_by t) (kept_lead t) o.immediates (all_of (Leads kept.block (with_block_type w t).block (named_by t).block) (λ b c h. refl) (block_types o.immediates)))
       (kept_operation o).immediates (ok-infallible (translate_immediates kept o.immediates)))
 
 -- the type that an operator is written with
@@ -84,10 +84,10 @@ module _ {M C : Type 0} (w : TextTranslation M C) (m : Typing) where
   abbrev pub written_result : Marked Named → WrittenResult
   written_result x = result_at (type_at m x.control x.shown.op) x.shown
 
-  opened_by : (a : Named) (cs : List LegacyClause) (t : InstrSeqType) → are_lawful cs ≡ true → opened w (instruction a cs) t ≡ result_at t a
+  opened_by : (a : Named) (cs : List LegacyClause) (t : InstrSeqType) → are_lawful cs ≡ true → opener_text w (instruction a cs) t ≡ result_at t a
   opened_by a cs t h =
-      ap (λ b. if b then (translate (typed w t) (kept_operation a.op) >>= λ x. Ok (at_location x a.location)) else Err BadClauses) h
-      ∙ after_one (translate (typed w t) (kept_operation a.op)) (translate (named_by w t) a.op) (λ x. Ok (at_location x a.location)) (named_written w t a.op)
+      ap (λ b. if b then (translate (with_block_type w t) (kept_operation a.op) >>= λ x. Ok (at_location x a.location)) else Err BadClauses) h
+      ∙ after_one (translate (with_block_type w t) (kept_operation a.op)) (translate (named_by w t) a.op) (λ x. Ok (at_location x a.location)) (named_written w t a.op)
 
   -- the text of an opener
   abbrev first_of : Named → WrittenResult
@@ -109,18 +109,18 @@ module _ {M C : Type 0} (w : TextTranslation M C) (m : Typing) where
 
     -- an instruction, and the sequences in it that are written
     abbrev item_text : Named → List LegacyClause → Control → Sequences Head Instruction → List WrittenResult → List WrittenResult
-    item_text a cs c ss l = result_at (first_type ss) a ∷ texts w (closers_by c cs ss) ss l
+    item_text a cs c ss l = result_at (first_type ss) a ∷ sequences_text w (closers_by c cs ss) ss l
 
     item_at : (a : Named) (cs : List LegacyClause) (c : Control) (ss : Sequences Head Instruction) (l : List WrittenResult) → are_lawful cs ≡ true → HasControl a c
-        → opened w (instruction a cs) (first_type ss) ∷ texts w (closers (role_of a.op.opcode) cs ss) ss l ≡ item_text a cs c ss l
+        → opener_text w (instruction a cs) (first_type ss) ∷ sequences_text w (closers (role_of a.op.opcode) cs ss) ss l ≡ item_text a cs c ss l
     item_at a cs c ss l lawful h =
-        ap (λ d. opened w (instruction a cs) (first_type ss) ∷ texts w d ss l) (closers_control a c h cs ss)
-        ∙ ap (λ x. x ∷ texts w (closers_by c cs ss) ss l) (opened_by a cs (first_type ss) lawful)
+        ap (λ d. opener_text w (instruction a cs) (first_type ss) ∷ sequences_text w d ss l) (closers_control a c h cs ss)
+        ∙ ap (λ x. x ∷ sequences_text w (closers_by c cs ss) ss l) (opened_by a cs (first_type ss) lawful)
 
     item_by : (a : Named) (cs : List LegacyClause) (c : Control) (ss : Sequences Head Instruction) (r : Items Head Instruction) (k : List WrittenResult) → are_lawful cs ≡ true → HasControl a c
         → flat (item (instruction a cs) ss r) k ≡ item_text a cs c (inside_by balanced c (written_sequences balanced ss)) (flat r k)
     item_by a cs c ss r k lawful h =
-        ap (λ ts. opened w (instruction a cs) (first_type ts) ∷ texts w (closers (role_of a.op.opcode) cs ts) ts (flat r k))
+        ap (λ ts. opener_text w (instruction a cs) (first_type ts) ∷ sequences_text w (closers (role_of a.op.opcode) cs ts) ts (flat r k))
         (inside_controls balanced a c h (written_sequences balanced ss))
         ∙ item_at a cs c (inside_by balanced c (written_sequences balanced ss)) (flat r k) lawful h
 
@@ -128,14 +128,14 @@ module _ {M C : Type 0} (w : TextTranslation M C) (m : Typing) where
         flat n (map written_result k) ≡ map written_result (text r k) → flat (with_fate f (instruction a []) n) (map written_result k) ≡ map written_result (text (single_with_fate f a action r) k)
     fate_by Drops a action n r k h e = e
     fate_by Stays a action n r k h e = item_by a [] (Does action) no_sequences n (map written_result k) refl h ∙ ap (λ l. result_at (Simple None) a ∷ l) e
-    fate_by Diverges a action n r k h e = item_by a [] (Does action) no_sequences no_items (map written_result k) refl h
+    fate_by MakesUnreachable a action n r k h e = item_by a [] (Does action) no_sequences no_items (map written_result k) refl h
 
     wrapped_by : (v : Wrapper) (a : Named) (h : Head) (is : Items Head Instruction) (l : List WrittenResult)
         → item_text a [] (Opens (construct_of v)) (inside_by balanced (Opens (construct_of v)) (sequence h is no_sequences)) l
         ≡ result_at h.type a ∷ items_text w is (written w end_operation h.end_location ∷ l)
     wrapped_by v a h is l =
         ap (λ ss. item_text a [] (Opens (construct_of v)) ss l) (wrapper_inside balanced v (sequence h is no_sequences))
-        ∙ ap (λ cs. result_at h.type a ∷ texts w cs (sequence h is no_sequences) l) (wrapper_closers v h is)
+        ∙ ap (λ cs. result_at h.type a ∷ sequences_text w cs (sequence h is no_sequences) l) (wrapper_closers v h is)
 
     -- an `if`, with or without an `else`
     if_by : (t : Bool) (a : Named) (b : Sequence Named) (l : ℕ) (c : Sequence Named) (n : ℕ) (r : Sequence Named) (k : List (Marked Named)) (is js : Items Head Instruction) →
@@ -151,21 +151,21 @@ module _ {M C : Type 0} (w : TextTranslation M C) (m : Typing) where
 
     -- an alternative without instructions is one for which nothing is written
     none_of_fate : (f : Fate) (a : Named) (action : Action) (n : Items Head Instruction) (r : Sequence Named)
-        → has_none (shortened n) ≡ is_empty r → has_none (shortened (with_fate f (instruction a []) n)) ≡ is_empty (single_with_fate f a action r)
+        → has_none (shortened n) ≡ is_empty_sequence r → has_none (shortened (with_fate f (instruction a []) n)) ≡ is_empty_sequence (single_with_fate f a action r)
     none_of_fate Drops a action n r h = h
     none_of_fate Stays a action n r h = refl
-    none_of_fate Diverges a action n r h = refl
+    none_of_fate MakesUnreachable a action n r h = refl
 
-    none_of_if : (t : Bool) (a : Named) (b : Sequence Named) (l : ℕ) (c : Sequence Named) (n : ℕ) (r : Sequence Named) → false ≡ is_empty (written_if t a b l c n r)
+    none_of_if : (t : Bool) (a : Named) (b : Sequence Named) (l : ℕ) (c : Sequence Named) (n : ℕ) (r : Sequence Named) → false ≡ is_empty_sequence (written_if t a b l c n r)
     none_of_if true a b l c n r = refl
     none_of_if false a b l c n r = refl
 
-    none_by : (s : Sequence Named) → has_none (shortened (normal m s)) ≡ is_empty (anew s)
+    none_by : (s : Sequence Named) → has_none (shortened (normal m s)) ≡ is_empty_sequence (anew s)
     none_by Empty = refl
     none_by (Single a action r) = none_of_fate (fate action) a action (normal m r) (anew r) (none_by r)
     none_by (Wrapped a v b e r) = refl
     none_by (IfThen a b e r) = none_of_if (balances_for a.op) a (anew b) e.location Empty default_location (anew r)
-    none_by (IfElse a b l c e r) = none_of_if (balances_for a.op && is_empty (anew c)) a (anew b) l.location (anew c) e.location (anew r)
+    none_by (IfElse a b l c e r) = none_of_if (balances_for a.op && is_empty_sequence (anew c)) a (anew b) l.location (anew c) e.location (anew r)
     none_by (TryCatch a b cs r) = refl
     none_by (TryDelegate a b e n r) = refl
 
@@ -194,12 +194,12 @@ module _ {M C : Type 0} (w : TextTranslation M C) (m : Typing) where
           item_by a [] (Opens If) (sequence first (normal m b) (sequence second (normal m c) no_sequences)) (normal m r) (map written_result k) refl h.0
           ∙ (ap (λ x. item_text a [] (Opens If) (inside (has_none (shortened (normal m c)))) x) (text_by r k h.5)
           ∙ (ap (λ t. item_text a [] (Opens If) (inside t) (map written_result (text (anew r) k))) (none_by c)
-          ∙ if_by (balances_for a.op && is_empty (anew c)) a (anew b) l.location (anew c) e.location (anew r) k (shortened (normal m b)) (shortened (normal m c))
+          ∙ if_by (balances_for a.op && is_empty_sequence (anew c)) a (anew b) l.location (anew c) e.location (anew r) k (shortened (normal m b)) (shortened (normal m c))
           (λ x. text_by b x h.1) (λ x. text_by c x h.3)))
       text_by (TryCatch a b cs r) k h =
           let first = head (construct_type m a.op) (closed_at cs) in
-          item_by a (legacy_clauses cs) (Opens Try) (sequence first (normal m b) (handlers m a.op cs)) (normal m r) (map written_result k) (clauses_lawful cs) h.0
-          ∙ (ap (λ x. first_of a ∷ texts w (try_closers (legacy_clauses cs)) (sequence first (shortened (normal m b)) (written_sequences balanced (handlers m a.op cs))) x) (text_by r k h.3)
+          item_by a (legacy_clauses cs) (Opens Try) (sequence first (normal m b) (handler_sequences m a.op cs)) (normal m r) (map written_result k) (clauses_lawful cs) h.0
+          ∙ (ap (λ x. first_of a ∷ sequences_text w (try_closers (legacy_clauses cs)) (sequence first (shortened (normal m b)) (written_sequences balanced (handler_sequences m a.op cs))) x) (text_by r k h.3)
           ∙ ap (λ x. first_of a ∷ x) (clauses_by a.op (construct_type m a.op) b (λ l. text_by b l h.1) cs (text (anew r) k) h.2))
       text_by (TryDelegate a b e n r) k h =
           item_by a (delegates n ∷ []) (Opens Try) (sequence (head (construct_type m a.op) default_location) (normal m b) no_sequences) (normal m r) (map written_result k) refl h.0
@@ -209,7 +209,7 @@ module _ {M C : Type 0} (w : TextTranslation M C) (m : Typing) where
       clauses_by : (o : NamedOperation) (t : InstrSeqType) (b : Sequence Named) →
           ((k : List (Marked Named)) → flat (normal m b) (map written_result k) ≡ map written_result (text (anew b) k)) →
           (cs : Clauses Named) (k : List (Marked Named)) → EachIn HasControl cs →
-          texts w (try_closers (legacy_clauses cs)) (sequence (head t (closed_at cs)) (shortened (normal m b)) (written_sequences balanced (handlers m o cs))) (map written_result k)
+          sequences_text w (try_closers (legacy_clauses cs)) (sequence (head t (closed_at cs)) (shortened (normal m b)) (written_sequences balanced (handler_sequences m o cs))) (map written_result k)
           ≡ map written_result (text (anew b) (clauses_text (rewritten_clauses balances_for cs) k))
       clauses_by o t b body (Ended e) k g = body (with_control (end_at e.location) End ∷ k)
       clauses_by o t b body (Catches a tag c cs) k g =
@@ -361,7 +361,7 @@ module _ (to : Numbers) (m : Typing) where
   pub numbered_bytes : (b : Body Named) (bytes : List ℕ) → Each HasControl b.sequence → tree_bytes to (normal_form m b) ≡ Ok bytes →
       AllByRecursion IsNumbered (body_text (anew_by to.balanced m b)) × (bytes ≡ bytes_as (body_text (anew_by to.balanced m b)))
   numbered_bytes b bytes h e =
-      let texts = bound (numbered_text to (normal_form m b)) (λ xs. Ok (bytes_of xs)) bytes e in
-      let is : bytes_of texts.0 ≡ bytes = cc texts.2 in
-      let all = numbered_by (body_text (anew_by to.balanced m b)) texts.0 (sym (tree_text_by (with_numbers to) m b h) ∙ texts.1) in
+      let sequences_text = bound (numbered_text to (normal_form m b)) (λ xs. Ok (bytes_of xs)) bytes e in
+      let is : bytes_of sequences_text.0 ≡ bytes = cc sequences_text.2 in
+      let all = numbered_by (body_text (anew_by to.balanced m b)) sequences_text.0 (sym (tree_text_by (writing_numbers to) m b h) ∙ sequences_text.1) in
       (all.0, sym is ∙ all.1)

@@ -3,7 +3,7 @@ use Rattle.std.proofs.Common.{◌≡◌, ℕ, ◌+◌, ◌-◌, ◌<◌, ◌≤�
 use Rattle.wasm_operators.specs.OperatorList.{Placed, Lists}
 use Rattle.wasm_operators.specs.Laws.{ReadingAgrees}
 use Rattle.wasm_body.specs.declared.error.ParseError.{ParseError}
-use Rattle.wasm_body.specs.Frames.{Frame}
+use Rattle.wasm_body.specs.Frames.{SequenceFrame}
 use Rattle.wasm_body.specs.Naming.{Occurrence}
 use Rattle.wasm_body.specs.Parsing.Accepted.{placed, mark, validated, Setting, Handled, handled, FaultAfter}
 use Rattle.wasm_body.specs.Parsing.Laws.{LongestFront}
@@ -27,7 +27,7 @@ module _ {V : Type 0} (given : Setting V) (agrees : ReadingAgrees) where
   not_at_fault [] v place (x ∷ bytes) h error e s f = cannot_fail h error (sym e ∙ f)
   not_at_fault (l ∷ ls) v place (x ∷ bytes) h error e s f = cannot_fail h error (sym e ∙ f)
 
-  longest : (xs ys : List Occurrence) (p : Progress Occurrence) (v : V) (place : ℕ) (bytes : List ℕ) (q r : Progress Occurrence) (w u : V) (at to : ℕ) (rest following : List ℕ) (frames : List (Frame Occurrence)) (error : ParseError)
+  longest : (xs ys : List Occurrence) (p : Progress Occurrence) (v : V) (place : ℕ) (bytes : List ℕ) (q r : Progress Occurrence) (w u : V) (at to : ℕ) (rest following : List ℕ) (frames : List (SequenceFrame Occurrence)) (error : ParseError)
       → Over given p v place bytes xs q w at rest → Over given p v place bytes ys r u to following → progress_frames r ≡ Some frames → FaultAfter given u frames to following error
       → (more : List Occurrence) × (ys ≡ xs ++ more)
   longest [] ys p v place bytes q r w u at to rest following frames error o k e f = (ys, refl)

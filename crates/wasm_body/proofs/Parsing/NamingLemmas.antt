@@ -4,14 +4,14 @@ use Rattle.wasm_operators.specs.Operations.{Immediate, Operation, RawOperation}
 use Rattle.wasm_body.specs.declared.error.ParseError.{ParseError}
 use Rattle.wasm_numbers.specs.Results.{◌>>=◌}
 use Rattle.wasm_body.specs.Control.{Role, a_plain, control_by, control_of, role_of}
-use Rattle.wasm_body.specs.Frames.{Frame, is_allowed, moves}
+use Rattle.wasm_body.specs.Frames.{SequenceFrame, is_allowed, moves}
 use Rattle.wasm_body.specs.Translation.{Translation, translate, translate_immediates}
 use Rattle.wasm_body.specs.Naming.{Environment, NamedOperation, Occurrence, named_in, naming, has_types, allowed, position_fault}
 use Rattle.wasm_body.proofs.Structure.ReadFrames.{may_move}
 use Rattle.wasm_numbers.proofs.ResultLemmas.{bind_ok, unless_ok, ok_same}
 
 -- whether an operator is allowed somewhere depends only on its opcode
-pub same_allowed : {A B C : Type 0} (fs : List (Frame A)) (r : Role) (is : List (Immediate ℕ B)) (js : List (Immediate ℕ C)) → is_allowed fs (control_by r is) ≡ is_allowed fs (control_by r js)
+pub same_allowed : {A B C : Type 0} (fs : List (SequenceFrame A)) (r : Role) (is : List (Immediate ℕ B)) (js : List (Immediate ℕ C)) → is_allowed fs (control_by r is) ≡ is_allowed fs (control_by r js)
 same_allowed [] r is js = refl
 same_allowed (f ∷ fs) a_plain is js = refl
 same_allowed (f ∷ fs) _ is js = refl
@@ -22,12 +22,12 @@ same_opcode {M = M} {C = C} {E = E} t o p e =
     sym (ap (λ (z : Operation M C). z.opcode) (ok_same {E = E} (record { opcode = o.opcode; immediates = b.0 }) p b.2))
 
 -- the parts of a name
-pub record Named (env : Environment) (fs : List (Frame Occurrence)) (o : RawOperation) (n : NamedOperation) : Type 0 where
+pub record Named (env : Environment) (fs : List (SequenceFrame Occurrence)) (o : RawOperation) (n : NamedOperation) : Type 0 where
   pub allowed : is_allowed fs (control_of o) ≡ true
   pub translated : translate (naming env fs) o ≡ Ok n
   pub typed : has_types env fs (control_of n) n ≡ Ok tt
 
-pub named_parts : (env : Environment) (fs : List (Frame Occurrence)) (o : RawOperation) (n : NamedOperation) → named_in env fs o ≡ Ok n → Named env fs o n
+pub named_parts : (env : Environment) (fs : List (SequenceFrame Occurrence)) (o : RawOperation) (n : NamedOperation) → named_in env fs o ≡ Ok n → Named env fs o n
 named_parts env fs o n e =
     let a = bind_ok (allowed fs (control_of o)) (λ _. translate (naming env fs) o >>= λ named. has_types env fs (control_of named) named >>= λ _. Ok named) n e in
     let b = bind_ok (translate (naming env fs) o) (λ named. has_types env fs (control_of named) named >>= λ _. Ok named) n a.2 in
@@ -40,11 +40,11 @@ named_parts env fs o n e =
     }
 
 -- if the operator is allowed, its name is too
-pub named_is_allowed : (env : Environment) (fs : List (Frame Occurrence)) (o : RawOperation) (n : NamedOperation) → named_in env fs o ≡ Ok n → is_allowed fs (control_of n) ≡ true
+pub named_is_allowed : (env : Environment) (fs : List (SequenceFrame Occurrence)) (o : RawOperation) (n : NamedOperation) → named_in env fs o ≡ Ok n → is_allowed fs (control_of n) ≡ true
 named_is_allowed env fs o n e =
     let p = named_parts env fs o n e in
     let same : n.opcode ≡ o.opcode = same_opcode (naming env fs) o n p.translated in
     ap (λ c. is_allowed fs (control_by (role_of c) n.immediates)) same ∙ (same_allowed fs (role_of o.opcode) n.immediates o.immediates ∙ p.allowed)
 
-pub named_moves : (env : Environment) (fs : List (Frame Occurrence)) (o : RawOperation) (n : NamedOperation) (x : Occurrence) → named_in env fs o ≡ Ok n → (gs : List (Frame Occurrence)) × (moves (control_of n) x fs ≡ Some gs)
+pub named_moves : (env : Environment) (fs : List (SequenceFrame Occurrence)) (o : RawOperation) (n : NamedOperation) (x : Occurrence) → named_in env fs o ≡ Ok n → (gs : List (SequenceFrame Occurrence)) × (moves (control_of n) x fs ≡ Some gs)
 named_moves env fs o n x e = may_move (control_of n) x fs (named_is_allowed env fs o n e)

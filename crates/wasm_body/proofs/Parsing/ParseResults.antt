@@ -6,7 +6,7 @@ use Rattle.wasm_body.specs.declared.error.ParseError.{ParseError}
 use Rattle.wasm_body.specs.declared.error.ParseFailure.{ParseFailure}
 use Rattle.wasm_body.specs.Control.{Marked}
 use Rattle.wasm_body.specs.SourceTree.{Sequence, Body, body_text}
-use Rattle.wasm_body.specs.Frames.{Frame, function_frames, frames_after}
+use Rattle.wasm_body.specs.Frames.{SequenceFrame, function_frames, frames_after}
 use Rattle.wasm_body.specs.Naming.{Environment, Occurrence, entry_type_id}
 use Rattle.wasm_body.specs.Parsing.Accepted.{placed, mark, IsNamed, Lawful, validated, Setting, IsFront, Accepted, added_end, IsCompletedBy, FaultAfter, FirstFault, of_entry, of_operators}
 use Rattle.wasm_body.specs.Parsing.Progress.{Layer, Progress, Within, Whole, NoBody, nothing_read, frames_of, closed, append, further, progress_after}
@@ -121,7 +121,7 @@ module _ {V : Type 0} (given : Setting V) (agrees : ReadingAgrees) where
   within_stops (l ∷ ls) s w at (x ∷ rest) (suc left) error enough f = rw f refl
 
   -- after a front that was parsed, the fault is the point where parsing stops
-  fault_stops : (q : Progress Occurrence) (frames : List (Frame Occurrence)) (w : V) (at : ℕ) (rest : List ℕ) (left : ℕ) (error : ParseError) → progress_frames q ≡ Some frames → length rest ≤ left
+  fault_stops : (q : Progress Occurrence) (frames : List (SequenceFrame Occurrence)) (w : V) (at : ℕ) (rest : List ℕ) (left : ℕ) (error : ParseError) → progress_frames q ≡ Some frames → length rest ≤ left
       → FaultAfter given w frames at rest error → parsed_from given left q w at rest ≡ Err (failure error at)
   fault_stops NoBody frames w at rest left error e enough f = absurd (cc)
   fault_stops (Whole b) [] w at [] left error e enough f = absurd f
@@ -147,7 +147,7 @@ module _ {V : Type 0} (given : Setting V) (agrees : ReadingAgrees) where
   front_of bytes xs q w at rest o =
       record { spelt = o.spelt; have_locations = o.have_locations; located = o.located; passes = ok_is (validated given.check given.first (map placed xs)) w o.passes }
 
-  faulty : (bytes : List ℕ) (xs : List Occurrence) (q : Progress Occurrence) (w : V) (at : ℕ) (rest : List ℕ) (frames : List (Frame Occurrence)) (error : ParseError)
+  faulty : (bytes : List ℕ) (xs : List Occurrence) (q : Progress Occurrence) (w : V) (at : ℕ) (rest : List ℕ) (frames : List (SequenceFrame Occurrence)) (error : ParseError)
       → Over given nothing_read given.first given.start bytes xs q w at rest → IsCompletedBy given.environment xs (length frames) → progress_frames q ≡ Some frames → FaultAfter given w frames at rest error
       → FirstFault given bytes (failure error at)
   faulty bytes xs q w at rest frames error o s e f = of_operators (record {

@@ -8,7 +8,7 @@ use Rattle.wasm_operators.specs.Spelling.{Spells, read_operation}
 use Rattle.wasm_operators.specs.OperatorList.{Lists}
 use Rattle.wasm_operators.specs.Laws.{ReadingAgrees}
 use Rattle.wasm_body.specs.SourceTree.{Sequence}
-use Rattle.wasm_body.specs.Frames.{Frame}
+use Rattle.wasm_body.specs.Frames.{SequenceFrame}
 use Rattle.wasm_body.specs.Naming.{Occurrence, named_in}
 use Rattle.wasm_body.specs.Parsing.Accepted.{placed, mark, IsNamed, validated, location_at, has_location, Setting, Handled, handled}
 use Rattle.wasm_body.specs.Parsing.Progress.{Layer, Progress, Within, Whole, NoBody, frames_of, further, progress_after}
@@ -45,7 +45,7 @@ spelling_begins o text h =
     record { first = b.first; others = b.others ++ h.others; is = h.parts ∙ ap (λ (t : List ℕ). t ++ h.others) b.is }
 
 -- the result of handling an operator that passes
-handles : {V : Type 0} (given : Setting V) (v w : V) (fs : List (Frame Occurrence)) (place : ℕ) (bytes rest : List ℕ) (x : Occurrence)
+handles : {V : Type 0} (given : Setting V) (v w : V) (fs : List (SequenceFrame Occurrence)) (place : ℕ) (bytes rest : List ℕ) (x : Occurrence)
     → x.place ≡ place → read_operation bytes ≡ Ok (x.spelt, rest) → has_location given.locations x.place ≡ true → x.location ≡ location_at given.locations x.place
     → given.check v (placed x) ≡ Ok w → named_in given.environment fs x.spelt ≡ Ok x.named
     → handled given v fs place bytes ≡ Ok (record { operator = x; rest = rest; state = w })

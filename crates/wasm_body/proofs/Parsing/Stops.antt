@@ -9,7 +9,7 @@ use Rattle.wasm_body.specs.declared.error.ParseError.TheVariants.{Read, PlaceToo
 use Rattle.wasm_body.specs.declared.error.ParseFailure.{ParseFailure}
 use Rattle.wasm_numbers.specs.Results.{◌>>=◌, unless, with_fault}
 use Rattle.wasm_body.specs.SourceTree.{Sequence, Body}
-use Rattle.wasm_body.specs.Frames.{Frame}
+use Rattle.wasm_body.specs.Frames.{SequenceFrame}
 use Rattle.wasm_body.specs.Naming.{NamedOperation, Occurrence, named_in}
 use Rattle.wasm_body.specs.Parsing.Accepted.{placed, mark, IsNamed, location_at, has_location, Setting, Admitted, admitted, Handled, handled}
 use Rattle.wasm_body.specs.Parsing.Progress.{Layer, Progress, Within, Whole, NoBody, frames_of, further}
@@ -21,7 +21,7 @@ use Rattle.wasm_body.proofs.Parsing.NamingLemmas.{named_moves}
 use Rattle.wasm_body.proofs.Parsing.Parses.{Over, spelling_begins}
 
 -- the conditions that a handled operator has passed
-pub record Passed {V : Type 0} (given : Setting V) (v : V) (fs : List (Frame Occurrence)) (place : ℕ) (bytes : List ℕ) (h : Handled V) : Type 0 where
+pub record Passed {V : Type 0} (given : Setting V) (v : V) (fs : List (SequenceFrame Occurrence)) (place : ℕ) (bytes : List ℕ) (h : Handled V) : Type 0 where
   pub read : read_operation bytes ≡ Ok (h.operator.spelt, h.rest)
   pub place_is : h.operator.place ≡ place
   pub has_place : has_location given.locations h.operator.place ≡ true
@@ -49,7 +49,7 @@ are_passed {V} fits check v place bytes a e =
       with_fault_ok Checked (check v (record { spelt = b.0.0; place = place })) d.0 d.1,
     )
 
-pub passed : {V : Type 0} (given : Setting V) (v : V) (fs : List (Frame Occurrence)) (place : ℕ) (bytes : List ℕ) (h : Handled V) → handled given v fs place bytes ≡ Ok h → Passed given v fs place bytes h
+pub passed : {V : Type 0} (given : Setting V) (v : V) (fs : List (SequenceFrame Occurrence)) (place : ℕ) (bytes : List ℕ) (h : Handled V) → handled given v fs place bytes ≡ Ok h → Passed given v fs place bytes h
 passed {V} given v fs place bytes h e =
     let made = λ (a : Admitted V) (n : NamedOperation). (let r : Handled V = record { operator = record { spelt = a.spelt; place = place; location = location_at given.locations place; named = n }; rest = a.rest; state = a.state } in r) in
     let made_then = λ (a : Admitted V) (n : NamedOperation). (let r : Result (Handled V) ParseError = Ok (made a n) in r) in
@@ -77,12 +77,12 @@ pub record Stopped {V : Type 0} (given : Setting V) (p : Progress Occurrence) (v
   pub over : Over given p v place bytes operators reached state at rest
   pub stops : StopsAt given reached state at rest r
 
-frames_read : (p : Progress Occurrence) (gs : List (Frame Occurrence)) → progress_frames p ≡ Some gs → IsRead p
+frames_read : (p : Progress Occurrence) (gs : List (SequenceFrame Occurrence)) → progress_frames p ≡ Some gs → IsRead p
 frames_read (Within ls s) gs e = tt
 frames_read (Whole b) gs e = tt
 frames_read NoBody gs e = absurd (cc)
 
-goes_nil : (R : List (Frame Occurrence) → _ → Type 0) (p : Progress Occurrence) → IsRead p → Goes R (progress_frames p) []
+goes_nil : (R : List (SequenceFrame Occurrence) → _ → Type 0) (p : Progress Occurrence) → IsRead p → Goes R (progress_frames p) []
 goes_nil R (Within ls s) h = tt
 goes_nil R (Whole b) h = tt
 goes_nil R NoBody h = absurd h

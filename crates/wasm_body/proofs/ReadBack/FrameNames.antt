@@ -8,9 +8,9 @@ use Rattle.wasm_body.specs.declared.error.ParseError.{ParseError}
 use Rattle.wasm_body.specs.declared.error.ParseError.TheVariants.{NoSuchLabel, RethrowOutsideHandler}
 use Rattle.wasm_numbers.specs.Results.{◌>>=◌, unless}
 use Rattle.wasm_body.specs.Control.{Construct, Block, Loop, If, Try, TryTable, Control, Does, Opens, Else, Catch, CatchAll, End, Delegate, control_of, control_by, role_of}
-use Rattle.wasm_body.specs.Frames.{Frame, OfFunction, OfWrapper, Consequent, Alternative, TryBody, Handler, HandlerOfAll, is_allowed, frame_opened, moves, else_moves, catch_moves, catch_all_moves, delegate_moves, is_handler, handler_at, outside, opener_of}
+use Rattle.wasm_body.specs.Frames.{SequenceFrame, OfFunction, OfWrapper, Consequent, Alternative, TryBody, Handler, HandlerOfAll, is_allowed, frame_opened, moves, else_moves, catch_moves, catch_all_moves, delegate_moves, is_handler, handler_at, outside, opener_of}
 use Rattle.wasm_body.specs.Translation.{Translation, keeping_numbers, translate, translate_immediates}
-use Rattle.wasm_body.specs.Naming.{Environment, NamedOperation, Occurrence, naming, open_label, handler_label, block_types, block_signature, construct_results, results_of, has_pick, tag_type, has_types, position_fault, named_in}
+use Rattle.wasm_body.specs.Naming.{Environment, NamedOperation, Occurrence, naming, open_label, handler_label, block_types, block_signature, construct_results, results_around, has_pick, tag_type, has_types, position_fault, named_in}
 use Rattle.wasm_body.proofs.Translation.Steps.{Leads, bound, all_of}
 use Rattle.wasm_body.proofs.Translation.Translations.{LeadAll, lead_all, translate_leads}
 use Rattle.wasm_body.proofs.NormalForm.KeptNames.{open_same, handler_same}
@@ -18,7 +18,7 @@ use Rattle.wasm_body.proofs.Parsing.NamingLemmas.{same_allowed, same_opcode, nam
 
 -- ---- frames with other values shown
 
-abbrev pub map_frame : {A B : Type 0} → (A → B) → Frame A → Frame B
+abbrev pub map_frame : {A B : Type 0} → (A → B) → SequenceFrame A → SequenceFrame B
 map_frame g OfFunction = OfFunction
 map_frame g (OfWrapper a) = OfWrapper (g a)
 map_frame g (Consequent a) = Consequent (g a)
@@ -27,48 +27,48 @@ map_frame g (TryBody a) = TryBody (g a)
 map_frame g (Handler a) = Handler (g a)
 map_frame g (HandlerOfAll a) = HandlerOfAll (g a)
 
-abbrev pub map_frames : {A B : Type 0} → (A → B) → List (Frame A) → List (Frame B)
+abbrev pub map_frames : {A B : Type 0} → (A → B) → List (SequenceFrame A) → List (SequenceFrame B)
 map_frames g [] = []
 map_frames g (f ∷ fs) = map_frame g f ∷ map_frames g fs
 
 module _ {A B : Type 0} (g : A → B) where
-  length_frames : (fs : List (Frame A)) → length (map_frames g fs) ≡ length fs
+  length_frames : (fs : List (SequenceFrame A)) → length (map_frames g fs) ≡ length fs
   length_frames [] = refl
   length_frames (f ∷ fs) = ap suc (length_frames fs)
 
-  handler_frame : (f : Frame A) → is_handler (map_frame g f) ≡ is_handler f
+  handler_frame : (f : SequenceFrame A) → is_handler (map_frame g f) ≡ is_handler f
   handler_frame (Handler a) = refl
   handler_frame (HandlerOfAll a) = refl
   handler_frame _ = refl
 
-  handler_frames : (fs : List (Frame A)) (n : ℕ) → handler_at (map_frames g fs) n ≡ handler_at fs n
+  handler_frames : (fs : List (SequenceFrame A)) (n : ℕ) → handler_at (map_frames g fs) n ≡ handler_at fs n
   handler_frames [] n = refl
   handler_frames (f ∷ fs) zero = handler_frame f
   handler_frames (f ∷ fs) (suc n) = handler_frames fs n
 
-  outside_frames : (fs : List (Frame A)) → outside (map_frames g fs) ≡ map_frames g (outside fs)
+  outside_frames : (fs : List (SequenceFrame A)) → outside (map_frames g fs) ≡ map_frames g (outside fs)
   outside_frames [] = refl
   outside_frames (f ∷ fs) = refl
 
-  else_frame : (f : Frame A) → is_some (else_moves (map_frame g f)) ≡ is_some (else_moves f)
+  else_frame : (f : SequenceFrame A) → is_some (else_moves (map_frame g f)) ≡ is_some (else_moves f)
   else_frame (Consequent a) = refl
   else_frame _ = refl
 
-  catch_frame : (f : Frame A) → is_some (catch_moves (map_frame g f)) ≡ is_some (catch_moves f)
+  catch_frame : (f : SequenceFrame A) → is_some (catch_moves (map_frame g f)) ≡ is_some (catch_moves f)
   catch_frame (TryBody a) = refl
   catch_frame (Handler a) = refl
   catch_frame _ = refl
 
-  catch_all_frame : (f : Frame A) → is_some (catch_all_moves (map_frame g f)) ≡ is_some (catch_all_moves f)
+  catch_all_frame : (f : SequenceFrame A) → is_some (catch_all_moves (map_frame g f)) ≡ is_some (catch_all_moves f)
   catch_all_frame (TryBody a) = refl
   catch_all_frame (Handler a) = refl
   catch_all_frame _ = refl
 
-  delegate_frame : (fs : List (Frame A)) (f : Frame A) → is_some (delegate_moves (map_frames g fs) (map_frame g f)) ≡ is_some (delegate_moves fs f)
+  delegate_frame : (fs : List (SequenceFrame A)) (f : SequenceFrame A) → is_some (delegate_moves (map_frames g fs) (map_frame g f)) ≡ is_some (delegate_moves fs f)
   delegate_frame fs (TryBody a) = refl
   delegate_frame fs _ = refl
 
-  pub allowed_frames : (fs : List (Frame A)) (c : Control) → is_allowed (map_frames g fs) c ≡ is_allowed fs c
+  pub allowed_frames : (fs : List (SequenceFrame A)) (c : Control) → is_allowed (map_frames g fs) c ≡ is_allowed fs c
   allowed_frames [] c = refl
   allowed_frames (f ∷ fs) (Does action) = refl
   allowed_frames (f ∷ fs) (Opens construct) = refl
@@ -78,15 +78,15 @@ module _ {A B : Type 0} (g : A → B) where
   allowed_frames (f ∷ fs) End = refl
   allowed_frames (f ∷ fs) (Delegate n) = delegate_frame fs f
 
-  pub open_frames : (fs : List (Frame A)) (n : ℕ) → open_label (map_frames g fs) n ≡ open_label fs n
+  pub open_frames : (fs : List (SequenceFrame A)) (n : ℕ) → open_label (map_frames g fs) n ≡ open_label fs n
   open_frames fs n = ap (λ k. unless (nat_lt n k) NoSuchLabel >>= λ u. Ok n) (length_frames fs)
 
-  pub handler_label_frames : (fs : List (Frame A)) (n : ℕ) → handler_label (map_frames g fs) n ≡ handler_label fs n
+  pub handler_label_frames : (fs : List (SequenceFrame A)) (n : ℕ) → handler_label (map_frames g fs) n ≡ handler_label fs n
   handler_label_frames fs n =
       ap (λ (r : Result ℕ ParseError). r >>= λ m. unless (handler_at (map_frames g fs) n) RethrowOutsideHandler >>= λ u. Ok n) (open_frames fs n)
       ∙ ap (λ b. open_label fs n >>= λ m. unless b RethrowOutsideHandler >>= λ u. Ok n) (handler_frames fs n)
 
-  pub outer_frames : (fs : List (Frame A)) (n : ℕ) → open_label (outside (map_frames g fs)) n ≡ open_label (outside fs) n
+  pub outer_frames : (fs : List (SequenceFrame A)) (n : ℕ) → open_label (outside (map_frames g fs)) n ≡ open_label (outside fs) n
   outer_frames fs n = ap (λ gs. open_label gs n) (outside_frames fs) ∙ open_frames (outside fs) n
 
   -- ---- the frames after an operator
@@ -98,11 +98,11 @@ module _ {A B : Type 0} (g : A → B) where
   opened_frame a If = refl
   opened_frame a Try = refl
 
-  abbrev pub after_frames : Option (List (Frame A)) → Option (List (Frame B))
+  abbrev pub after_frames : Option (List (SequenceFrame A)) → Option (List (SequenceFrame B))
   after_frames (Some fs) = Some (map_frames g fs)
   after_frames None = None
 
-  pub moves_frames : (c : Control) (a : A) (fs : List (Frame A)) → after_frames (moves c a fs) ≡ moves c (g a) (map_frames g fs)
+  pub moves_frames : (c : Control) (a : A) (fs : List (SequenceFrame A)) → after_frames (moves c a fs) ≡ moves c (g a) (map_frames g fs)
   moves_frames c a [] = refl
   moves_frames (Does action) a (f ∷ fs) = refl
   moves_frames (Opens k) a (f ∷ fs) = ap (λ x. Some (x ∷ map_frame g f ∷ map_frames g fs)) (opened_frame a k)
@@ -124,7 +124,7 @@ abbrev pub named_results : Option NamedOperation → List (ValType ℕ)
 named_results (Some o) = (block_signature o).results
 named_results None = []
 
-abbrev pub results_at : List (Frame NamedOperation) → List (ValType ℕ)
+abbrev pub results_at : List (SequenceFrame NamedOperation) → List (ValType ℕ)
 results_at [] = []
 results_at (f ∷ fs) = named_results (opener_of f)
 
@@ -139,11 +139,11 @@ types_in env rs End o = Ok tt
 types_in env rs (Delegate n) o = Ok tt
 
 -- naming without indices
-abbrev pub ruling : {A : Type 0} → List (Frame A) → Translation ℕ Signature ℕ Signature ParseError
+abbrev pub ruling : {A : Type 0} → List (SequenceFrame A) → Translation ℕ Signature ℕ Signature ParseError
 ruling fs = record (keeping_numbers {B = Signature} (open_label fs) (λ s. Ok s) (λ e. e)) { handler = handler_label fs; outer = open_label (outside fs) }
 
 -- The operator keeps the rules inside these frames.
-pub record KeepsRules (env : Environment) (fs : List (Frame NamedOperation)) (o : NamedOperation) : Type 0 where
+pub record KeepsRules (env : Environment) (fs : List (SequenceFrame NamedOperation)) (o : NamedOperation) : Type 0 where
   pub allowed : is_allowed fs (control_of o) ≡ true
   pub keeps : translate_immediates (ruling fs) o.immediates ≡ Ok o.immediates
   pub typed : types_in env (results_at fs) (control_of o) o ≡ Ok tt
@@ -151,25 +151,25 @@ pub record KeepsRules (env : Environment) (fs : List (Frame NamedOperation)) (o 
 abbrev pub named_of : Occurrence → NamedOperation
 named_of x = x.named
 
-construct_by : (fs : List (Frame Occurrence)) → construct_results fs ≡ results_at (map_frames named_of fs)
+construct_by : (fs : List (SequenceFrame Occurrence)) → construct_results fs ≡ results_at (map_frames named_of fs)
 construct_by [] = refl
 construct_by (f ∷ fs) = by_frame f
   where
-    by_frame : (f : Frame Occurrence) → results_of (opener_of f) ≡ named_results (opener_of (map_frame named_of f))
+    by_frame : (f : SequenceFrame Occurrence) → results_around (opener_of f) ≡ named_results (opener_of (map_frame named_of f))
     by_frame OfFunction = refl
     by_frame _ = refl
 
-types_by : (env : Environment) (fs : List (Frame Occurrence)) (c : Control) (o : NamedOperation) → has_types env fs c o ≡ types_in env (construct_results fs) c o
+types_by : (env : Environment) (fs : List (SequenceFrame Occurrence)) (c : Control) (o : NamedOperation) → has_types env fs c o ≡ types_in env (construct_results fs) c o
 types_by env fs (Opens construct) o = refl
 types_by env fs (Catch tag) o = refl
 types_by env fs _ o = refl
 
-pub types_named : (env : Environment) (fs : List (Frame Occurrence)) (c : Control) (o : NamedOperation) → has_types env fs c o ≡ types_in env (results_at (map_frames named_of fs)) c o
+pub types_named : (env : Environment) (fs : List (SequenceFrame Occurrence)) (c : Control) (o : NamedOperation) → has_types env fs c o ≡ types_in env (results_at (map_frames named_of fs)) c o
 types_named env fs c o = types_by env fs c o ∙ ap (λ rs. types_in env rs c o) (construct_by fs)
 
 -- an operator that has its name keeps the rules
-module _ (env : Environment) (fs : List (Frame Occurrence)) where
-  abbrev here : List (Frame NamedOperation)
+module _ (env : Environment) (fs : List (SequenceFrame Occurrence)) where
+  abbrev here : List (SequenceFrame NamedOperation)
   here = map_frames named_of fs
 
   ruled_lead : LeadAll (naming env fs) (ruling here) (naming env fs)
@@ -219,28 +219,28 @@ module _ (env : Environment) (fs : List (Frame Occurrence)) where
 
 -- ---- frames that were opened by operators of the same names
 
-abbrev pub shapes : List (Frame Occurrence) → List (Frame NamedOperation)
+abbrev pub shapes : List (SequenceFrame Occurrence) → List (SequenceFrame NamedOperation)
 shapes = map_frames named_of
 
 module _ (env : Environment) where
-  abbrev named_by : List (Frame NamedOperation) → RawOperation → Result NamedOperation ParseError
+  abbrev named_by : List (SequenceFrame NamedOperation) → RawOperation → Result NamedOperation ParseError
   named_by gs o =
       unless (is_allowed gs (control_of o)) (position_fault (control_of o)) >>= λ _.
       translate (naming env gs) o >>= λ named.
       types_in env (results_at gs) (control_of named) named >>= λ _.
       Ok named
 
-  naming_is : (fs : List (Frame Occurrence)) → naming env fs ≡ naming env (shapes fs)
+  naming_is : (fs : List (SequenceFrame Occurrence)) → naming env fs ≡ naming env (shapes fs)
   naming_is fs = λ i. record (naming env fs) {
     label = λ n. (sym (open_frames named_of fs n)) i;
     handler = λ n. (sym (handler_label_frames named_of fs n)) i;
     outer = λ n. (sym (outer_frames named_of fs n)) i;
   }
 
-  named_is : (fs : List (Frame Occurrence)) (o : RawOperation) → named_in env fs o ≡ named_by (shapes fs) o
+  named_is : (fs : List (SequenceFrame Occurrence)) (o : RawOperation) → named_in env fs o ≡ named_by (shapes fs) o
   named_is fs o =
       (λ i. unless ((sym (allowed_frames named_of fs (control_of o))) i) (position_fault (control_of o)) >>= λ _. translate (naming_is fs i) o >>= λ named. types_named env fs (control_of named) named i >>= λ _. Ok named)
 
   -- they give an operator the same name, or the same fault
-  pub named_same : (fs gs : List (Frame Occurrence)) (o : RawOperation) → shapes fs ≡ shapes gs → named_in env fs o ≡ named_in env gs o
+  pub named_same : (fs gs : List (SequenceFrame Occurrence)) (o : RawOperation) → shapes fs ≡ shapes gs → named_in env fs o ≡ named_in env gs o
   named_same fs gs o e = named_is fs o ∙ ap (λ hs. named_by hs o) e ∙ sym (named_is gs o)

@@ -17,7 +17,7 @@ use Rattle.wasm_body.specs.declared.error.EmitError.{EmitError}
 use Rattle.wasm_body.specs.declared.error.ParseError.{ParseError}
 use Rattle.wasm_body.specs.declared.error.ParseError.TheVariants.{Index, NotAFunctionType}
 use Rattle.wasm_numbers.specs.Results.{some_or, with_fault}
-use Rattle.wasm_body.specs.Frames.{Frame, outside}
+use Rattle.wasm_body.specs.Frames.{SequenceFrame, outside}
 use Rattle.wasm_body.specs.Translation.{Translation, translate, translate_immediates, translate_heap, translate_value}
 use Rattle.wasm_body.specs.Naming.{Environment, NamedOperation, naming, id_at, name_block, open_label, handler_label, block_types}
 use Rattle.wasm_body.specs.FlatText.{then_by}
@@ -30,7 +30,7 @@ use Rattle.wasm_body.proofs.NormalForm.Exponents.{exponent_of-pow}
 use Rattle.wasm_body.proofs.NormalForm.WrittenTexts.{named_by}
 use Rattle.wasm_body.proofs.ReadBack.FrameNames.{map_frames, ruling, open_frames, handler_label_frames, outer_frames}
 
-module _ {A B : Type 0} (env : Environment) (to : Numbers) (t : InstrSeqType) (g : A → B) (fs : List (Frame A)) where
+module _ {A B : Type 0} (env : Environment) (to : Numbers) (t : InstrSeqType) (g : A → B) (fs : List (SequenceFrame A)) where
   abbrev there : Translation ℕ Signature ℕ BlockType EmitError
   there = named_by (then_by (numbering to)) t
 

@@ -5,7 +5,7 @@ use Rattle.std.proofs.Common.{refl, sym, ap, ◌∙◌, subst}
 use Rattle.wasm_operators.specs.OperatorList.{Placed, Lists}
 use Rattle.wasm_body.specs.Control.{Does, Opens, If, Try, Else, Catch, CatchAll, End, Delegate, Marked, with_control}
 use Rattle.wasm_body.specs.SourceTree.{Sequence, Empty, Single, Wrapped, IfThen, IfElse, TryCatch, TryDelegate, Clauses, Ended, Catches, CatchesAll, construct_of, Body, body_text, map_sequence, map_clauses, map_body}
-use Rattle.wasm_body.specs.Frames.{Frame, OfFunction, OfWrapper, Consequent, Alternative, TryBody, Handler, HandlerOfAll, Rule, Follows, FollowsIn, function_frames}
+use Rattle.wasm_body.specs.Frames.{SequenceFrame, OfFunction, OfWrapper, Consequent, Alternative, TryBody, Handler, HandlerOfAll, FrameRule, Follows, FollowsIn, function_frames}
 use Rattle.wasm_body.specs.Naming.{Environment, Occurrence}
 use Rattle.wasm_body.specs.NormalForm.{typing_of, name_at, named_body}
 use Rattle.wasm_body.specs.Parsing.Accepted.{placed, mark, IsNamed, has_location, location_at, validated}
@@ -16,9 +16,9 @@ use Rattle.wasm_body.proofs.ReadBack.FrameNames.{map_frame, map_frames, named_of
 
 -- ---- a rule along a tree with something else shown
 
-module _ {A B : Type 0} (g : A → B) (R : Rule A) (S : Rule B) (keeps : (fs : List (Frame A)) (x : Marked A) → R fs x → S (map_frames g fs) (map_mark g x)) where
+module _ {A B : Type 0} (g : A → B) (R : FrameRule A) (S : FrameRule B) (keeps : (fs : List (SequenceFrame A)) (x : Marked A) → R fs x → S (map_frames g fs) (map_mark g x)) where
   mutual
-    follows_mapped : (fs : List (Frame A)) (s : Sequence A) → Follows R fs s → Follows S (map_frames g fs) (map_sequence g s)
+    follows_mapped : (fs : List (SequenceFrame A)) (s : Sequence A) → Follows R fs s → Follows S (map_frames g fs) (map_sequence g s)
     follows_mapped fs Empty h = tt
     follows_mapped fs (Single a action r) h = (keeps fs (with_control a (Does action)) h.0, follows_mapped fs r h.1)
     follows_mapped fs (Wrapped a w b e r) h = (
@@ -54,7 +54,7 @@ module _ {A B : Type 0} (g : A → B) (R : Rule A) (S : Rule B) (keeps : (fs : L
       follows_mapped fs r h.3,
     )
 
-    follows_in_mapped : (fs : List (Frame A)) (a : A) (f : Frame A) (cs : Clauses A) → FollowsIn R fs a f cs → FollowsIn S (map_frames g fs) (g a) (map_frame g f) (map_clauses g cs)
+    follows_in_mapped : (fs : List (SequenceFrame A)) (a : A) (f : SequenceFrame A) (cs : Clauses A) → FollowsIn R fs a f cs → FollowsIn S (map_frames g fs) (g a) (map_frame g f) (map_clauses g cs)
     follows_in_mapped fs a f (Ended e) h = keeps (f ∷ fs) (with_control e End) h
     follows_in_mapped fs a f (Catches i t b cs) h = (
       keeps (f ∷ fs) (with_control i (Catch t)) h.0,
@@ -93,7 +93,7 @@ module _ (locate : ℕ → ℕ) where
   same_names [] = refl
   same_names (x ∷ xs) = ap (λ l. map_mark op_of (map_mark name_at x) ∷ l) (same_names xs)
 
-  same_frame : (f : Frame Occurrence) → map_frame named_of (map_frame relocated f) ≡ map_frame named_of f
+  same_frame : (f : SequenceFrame Occurrence) → map_frame named_of (map_frame relocated f) ≡ map_frame named_of f
   same_frame OfFunction = refl
   same_frame (OfWrapper a) = refl
   same_frame (Consequent a) = refl
@@ -102,13 +102,13 @@ module _ (locate : ℕ → ℕ) where
   same_frame (Handler a) = refl
   same_frame (HandlerOfAll a) = refl
 
-  same_shapes : (fs : List (Frame Occurrence)) → shapes (map_frames relocated fs) ≡ shapes fs
+  same_shapes : (fs : List (SequenceFrame Occurrence)) → shapes (map_frames relocated fs) ≡ shapes fs
   same_shapes [] = refl
   same_shapes (f ∷ fs) =
       ap (λ x. x ∷ shapes (map_frames relocated fs)) (same_frame f) ∙ ap (λ l. map_frame named_of f ∷ l) (same_shapes fs)
 
   -- an operator has its name there too
-  named_there : (env : Environment) (fs : List (Frame Occurrence)) (x : Marked Occurrence) → IsNamed env fs x → IsNamed env (map_frames relocated fs) (map_mark relocated x)
+  named_there : (env : Environment) (fs : List (SequenceFrame Occurrence)) (x : Marked Occurrence) → IsNamed env fs x → IsNamed env (map_frames relocated fs) (map_mark relocated x)
   named_there env fs x h = named_same env (map_frames relocated fs) fs x.shown.spelt (same_shapes fs) ∙ h
 
   relocated_text : (b : Body Occurrence) → body_text (map_body relocated b) ≡ map (map_mark relocated) (body_text b)

@@ -20,7 +20,7 @@ use Rattle.wasm_operators.specs.Immediates.{IsAccess, IsClause, SpellsImmediate,
 use Rattle.wasm_operators.proofs.ShortestImmediates.{flags_are}
 use Rattle.wasm_body.specs.declared.error.EmitError.{EmitError}
 use Rattle.wasm_numbers.specs.Results.{◌>>=◌, each}
-use Rattle.wasm_body.specs.Frames.{Frame}
+use Rattle.wasm_body.specs.Frames.{SequenceFrame}
 use Rattle.wasm_body.specs.Translation.{Translation, translate_heap, translate_value, translate_tag, translate_clause, translate_cast, translate_access, translate_immediate, translate_immediates}
 use Rattle.wasm_body.specs.Naming.{Environment, naming, id_at}
 use Rattle.wasm_body.specs.FlatText.{then_by, exponent_of}
@@ -56,7 +56,7 @@ access_ranged a text s =
     let rest = s.2.4 in
     subst (λ (b : Access). (b.alignment < 32) × IsSpellable IsU64 b.offset) is ((flags_are flags.0 s.0.0 flags.1).small, (rest.1, rest.4))
 
-module _ {A : Type 0} (env : Environment) (fs : List (Frame A)) where
+module _ {A : Type 0} (env : Environment) (fs : List (SequenceFrame A)) where
   abbrev Ranged : Immediate ℕ Signature → Type 0
   Ranged j = IsRanged j
 

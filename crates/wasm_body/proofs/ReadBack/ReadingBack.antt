@@ -12,7 +12,7 @@ use Rattle.wasm_operators.specs.Shortest.{short}
 use Rattle.wasm_operators.proofs.ShortestOperations.{shortest_operation}
 use Rattle.wasm_body.specs.Control.{Control, End, Marked, with_control}
 use Rattle.wasm_body.specs.SourceTree.{Sequence, text, Body, body_text}
-use Rattle.wasm_body.specs.Frames.{Frame, OfFunction, function_frames, Follows, BodyFollows}
+use Rattle.wasm_body.specs.Frames.{SequenceFrame, OfFunction, function_frames, Follows, BodyFollows}
 use Rattle.wasm_body.specs.Translation.{translate_immediates}
 use Rattle.wasm_body.specs.Naming.{Environment, NamedOperation, Occurrence}
 use Rattle.wasm_body.specs.Parsing.Accepted.{HasSpelling, placed, mark, IsBody, IsNamed, Lawful, Setting, location_at, has_location, Accepted}
@@ -220,7 +220,7 @@ module _ (env : Environment) (xs : List Occurrence) (body : Body Occurrence) (te
   is_read : IsBody operators read
   is_read = are_marks (spelt_as to m) locate start ms all_controls ∙ sym whole.1
 
-  named_there : (fs : List (Frame Named)) (gs : List (Frame Occurrence)) (p : ℕ) (a : Named) (c : Control) → map_frames op_of fs ≡ map_frames named_of gs → IsSound env fs (with_control a c) → IsReady a c →
+  named_there : (fs : List (SequenceFrame Named)) (gs : List (SequenceFrame Occurrence)) (p : ℕ) (a : Named) (c : Control) → map_frames op_of fs ≡ map_frames named_of gs → IsSound env fs (with_control a c) → IsReady a c →
       IsNamed back gs (with_control (make (spelt_as to m) locate p (with_control a c)) c)
   named_there fs gs p a c e h q =
       let there : KeepsRules env (map_frames named_of gs) a.op = subst (λ l. KeepsRules env l a.op) e h.ruled in

@@ -2,7 +2,7 @@
 -- names and do the same to the control flow.
 use Rattle.std.proofs.Common.{◌≡◌, List, [], ◌∷◌, Option, Some, None, sym, ap, ◌∙◌}
 use Rattle.wasm_body.specs.Control.{Marked}
-use Rattle.wasm_body.specs.Frames.{Frame, Rule, moves}
+use Rattle.wasm_body.specs.Frames.{SequenceFrame, FrameRule, moves}
 use Rattle.wasm_body.proofs.Structure.ReadFrames.{Goes}
 use Rattle.wasm_body.proofs.ReadBack.FrameNames.{map_frames, after_frames, moves_frames}
 
@@ -18,10 +18,10 @@ AllRelated g h P [] (y ∷ ys) = ⊥
 AllRelated g h P (x ∷ xs) [] = ⊥
 AllRelated g h P (x ∷ xs) (y ∷ ys) = AreRelated g h P x y × AllRelated g h P xs ys
 
-module _ {A B C : Type 0} (g : A → C) (h : B → C) (P : Marked A → Marked B → Type 0) (R : Rule A) (Q : Rule B)
-    (given : (fs : List (Frame A)) (gs : List (Frame B)) (x : Marked A) (y : Marked B) → map_frames g fs ≡ map_frames h gs → R fs x → P x y → Q gs y) where
+module _ {A B C : Type 0} (g : A → C) (h : B → C) (P : Marked A → Marked B → Type 0) (R : FrameRule A) (Q : FrameRule B)
+    (given : (fs : List (SequenceFrame A)) (gs : List (SequenceFrame B)) (x : Marked A) (y : Marked B) → map_frames g fs ≡ map_frames h gs → R fs x → P x y → Q gs y) where
   -- the frames after the two have the same names
-  frames_related : (fs : List (Frame A)) (gs : List (Frame B)) (x : Marked A) (y : Marked B) → map_frames g fs ≡ map_frames h gs → AreRelated g h P x y
+  frames_related : (fs : List (SequenceFrame A)) (gs : List (SequenceFrame B)) (x : Marked A) (y : Marked B) → map_frames g fs ≡ map_frames h gs → AreRelated g h P x y
       → after_frames g (moves x.control x.shown fs) ≡ after_frames h (moves y.control y.shown gs)
   frames_related fs gs x y e r =
       moves_frames g x.control x.shown fs
@@ -30,7 +30,7 @@ module _ {A B C : Type 0} (g : A → C) (h : B → C) (P : Marked A → Marked B
       ∙ (ap (λ c. moves c (h y.shown) (map_frames h gs)) (sym r.control)
       ∙ sym (moves_frames h y.control y.shown gs))))
 
-  pub goes_related : (fs : Option (List (Frame A))) (gs : Option (List (Frame B))) → after_frames g fs ≡ after_frames h gs
+  pub goes_related : (fs : Option (List (SequenceFrame A))) (gs : Option (List (SequenceFrame B))) → after_frames g fs ≡ after_frames h gs
       → (xs : List (Marked A)) (ys : List (Marked B)) → AllRelated g h P xs ys → Goes R fs xs → Goes Q gs ys
   goes_related None gs e xs ys r o = absurd o
   goes_related (Some fs) None e xs ys r o = absurd cc

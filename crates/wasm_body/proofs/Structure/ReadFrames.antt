@@ -3,12 +3,12 @@
 use Rattle.std.proofs.Common.{◌≡◌, ℕ, suc, List, [], ◌∷◌, ◌++◌, length, Option, Some, None, true, refl, sym, ap, subst, ◌∙◌}
 use Rattle.wasm_body.specs.Control.{Construct, Block, Loop, TryTable, If, Try, Control, Does, Opens, Else, Catch, CatchAll, End, Delegate, Marked, with_control}
 use Rattle.wasm_body.specs.SourceTree.{Wrapper, OfBlock, OfLoop, OfTryTable, construct_of, Sequence, Empty, Single, Wrapped, IfThen, IfElse, TryCatch, TryDelegate, Clauses, Ended, Catches, CatchesAll, text, clauses_text, Body, body_text}
-use Rattle.wasm_body.specs.Frames.{Frame, OfFunction, OfWrapper, Consequent, Alternative, TryBody, Handler, HandlerOfAll, Rule, Follows, FollowsIn, function_frames, BodyFollows, frame_opened, else_moves, catch_moves, catch_all_moves, onto, delegate_moves, moves, moved, frames_after, is_allowed}
+use Rattle.wasm_body.specs.Frames.{SequenceFrame, OfFunction, OfWrapper, Consequent, Alternative, TryBody, Handler, HandlerOfAll, FrameRule, Follows, FollowsIn, function_frames, BodyFollows, frame_opened, else_moves, catch_moves, catch_all_moves, onto, delegate_moves, moves, moved, frames_after, is_allowed}
 use Rattle.wasm_body.specs.Parsing.Progress.{OpenConstruct, InThen, InTry, Layer, Progress, Within, Whole, NoBody, frame_of, frames_of, opened, with_else_open, with_catch_open, with_catch_all_open, delegated, continue_in, continue_after, further_within, further, progress_after}
 
 -- ---- frames of the operators that were read
 
-abbrev pub progress_frames : {A : Type 0} → Progress A → Option (List (Frame A))
+abbrev pub progress_frames : {A : Type 0} → Progress A → Option (List (SequenceFrame A))
 progress_frames (Within ls s) = Some (frames_of ls)
 progress_frames (Whole b) = Some []
 progress_frames NoBody = None
@@ -66,7 +66,7 @@ frames_length [] = refl
 frames_length (l ∷ ls) = ap suc (frames_length ls)
 
 -- an operator that is allowed somewhere has frames after it
-pub may_move : {A : Type 0} → (c : Control) (a : A) (fs : List (Frame A)) → is_allowed fs c ≡ true → (gs : List (Frame A)) × (moves c a fs ≡ Some gs)
+pub may_move : {A : Type 0} → (c : Control) (a : A) (fs : List (SequenceFrame A)) → is_allowed fs c ≡ true → (gs : List (SequenceFrame A)) × (moves c a fs ≡ Some gs)
 may_move c a [] h = absurd (cc)
 may_move (Does action) a (f ∷ fs) h = (f ∷ fs, refl)
 may_move (Opens k) a (f ∷ fs) h = (frame_opened a k ∷ f ∷ fs, refl)
@@ -84,7 +84,7 @@ may_move (Delegate n) a (_ ∷ fs) h = absurd (cc)
 
 -- ---- the rule at each operator, by the frames before it
 
-abbrev pub Goes : {A : Type 0} → Rule A → Option (List (Frame A)) → List (Marked A) → Type 0
+abbrev pub Goes : {A : Type 0} → FrameRule A → Option (List (SequenceFrame A)) → List (Marked A) → Type 0
 Goes R None xs = ⊥
 Goes R (Some fs) [] = Unit {0}
 Goes R (Some fs) (x ∷ xs) = R fs x × Goes R (moves x.control x.shown fs) xs
@@ -97,7 +97,7 @@ wrap_frame a OfLoop = refl
 wrap_frame a (OfTryTable cs) = refl
 
 mutual
-  pub goes_in : {A : Type 0} → (R : Rule A) (s : Sequence A) (f : Frame A) (fs : List (Frame A)) (k : List (Marked A)) → Goes R (Some (f ∷ fs)) (text s k) → Follows R (f ∷ fs) s × Goes R (Some (f ∷ fs)) k
+  pub goes_in : {A : Type 0} → (R : FrameRule A) (s : Sequence A) (f : SequenceFrame A) (fs : List (SequenceFrame A)) (k : List (Marked A)) → Goes R (Some (f ∷ fs)) (text s k) → Follows R (f ∷ fs) s × Goes R (Some (f ∷ fs)) k
   goes_in R Empty f fs k h = (tt, h)
   goes_in R (Single a action r) f fs k h = let i = goes_in R r f fs k h.1 in ((h.0, i.0), i.1)
   goes_in R (Wrapped a w b e r) f fs k h =
@@ -119,14 +119,14 @@ mutual
       let i = goes_in R b (TryBody a) (f ∷ fs) (with_control e (Delegate n) ∷ text r k) h.1 in
       let j = goes_in R r f fs k i.1.1 in ((h.0, i.0, i.1.0, j.0), j.1)
 
-  goes_in_body : {A : Type 0} → (R : Rule A) (cs : Clauses A) (a : A) (fs : List (Frame A)) (k : List (Marked A)) → Goes R (Some (TryBody a ∷ fs)) (clauses_text cs k) → FollowsIn R fs a (TryBody a) cs × Goes R (Some fs) k
+  goes_in_body : {A : Type 0} → (R : FrameRule A) (cs : Clauses A) (a : A) (fs : List (SequenceFrame A)) (k : List (Marked A)) → Goes R (Some (TryBody a ∷ fs)) (clauses_text cs k) → FollowsIn R fs a (TryBody a) cs × Goes R (Some fs) k
   goes_in_body R (Ended e) a fs k h = h
   goes_in_body R (Catches i t b cs) a fs k h =
       let m = goes_in R b (Handler a) fs (clauses_text cs k) h.1 in
       let j = goes_in_handler R cs a fs k m.1 in ((h.0, m.0, j.0), j.1)
   goes_in_body R (CatchesAll i b e) a fs k h = let m = goes_in R b (HandlerOfAll a) fs (with_control e End ∷ k) h.1 in ((h.0, m.0, m.1.0), m.1.1)
 
-  goes_in_handler : {A : Type 0} → (R : Rule A) (cs : Clauses A) (a : A) (fs : List (Frame A)) (k : List (Marked A)) → Goes R (Some (Handler a ∷ fs)) (clauses_text cs k) → FollowsIn R fs a (Handler a) cs × Goes R (Some fs) k
+  goes_in_handler : {A : Type 0} → (R : FrameRule A) (cs : Clauses A) (a : A) (fs : List (SequenceFrame A)) (k : List (Marked A)) → Goes R (Some (Handler a ∷ fs)) (clauses_text cs k) → FollowsIn R fs a (Handler a) cs × Goes R (Some fs) k
   goes_in_handler R (Ended e) a fs k h = h
   goes_in_handler R (Catches i t b cs) a fs k h =
       let m = goes_in R b (Handler a) fs (clauses_text cs k) h.1 in
@@ -134,7 +134,7 @@ mutual
   goes_in_handler R (CatchesAll i b e) a fs k h = let m = goes_in R b (HandlerOfAll a) fs (with_control e End ∷ k) h.1 in ((h.0, m.0, m.1.0), m.1.1)
 
 mutual
-  pub goes_by : {A : Type 0} → (R : Rule A) (s : Sequence A) (f : Frame A) (fs : List (Frame A)) (k : List (Marked A)) → Follows R (f ∷ fs) s → Goes R (Some (f ∷ fs)) k → Goes R (Some (f ∷ fs)) (text s k)
+  pub goes_by : {A : Type 0} → (R : FrameRule A) (s : Sequence A) (f : SequenceFrame A) (fs : List (SequenceFrame A)) (k : List (Marked A)) → Follows R (f ∷ fs) s → Goes R (Some (f ∷ fs)) k → Goes R (Some (f ∷ fs)) (text s k)
   goes_by R Empty f fs k h g = g
   goes_by R (Single a action r) f fs k h g = (h.0, goes_by R r f fs k h.1 g)
   goes_by R (Wrapped a w b e r) f fs k h g = (h.0, subst (λ x. Goes R (Some (x ∷ f ∷ fs)) (text b (with_control e End ∷ text r k))) (sym (wrap_frame a w)) (goes_by R b (OfWrapper a) (f ∷ fs) (with_control e End ∷ text r k) h.1 (h.2, goes_by R r f fs k h.3 g)))
@@ -143,26 +143,26 @@ mutual
   goes_by R (TryCatch a b cs r) f fs k h g = (h.0, goes_by R b (TryBody a) (f ∷ fs) (clauses_text cs (text r k)) h.1 (goes_by_body R cs a (f ∷ fs) (text r k) h.2 (goes_by R r f fs k h.3 g)))
   goes_by R (TryDelegate a b e n r) f fs k h g = (h.0, goes_by R b (TryBody a) (f ∷ fs) (with_control e (Delegate n) ∷ text r k) h.1 (h.2, goes_by R r f fs k h.3 g))
 
-  goes_by_body : {A : Type 0} → (R : Rule A) (cs : Clauses A) (a : A) (fs : List (Frame A)) (k : List (Marked A)) → FollowsIn R fs a (TryBody a) cs → Goes R (Some fs) k → Goes R (Some (TryBody a ∷ fs)) (clauses_text cs k)
+  goes_by_body : {A : Type 0} → (R : FrameRule A) (cs : Clauses A) (a : A) (fs : List (SequenceFrame A)) (k : List (Marked A)) → FollowsIn R fs a (TryBody a) cs → Goes R (Some fs) k → Goes R (Some (TryBody a ∷ fs)) (clauses_text cs k)
   goes_by_body R (Ended e) a fs k h g = (h, g)
   goes_by_body R (Catches i t b cs) a fs k h g = (h.0, goes_by R b (Handler a) fs (clauses_text cs k) h.1 (goes_by_handler R cs a fs k h.2 g))
   goes_by_body R (CatchesAll i b e) a fs k h g = (h.0, goes_by R b (HandlerOfAll a) fs (with_control e End ∷ k) h.1 (h.2, g))
 
-  goes_by_handler : {A : Type 0} → (R : Rule A) (cs : Clauses A) (a : A) (fs : List (Frame A)) (k : List (Marked A)) → FollowsIn R fs a (Handler a) cs → Goes R (Some fs) k → Goes R (Some (Handler a ∷ fs)) (clauses_text cs k)
+  goes_by_handler : {A : Type 0} → (R : FrameRule A) (cs : Clauses A) (a : A) (fs : List (SequenceFrame A)) (k : List (Marked A)) → FollowsIn R fs a (Handler a) cs → Goes R (Some fs) k → Goes R (Some (Handler a ∷ fs)) (clauses_text cs k)
   goes_by_handler R (Ended e) a fs k h g = (h, g)
   goes_by_handler R (Catches i t b cs) a fs k h g = (h.0, goes_by R b (Handler a) fs (clauses_text cs k) h.1 (goes_by_handler R cs a fs k h.2 g))
   goes_by_handler R (CatchesAll i b e) a fs k h g = (h.0, goes_by R b (HandlerOfAll a) fs (with_control e End ∷ k) h.1 (h.2, g))
 
 -- a body follows a rule if each of its operators does, by the frames before it
-pub body_goes : {A : Type 0} → (R : Rule A) (b : Body A) → BodyFollows R b → Goes R (Some function_frames) (body_text b)
+pub body_goes : {A : Type 0} → (R : FrameRule A) (b : Body A) → BodyFollows R b → Goes R (Some function_frames) (body_text b)
 body_goes R b h = goes_by R b.sequence OfFunction [] (with_control b.close End ∷ []) h.0 (h.1, tt)
 
-pub goes_body : {A : Type 0} → (R : Rule A) (b : Body A) → Goes R (Some function_frames) (body_text b) → BodyFollows R b
+pub goes_body : {A : Type 0} → (R : FrameRule A) (b : Body A) → Goes R (Some function_frames) (body_text b) → BodyFollows R b
 goes_body R b h = let i = goes_in R b.sequence OfFunction [] (with_control b.close End ∷ []) h in (i.0, i.1.0)
 
 -- ---- one list after another
 
-pub frames_append : {A : Type 0} → (xs ys : List (Marked A)) (o : Option (List (Frame A))) → frames_after o (xs ++ ys) ≡ frames_after (frames_after o xs) ys
+pub frames_append : {A : Type 0} → (xs ys : List (Marked A)) (o : Option (List (SequenceFrame A))) → frames_after o (xs ++ ys) ≡ frames_after (frames_after o xs) ys
 frames_append [] ys o = refl
 frames_append (x ∷ xs) ys o = frames_append xs ys (moved o x)
 
@@ -170,12 +170,12 @@ pub none_stays : {A : Type 0} → (xs : List (Marked A)) → frames_after {A = A
 none_stays [] = refl
 none_stays (x ∷ xs) = none_stays xs
 
-pub goes_front : {A : Type 0} → (R : Rule A) (xs ys : List (Marked A)) (o : Option (List (Frame A))) → Goes R o (xs ++ ys) → Goes R o xs × Goes R (frames_after o xs) ys
+pub goes_front : {A : Type 0} → (R : FrameRule A) (xs ys : List (Marked A)) (o : Option (List (SequenceFrame A))) → Goes R o (xs ++ ys) → Goes R o xs × Goes R (frames_after o xs) ys
 goes_front R xs ys None h = absurd h
 goes_front R [] ys (Some fs) h = (tt, h)
 goes_front R (x ∷ xs) ys (Some fs) h = let i = goes_front R xs ys (moves x.control x.shown fs) h.1 in ((h.0, i.0), i.1)
 
-pub continues : {A : Type 0} → (R : Rule A) (xs ys : List (Marked A)) (o : Option (List (Frame A))) → Goes R o xs → Goes R (frames_after o xs) ys → Goes R o (xs ++ ys)
+pub continues : {A : Type 0} → (R : FrameRule A) (xs ys : List (Marked A)) (o : Option (List (SequenceFrame A))) → Goes R o xs → Goes R (frames_after o xs) ys → Goes R o (xs ++ ys)
 continues R xs ys None h g = absurd h
 continues R [] ys (Some fs) h g = g
 continues R (x ∷ xs) ys (Some fs) h g = (h.0, continues R xs ys (moves x.control x.shown fs) h.1 g)

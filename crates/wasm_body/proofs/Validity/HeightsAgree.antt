@@ -10,7 +10,7 @@ use Rattle.wasm_body.specs.Control.{Action, Nop, Plain, Branch, ConditionalBranc
 use Rattle.wasm_body.specs.Translation.{Located}
 use Rattle.wasm_body.specs.Naming.{NamedOperation, block_signature}
 use Rattle.wasm_body.specs.NormalForm.{Typing}
-use Rattle.wasm_body.specs.Validity.{Operand, Unknown, Known, Point, Change, Opened, OfLoop, OfIf, OfElse, OfCatch, OfCatchAll, OperandRules, Checked, demand, required, i32, exnref, opened_by, is_if, is_try, may_catch, is_handler, transfers, clauses_of, handed, push_each, ControlFrame, Stacks, State, state, above, up_to}
+use Rattle.wasm_body.specs.Validity.{Operand, Unknown, Known, Point, Change, Opened, OfLoop, OfIf, OfElse, OfCatch, OfCatchAll, OperandRules, Checked, demand, required, i32, exnref, opened_by, is_if, is_try, may_catch, is_catch, transfers, try_table_clauses, handed, push_each, ControlFrame, Stacks, State, state, above, up_to}
 use Rattle.wasm_body.specs.Validity as heights
 use Rattle.wasm_body.proofs.Validity.NestedFrames.{NestedFrame, NestedFrames, none, at, initialised_in, label, label_types, results, changed, unreachable, after_action, pop, pop_each, pop_all, opened_in, closes, given, targets, taken, condition, hand, catching, taken_by, frame_by, opens, alternative, handler, handler_of_all, ends, next_sequence, step, validate, function_frame, IsValid}
 
@@ -97,7 +97,7 @@ IsStateOf s fs = (s ≡ state_of fs) × Nested fs
 abbrev Names : {T : Type 0} → ControlFrame → NestedFrame T → Type 0
 Names {T} c f = (fs : NestedFrames T) × (c ≡ control_in fs f)
 
-label_like : {T : Type 0} → (fs : NestedFrames T) (n : ℕ) → Like Names (heights.label (controls_of fs) n) (label fs n)
+label_like : {T : Type 0} → (fs : NestedFrames T) (n : ℕ) → Like Names (heights.labelled_frame (controls_of fs) n) (label fs n)
 label_like [] n = tt
 label_like (f ∷ fs) zero = (fs, refl)
 label_like (f ∷ fs) (suc n) = label_like fs n
@@ -247,7 +247,7 @@ module _ {T : Type 0} (m : Typing) (r : OperandRules T) where
     targets_like xs p e arity (n ∷ ns) =
         let rest : List (Operand T) → Checked (Unit {0}) = λ q. heights.targets m r c (controls_of (f ∷ fs)) xs arity ns in
         let on : Point T → Checked (Unit {0}) = λ q. targets m r (f ∷ fs) p arity ns in
-        like_bind Names Both (heights.label (controls_of (f ∷ fs)) n) (label (f ∷ fs) n)
+        like_bind Names Both (heights.labelled_frame (controls_of (f ∷ fs)) n) (label (f ∷ fs) n)
         (λ d. demand (nat_eq (length (heights.label_types d)) arity) >>= λ u. heights.pop_all m r c (heights.label_types d) xs >>= rest)
         (λ g. demand (nat_eq (length (label_types g)) arity) >>= λ u. pop_all m r (label_types g) p >>= on)
         (label_like (f ∷ fs) n)
@@ -262,13 +262,13 @@ module _ {T : Type 0} (m : Typing) (r : OperandRules T) where
     taken_like Nop o = holds_same
     taken_like Plain o = required_like (r.plain o)
     taken_like (Branch n) o =
-        like_bind Names (Holds fs f) (heights.label (controls_of (f ∷ fs)) n) (label (f ∷ fs) n) (λ d. heights.popping m r c (heights.label_types d) here) (λ g. pop_all m r (label_types g) f.point)
+        like_bind Names (Holds fs f) (heights.labelled_frame (controls_of (f ∷ fs)) n) (label (f ∷ fs) n) (λ d. heights.popping m r c (heights.label_types d) here) (λ g. pop_all m r (label_types g) f.point)
         (label_like (f ∷ fs) n) λ d g w.
         subst (λ ts. Like (Holds fs f) (heights.popping m r c ts here) (pop_all m r (label_types g) f.point)) (sym (types_like d g w)) (popping_like (label_types g) (operands_of (f ∷ fs)) f.point above_here)
     taken_like (ConditionalBranch n) o =
         let to : Change T → Checked (Stacks T) = λ k. Ok (heights.changed m r c k here) in
         let on : Change T → Checked (Point T) = λ k. Ok (changed k f.point) in
-        like_bind Names (Holds fs f) (heights.label (controls_of (f ∷ fs)) n) (label (f ∷ fs) n)
+        like_bind Names (Holds fs f) (heights.labelled_frame (controls_of (f ∷ fs)) n) (label (f ∷ fs) n)
         (λ d. required (r.conditional o (heights.label_types d) (heights.point m r c here)) >>= to) (λ g. required (r.conditional o (label_types g) f.point) >>= on) (label_like (f ∷ fs) n) λ d g w.
         subst (λ ts. Like (Holds fs f) (required (r.conditional o ts (heights.point m r c here)) >>= to) (required (r.conditional o (label_types g) f.point) >>= on)) (sym (types_like d g w))
         (required_like (r.conditional o (label_types g)))
@@ -276,10 +276,10 @@ module _ {T : Type 0} (m : Typing) (r : OperandRules T) where
         let to : List (Operand T) → List (ValType ℕ) → Checked (Stacks T) = λ xs ts. heights.popping m r c ts (record { operands = xs; initialised = f.point.initialised }) in
         let on : Point T → List (ValType ℕ) → Checked (Point T) = λ p ts. pop_all m r ts p in
         like_bind (Above fs f) (Holds fs f) (heights.pop m r c i32 (operands_of (f ∷ fs))) (pop m r i32 f.point)
-        (λ xs. heights.label (controls_of (f ∷ fs)) n >>= λ d. heights.targets m r c (controls_of (f ∷ fs)) xs (length (heights.label_types d)) ns >>= λ u. to xs (heights.label_types d))
+        (λ xs. heights.labelled_frame (controls_of (f ∷ fs)) n >>= λ d. heights.targets m r c (controls_of (f ∷ fs)) xs (length (heights.label_types d)) ns >>= λ u. to xs (heights.label_types d))
         (λ p. label (f ∷ fs) n >>= λ g. targets m r (f ∷ fs) p (length (label_types g)) ns >>= λ u. on p (label_types g))
         (pop_like fs f i32 (operands_of (f ∷ fs)) f.point above_here) λ xs p e.
-        like_bind Names (Holds fs f) (heights.label (controls_of (f ∷ fs)) n) (label (f ∷ fs) n)
+        like_bind Names (Holds fs f) (heights.labelled_frame (controls_of (f ∷ fs)) n) (label (f ∷ fs) n)
         (λ d. heights.targets m r c (controls_of (f ∷ fs)) xs (length (heights.label_types d)) ns >>= λ u. to xs (heights.label_types d))
         (λ g. targets m r (f ∷ fs) p (length (label_types g)) ns >>= λ u. on p (label_types g))
         (label_like (f ∷ fs) n) λ d g w.
@@ -296,10 +296,10 @@ module _ {T : Type 0} (m : Typing) (r : OperandRules T) where
         like_map (Above fs f) (Holds fs f) (heights.pop m r c exnref (operands_of (f ∷ fs))) (pop m r exnref f.point) (λ ys. record { operands = ys; initialised = f.point.initialised })
         (pop_like fs f exnref (operands_of (f ∷ fs)) f.point above_here) holds_above
     taken_like (Rethrow n) o =
-        like_bind Names (Holds fs f) (heights.label (controls_of (f ∷ fs)) n) (label (f ∷ fs) n) (λ d. demand (is_handler d.opened) >>= λ u. Ok here) (λ g. demand (is_handler g.opened) >>= λ u. Ok f.point)
+        like_bind Names (Holds fs f) (heights.labelled_frame (controls_of (f ∷ fs)) n) (label (f ∷ fs) n) (λ d. demand (is_catch d.opened) >>= λ u. Ok here) (λ g. demand (is_catch g.opened) >>= λ u. Ok f.point)
         (label_like (f ∷ fs) n) λ d g w.
-        subst (λ x. Like (Holds fs f) (demand (is_handler x) >>= λ u. Ok here) (demand (is_handler g.opened) >>= λ u. Ok f.point)) (sym (opened_like d g w))
-        (like_same (Holds fs f) (demand (is_handler g.opened)) (λ u. Ok here) (λ u. Ok f.point) (λ u. holds_same))
+        subst (λ x. Like (Holds fs f) (demand (is_catch x) >>= λ u. Ok here) (demand (is_catch g.opened) >>= λ u. Ok f.point)) (sym (opened_like d g w))
+        (like_same (Holds fs f) (demand (is_catch g.opened)) (λ u. Ok here) (λ u. Ok f.point) (λ u. holds_same))
     taken_like TailCall o =
         let to : Unit {0} → Checked (Stacks T) = λ u. Ok here in
         let on : Unit {0} → Checked (Point T) = λ u. Ok f.point in
@@ -351,7 +351,7 @@ module _ {T : Type 0} (m : Typing) (r : OperandRules T) where
         heights.pop_control m r (heights.control m r (stacks_of fs) OfCatch (handed m k) ts) (record { operands = xs; initialised = initialised_in fs }) in
         let to : Stacks T → Checked (Unit {0}) = λ t. heights.hand m r (controls_of fs) (stacks_of fs) ks in
         let on : Unit {0} → Checked (Unit {0}) = λ u. hand m r fs ks in
-        like_bind Names Both (heights.label (controls_of fs) k.label) (label fs k.label)
+        like_bind Names Both (heights.labelled_frame (controls_of fs) k.label) (label fs k.label)
         (λ d. pushed (push_each m r (handed m k) (operands_of fs)) (heights.label_types d) >>= to)
         (λ g. closes m r (opened_in m r fs OfCatch (handed m k) (label_types g)) >>= on) (label_like fs k.label) λ d g w.
         subst (λ ts. Like Both (pushed (push_each m r (handed m k) (operands_of fs)) ts >>= to) (closes m r (opened_in m r fs OfCatch (handed m k) (label_types g)) >>= on)) (sym (types_like d g w))
@@ -359,13 +359,13 @@ module _ {T : Type 0} (m : Typing) (r : OperandRules T) where
         (like_bind Same Both (pushed (push_each m r (handed m k) [] ++ operands_of fs) (label_types g)) (closes m r (opened_in m r fs OfCatch (handed m k) (label_types g))) to on
         (pops_control (opened_in m r fs OfCatch (handed m k) (label_types g)) fs (([], refl), h)) (λ s u e. hand_like ks)))
 
-    catching_like : (construct : Construct) (o : NamedOperation) → Like (λ (u v : Unit {0}). Unit {0}) (heights.catching m r construct o (controls_of fs) (stacks_of fs)) (catching m r construct o fs)
-    catching_like (TryTable ks) o = hand_like (clauses_of o.immediates)
+    catching_like : (construct : Construct) (o : NamedOperation) → Like (λ (u v : Unit {0}). Unit {0}) (heights.checks_catches m r construct o (controls_of fs) (stacks_of fs)) (catching m r construct o fs)
+    catching_like (TryTable ks) o = hand_like (try_table_clauses o.immediates)
     catching_like _ o = tt
 
     opens_like : (construct : Construct) (o : NamedOperation) → Like IsStateOf (heights.opens m r construct o (stacks_of fs) (controls_of fs)) (opens m r construct o fs)
     opens_like construct o =
-        like_bind (λ (u v : Unit {0}). Unit {0}) IsStateOf (heights.catching m r construct o (controls_of fs) (stacks_of fs)) (catching m r construct o fs)
+        like_bind (λ (u v : Unit {0}). Unit {0}) IsStateOf (heights.checks_catches m r construct o (controls_of fs) (stacks_of fs)) (catching m r construct o fs)
         (λ u. Ok (heights.push_control m r (opened_by construct) (block_signature o).parameters (block_signature o).results (stacks_of fs) (controls_of fs))) (λ u. Ok (frame_by m r construct o fs ∷ fs))
         (catching_like construct o) (λ u v e. pushes_control fs h (opened_by construct) (block_signature o).parameters (block_signature o).results)
 
@@ -377,7 +377,7 @@ module _ {T : Type 0} (m : Typing) (r : OperandRules T) where
       by [] i = (refl, tt)
       by (g ∷ gs) i = (ap (λ xs. state (record { operands = xs; initialised = g.point.initialised }) (controls_of (g ∷ gs))) (push_above ts g.point.operands (operands_of gs)), i)
 
-    ends_like : (o : Opened) (f : NestedFrame T) → Like Same (heights.ends m r o (control_in fs f) (stacks_of fs)) (ends m r o f fs)
+    ends_like : (o : Opened) (f : NestedFrame T) → Like Same (heights.checks_end m r o (control_in fs f) (stacks_of fs)) (ends m r o f fs)
     ends_like OfIf f =
         subst (λ xs. Like Same (heights.pop_control m r (control_in fs (alternative m r f fs)) (record { operands = xs; initialised = initialised_in fs })) (closes m r (alternative m r f fs)))
         (sym (push_above f.start_types [] (operands_of fs))) (pops_control (alternative m r f fs) fs (([], refl), h))
@@ -394,13 +394,13 @@ module _ {T : Type 0} (m : Typing) (r : OperandRules T) where
         like_same IsStateOf (demand (may_catch f.opened)) (λ u. Ok (heights.push_control m r OfCatchAll [] f.end_types (stacks_of fs) (controls_of fs))) (λ u. Ok (handler_of_all m r f fs ∷ fs))
         (λ u. pushes_control fs h OfCatchAll [] f.end_types)
     next_sequence_like End f =
-        like_bind Same IsStateOf (heights.ends m r f.opened (control_in fs f) (stacks_of fs)) (ends m r f.opened f fs)
+        like_bind Same IsStateOf (heights.checks_end m r f.opened (control_in fs f) (stacks_of fs)) (ends m r f.opened f fs)
         (λ t. Ok (heights.given m r f.end_types t (controls_of fs))) (λ u. Ok (given m r f.end_types fs)) (ends_like f.opened f)
         (λ t u e. subst (λ x. IsStateOf (heights.given m r f.end_types x (controls_of fs)) (given m r f.end_types fs)) (sym e) (given_like f.end_types))
     next_sequence_like (Delegate n) f =
-        like_same IsStateOf (demand (is_try f.opened)) (λ u. heights.label (controls_of fs) n >>= λ d. Ok (heights.given m r f.end_types (stacks_of fs) (controls_of fs)))
+        like_same IsStateOf (demand (is_try f.opened)) (λ u. heights.labelled_frame (controls_of fs) n >>= λ d. Ok (heights.given m r f.end_types (stacks_of fs) (controls_of fs)))
         (λ u. label fs n >>= λ g. Ok (given m r f.end_types fs)) λ u.
-        like_bind Names IsStateOf (heights.label (controls_of fs) n) (label fs n) (λ d. Ok (heights.given m r f.end_types (stacks_of fs) (controls_of fs))) (λ g. Ok (given m r f.end_types fs))
+        like_bind Names IsStateOf (heights.labelled_frame (controls_of fs) n) (label fs n) (λ d. Ok (heights.given m r f.end_types (stacks_of fs) (controls_of fs))) (λ g. Ok (given m r f.end_types fs))
         (label_like fs n) (λ d g w. given_like f.end_types)
     next_sequence_like (Does action) f = tt
     next_sequence_like (Opens construct) f = tt

@@ -8,7 +8,7 @@ use Rattle.wasm_body.specs.Control.{Action, Nop, Plain, Branch, ConditionalBranc
 use Rattle.wasm_body.specs.Translation.{Located}
 use Rattle.wasm_body.specs.Naming.{NamedOperation, block_signature}
 use Rattle.wasm_body.specs.NormalForm.{Typing}
-use Rattle.wasm_body.specs.Validity.{Operand, Unknown, Known, Point, Opened, OfFunction, OfLoop, OfIf, OfElse, OfCatch, OfCatchAll, Change, OperandRules, refused, Checked, demand, required, i32, exnref, opened_by, is_if, is_try, may_catch, is_handler, transfers, clauses_of, handed, push_each}
+use Rattle.wasm_body.specs.Validity.{Operand, Unknown, Known, Point, Opened, OfFunction, OfLoop, OfIf, OfElse, OfCatch, OfCatchAll, Change, OperandRules, refused, Checked, demand, required, i32, exnref, opened_by, is_if, is_try, may_catch, is_catch, transfers, try_table_clauses, handed, push_each}
 
 -- A frame of the control stack. In the place of the heights of the two other stacks it holds what is above them: each frame has its
 -- own operands. One that isn't the innermost has the locals that were initialised when the next was opened, to which the closing of
@@ -128,7 +128,7 @@ module _ {T : Type 0} (m : Typing) (r : OperandRules T) where
   taken Unreachable o fs p = Ok p
   taken (Throw tag) o fs p = pop_all (m.tag_parameters tag) p
   taken ThrowRef o fs p = pop exnref p
-  taken (Rethrow n) o fs p = label fs n >>= λ g. demand (is_handler g.opened) >>= λ u. Ok p
+  taken (Rethrow n) o fs p = label fs n >>= λ g. demand (is_catch g.opened) >>= λ u. Ok p
   taken TailCall o fs p = demand (r.tail_call o (results fs) p) >>= λ u. Ok p
 
   -- ---- operators that open a construct
@@ -144,7 +144,7 @@ module _ {T : Type 0} (m : Typing) (r : OperandRules T) where
   hand fs (c ∷ cs) = label fs c.label >>= λ g. closes (opened_in fs OfCatch (handed m c) (label_types g)) >>= λ u. hand fs cs
 
   abbrev pub catching : Construct → NamedOperation → NestedFrames T → Checked (Unit {0})
-  catching (TryTable cs) o fs = hand fs (clauses_of o.immediates)
+  catching (TryTable cs) o fs = hand fs (try_table_clauses o.immediates)
   catching _ o fs = Ok tt
 
   abbrev pub taken_by : Construct → NamedOperation → Point T → Checked (Point T)

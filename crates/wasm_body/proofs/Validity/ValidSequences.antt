@@ -7,11 +7,11 @@ use Rattle.wasm_body.specs.Control.{Action, Nop, Plain, Branch, ConditionalBranc
 use Rattle.wasm_body.specs.SourceTree.{Sequence, Empty, Single, Wrapped, IfThen, IfElse, TryCatch, TryDelegate, Clauses, Ended, Catches, CatchesAll, construct_of, text, clauses_text, Body, body_text}
 use Rattle.wasm_body.specs.Translation.{Located}
 use Rattle.wasm_body.specs.Naming.{NamedOperation}
-use Rattle.wasm_body.specs.NormalForm.{Typing, fate, Diverges}
+use Rattle.wasm_body.specs.NormalForm.{Typing, fate, MakesUnreachable}
 use Rattle.wasm_body.specs.TextLaws.{mark_named, IsNamedBody}
 use Rattle.wasm_body.specs.Validity.{Point, Opened, OfIf, OperandRules, Checked, demand, opened_by, transfers, push_each, is_if, is_try, may_catch}
 use Rattle.wasm_body.proofs.Validity.NestedFrames.{NestedFrame, NestedFrames, none, at, unreachable, after_action, pop_each, pop_all, label, opened_in, frame_by, handler, handler_of_all, closes, given, taken, taken_by, catching, opens, alternative, ends, next_sequence, step, validate, function_frame, IsValid}
-use Rattle.wasm_body.proofs.Executions.RewritesTo.{RewritesTo, empty, drop_nop, keep, diverging, wrapped, if_then, if_else, add_else, drop_else, try_catch, try_delegate, ClausesRewriteTo, ended, catches_one, catches_all}
+use Rattle.wasm_body.proofs.Executions.RewritesTo.{RewritesTo, empty, drop_nop, keep, unreachable_after, wrapped, if_then, if_else, add_else, drop_else, try_catch, try_delegate, ClausesRewriteTo, ended, catches_one, catches_all}
 
 -- ---- what is checked in turn
 
@@ -42,21 +42,21 @@ same_bind (Err e) k k' f = refl
 
 -- ---- what can't be reached
 
-diverging_transfers : (action : Action) → fate action ≡ Diverges → transfers action ≡ true
-diverging_transfers Nop h = absurd (cc)
-diverging_transfers Plain h = absurd (cc)
-diverging_transfers (Branch n) h = refl
-diverging_transfers (ConditionalBranch n) h = absurd (cc)
-diverging_transfers (TableBranch ts d) h = refl
-diverging_transfers Return h = refl
-diverging_transfers Unreachable h = refl
-diverging_transfers (Throw t) h = refl
-diverging_transfers ThrowRef h = refl
-diverging_transfers (Rethrow n) h = refl
-diverging_transfers TailCall h = refl
+unreachable_after_transfers : (action : Action) → fate action ≡ MakesUnreachable → transfers action ≡ true
+unreachable_after_transfers Nop h = absurd (cc)
+unreachable_after_transfers Plain h = absurd (cc)
+unreachable_after_transfers (Branch n) h = refl
+unreachable_after_transfers (ConditionalBranch n) h = absurd (cc)
+unreachable_after_transfers (TableBranch ts d) h = refl
+unreachable_after_transfers Return h = refl
+unreachable_after_transfers Unreachable h = refl
+unreachable_after_transfers (Throw t) h = refl
+unreachable_after_transfers ThrowRef h = refl
+unreachable_after_transfers (Rethrow n) h = refl
+unreachable_after_transfers TailCall h = refl
 
-after_diverging : {T : Type 0} → (action : Action) (p : Point T) → fate action ≡ Diverges → after_action action p ≡ unreachable p
-after_diverging action p h = ap (λ b. if b then unreachable p else p) (diverging_transfers action h)
+after_unreachable_after : {T : Type 0} → (action : Action) (p : Point T) → fate action ≡ MakesUnreachable → after_action action p ≡ unreachable p
+after_unreachable_after action p h = ap (λ b. if b then unreachable p else p) (unreachable_after_transfers action h)
 
 -- an operator that parts or closes a construct
 abbrev Parts : Control → Type 0
@@ -66,12 +66,12 @@ Parts _ = Unit {0}
 
 module _ {T : Type 0} (m : Typing) (r : OperandRules T) where
   -- what a frame is to give can be popped where code can't be reached
-  dead_pops : (ts : List (ValType ℕ)) (p : Point T) → pop_each m r ts (unreachable p) ≡ Ok (unreachable p)
-  dead_pops [] p = refl
-  dead_pops (t ∷ ts) p = dead_pops ts p
+  unreachable_pops : (ts : List (ValType ℕ)) (p : Point T) → pop_each m r ts (unreachable p) ≡ Ok (unreachable p)
+  unreachable_pops [] p = refl
+  unreachable_pops (t ∷ ts) p = unreachable_pops ts p
 
-  dead_closes : (f : NestedFrame T) (p : Point T) → closes m r (at f (unreachable p)) ≡ Ok tt
-  dead_closes f p = ap (λ a. a >>= λ q. demand (none q.operands)) (dead_pops (reverse f.end_types) p)
+  unreachable_closes : (f : NestedFrame T) (p : Point T) → closes m r (at f (unreachable p)) ≡ Ok tt
+  unreachable_closes f p = ap (λ a. a >>= λ q. demand (none q.operands)) (unreachable_pops (reverse f.end_types) p)
 
   -- ---- validity of marked operators
 
@@ -102,7 +102,7 @@ module _ {T : Type 0} (m : Typing) (r : OperandRules T) where
   -- where they are from any point on, the second are from one that can't be reached.
   record Continues (f : NestedFrame T) (fs : NestedFrames T) (k k' : List (Marked (Located NamedOperation))) : Type 0 where
     same : (p : Point T) → Valid k (at f p ∷ fs) → Valid k' (at f p ∷ fs)
-    dead : (p q : Point T) → Valid k (at f p ∷ fs) → Valid k' (at f (unreachable q) ∷ fs)
+    in_unreachable : (p q : Point T) → Valid k (at f p ∷ fs) → Valid k' (at f (unreachable q) ∷ fs)
 
   -- what comes after operators that part and close: it knows no point
   abbrev Continuation : Control → Control → NestedFrame T → NestedFrames T → (z z' : List (Marked (Located NamedOperation))) → Type 0
@@ -115,10 +115,10 @@ module _ {T : Type 0} (m : Typing) (r : OperandRules T) where
         ap (λ x. x >>= over z') (step_parts c' g' a'.op (at f p) fs)
         ∙ onwards (closes m r (at f p)) (λ u. next_sequence m r c (at f p) fs) (λ u. next_sequence m r c' (at f p) fs) (over z) (over z') [] (λ u. h p p)
         (sym (ap (λ x. x >>= over z) (step_parts c g a.op (at f p) fs)) ∙ v);
-    dead = λ p q v.
+    in_unreachable = λ p q v.
         let w = from_two (closes m r (at f p)) (λ u. next_sequence m r c (at f p) fs) (over z) [] (sym (ap (λ x. x >>= over z) (step_parts c g a.op (at f p) fs)) ∙ v) in
         ap (λ x. x >>= over z') (step_parts c' g' a'.op (at f (unreachable q)) fs)
-        ∙ after (closes m r (at f (unreachable q))) (λ u. next_sequence m r c' (at f (unreachable q)) fs) (over z') [] (dead_closes f q) (h p (unreachable q) w.1);
+        ∙ after (closes m r (at f (unreachable q))) (λ u. next_sequence m r c' (at f (unreachable q)) fs) (over z') [] (unreachable_closes f q) (h p (unreachable q) w.1);
   }
 
   -- what comes after one that is valid
@@ -297,10 +297,10 @@ module _ {T : Type 0} (m : Typing) (r : OperandRules T) where
     kept (keep {a = a} {action = action} {r = s} {r' = s'} x) f fs k k' h = λ p.
         let to : Point T → Checked (NestedFrames T) = λ q. Ok (at f (after_action action q) ∷ fs) in
         onwards (taken m r action a.op (at f p ∷ fs) p) to to (over (text s k)) (over (text s' k')) [] (λ q. kept x f fs k k' h (after_action action q))
-    kept (diverging {a = a} {action = action} {r = s} c) f fs k k' h = λ p.
+    kept (unreachable_after {a = a} {action = action} {r = s} c) f fs k k' h = λ p.
         let to : Point T → Checked (NestedFrames T) = λ q. Ok (at f (after_action action q) ∷ fs) in
         onwards (taken m r action a.op (at f p ∷ fs) p) to to (over (text s k)) (over k') []
-        (λ q w. let x = walk s k f fs (after_action action q) w in subst (λ x. Valid k' (at f x ∷ fs)) (sym (after_diverging action q c)) (h.dead x.0 q x.1))
+        (λ q w. let x = walk s k f fs (after_action action q) w in subst (λ x. Valid k' (at f x ∷ fs)) (sym (after_unreachable_after action q c)) (h.in_unreachable x.0 q x.1))
     kept (wrapped {a = a} {e = e} {e' = e'} {w = w} {b = b} {b' = b'} {r = s} {r' = s'} x y) f fs k k' h =
         kept_open (construct_of w) a f fs (text b (with_control e End ∷ text s k)) (text b' (with_control e' End ∷ text s' k')) λ q.
         let gs = at f q ∷ fs in

@@ -12,7 +12,7 @@ use Rattle.wasm_numbers.specs.Results.{◌>>=◌, unless, with_fault}
 use Rattle.walrus_ir.specs.Locations.{default_location}
 use Rattle.wasm_body.specs.Control.{Marked, with_control, control_of, end_operation}
 use Rattle.wasm_body.specs.SourceTree.{Body, body_text}
-use Rattle.wasm_body.specs.Frames.{Frame, Rule, BodyFollows, function_frames, frames_after}
+use Rattle.wasm_body.specs.Frames.{SequenceFrame, FrameRule, BodyFollows, function_frames, frames_after}
 use Rattle.wasm_body.specs.Naming.{Environment, Occurrence, named_in, entry_type_id}
 
 -- ---- operators as they occur
@@ -32,7 +32,7 @@ abbrev pub IsBody : List Occurrence → Body Occurrence → Type 0
 IsBody xs b = map mark xs ≡ body_text b
 
 -- The operator has this name in its place, and so keeps the rules.
-abbrev pub IsNamed : Environment → Rule Occurrence
+abbrev pub IsNamed : Environment → FrameRule Occurrence
 IsNamed env fs x = named_in env fs x.shown.spelt ≡ Ok x.shown.named
 
 -- The operators form this body, each has its name in it, and the function's own type is a function type with an entry type.
@@ -112,7 +112,7 @@ pub record Handled (V : Type 0) : Type 0 where
   pub state : V
 
 -- The operator at the front of the bytes is admitted, if its place has a location; and then its rules are tried.
-abbrev pub handled : {V : Type 0} → Setting V → V → List (Frame Occurrence) → ℕ → List ℕ → Result (Handled V) ParseError
+abbrev pub handled : {V : Type 0} → Setting V → V → List (SequenceFrame Occurrence) → ℕ → List ℕ → Result (Handled V) ParseError
 handled given v fs place bytes =
     admitted (has_location given.locations) given.check v place bytes >>= λ a.
     named_in given.environment fs a.spelt >>= λ named.
@@ -132,7 +132,7 @@ pub record IsCompletedBy (env : Environment) (xs : List Occurrence) (count : ℕ
   pub lawful : Lawful env (xs ++ replicate count added_end) body
 
 -- the error is the fault of the rest of the bytes, if these sequences are open
-abbrev pub FaultAfter : {V : Type 0} → Setting V → V → List (Frame Occurrence) → ℕ → List ℕ → ParseError → Type 0
+abbrev pub FaultAfter : {V : Type 0} → Setting V → V → List (SequenceFrame Occurrence) → ℕ → List ℕ → ParseError → Type 0
 FaultAfter given v [] place [] error = ⊥
 FaultAfter given v [] place (b ∷ rest) error = error ≡ Trailing
 FaultAfter given v (f ∷ fs) place [] error = error ≡ MissingEnd
@@ -142,7 +142,7 @@ FaultAfter given v (f ∷ fs) place (b ∷ rest) error = handled given v (f ∷ 
 pub record FaultAfterFront {V : Type 0} (given : Setting V) (bytes : List ℕ) (failure : ParseFailure) : Type 0 where
   pub front : List Occurrence
   pub rest : List ℕ
-  pub frames : List (Frame Occurrence)
+  pub frames : List (SequenceFrame Occurrence)
   pub state : V
   pub is_front : IsFront given front bytes rest
   pub completes : IsCompletedBy given.environment front (length frames)

@@ -3,7 +3,7 @@
 use Rattle.std.specs.Prelude.{ℕ, List, [], ◌∷◌, Option, Some, None}
 use Rattle.wasm_body.specs.Control.{Construct, Block, Loop, TryTable, If, Try, Control, Does, Opens, Else, Catch, CatchAll, End, Delegate, Marked}
 use Rattle.wasm_body.specs.SourceTree.{Wrapper, OfBlock, OfLoop, OfTryTable, Sequence, Empty, Single, Wrapped, IfThen, IfElse, TryCatch, TryDelegate, Clauses, Ended, Catches, CatchesAll, Body}
-use Rattle.wasm_body.specs.Frames.{Frame, OfFunction, OfWrapper, Consequent, Alternative, TryBody, Handler, HandlerOfAll}
+use Rattle.wasm_body.specs.Frames.{SequenceFrame, OfFunction, OfWrapper, Consequent, Alternative, TryBody, Handler, HandlerOfAll}
 
 -- a sequence after another
 abbrev pub append : {A : Type 0} → Sequence A → Sequence A → Sequence A
@@ -57,7 +57,7 @@ abbrev pub nothing_read : {A : Type 0} → Progress A
 nothing_read = Within [] Empty
 
 -- the frames of the open sequences
-abbrev pub frame_of : {A : Type 0} → OpenConstruct A → Frame A
+abbrev pub frame_of : {A : Type 0} → OpenConstruct A → SequenceFrame A
 frame_of (InWrapper a w) = OfWrapper a
 frame_of (InThen a) = Consequent a
 frame_of (InElse a b l) = Alternative a
@@ -65,7 +65,7 @@ frame_of (InTry a) = TryBody a
 frame_of (InCatch a b gs h t) = Handler a
 frame_of (InCatchAll a b gs h) = HandlerOfAll a
 
-abbrev pub frames_of : {A : Type 0} → List (Layer A) → List (Frame A)
+abbrev pub frames_of : {A : Type 0} → List (Layer A) → List (SequenceFrame A)
 frames_of [] = OfFunction ∷ []
 frames_of (l ∷ ls) = frame_of l.construct ∷ frames_of ls
 

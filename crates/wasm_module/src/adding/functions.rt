@@ -6,7 +6,7 @@ ghost use Rattle.wasm_operators.specs.declared.types.Space.TheVariants.{Types};
 ghost use Rattle.walrus_maps.specs.IndexMaps.{number_of};
 ghost use Rattle.walrus_rewrite.specs.RawBodies.{IsRawBodyOf};
 ghost use Rattle.wasm_module.specs.AddedFunctions.{input_with, AddsRawFunction, AddsFunction, HasOneFunctionMore};
-ghost use Rattle.wasm_sections.specs.Declarations.{parameters_of};
+ghost use Rattle.wasm_sections.specs.Declarations.{parameters_of_type};
 ghost use Rattle.wasm_sections.specs.Sections.{SectionAt, IsModule};
 ghost use Rattle.wasm_sections.specs.GivenContents.{added_bodies};
 
@@ -71,7 +71,7 @@ impl<'a> ParsedModule<'a> {
     /// The index of a function's type, if the function has an argument for each parameter.
     fn type_to_add(&self, function: &LocalFunction) -> Result<u32, ModuleError>
         ensures args { OnOk result (length function.now.args
-            ≡ length (parameters_of self.now.«module».types function.now.builder.type)) }
+            ≡ length (parameters_of_type self.now.«module».types function.now.builder.type)) }
         ensures index { IfOk result (λ index. number_of self.now.spaces.numbers Types
             function.now.builder.type ≡ Ok index) }
     {

@@ -1,6 +1,6 @@
 use Rattle.std.proofs.Common.{◌≡◌, ℕ, suc, List, length, Option, Some, None}
 use Rattle.std.specs.Prelude.{option_map}
-use Rattle.source_map.specs.Reading.{segments_at, parts_of, mappings_at}
+use Rattle.source_map.specs.Reading.{segments_at, comma_parts, mappings_at}
 use Rattle.source_map.proofs.Loops.{with_front}
 use Rattle.source_map.proofs.reading.read_all.Given as goal
 
@@ -10,7 +10,7 @@ left_length None = 0
 left_length (Some text) = suc (length text)
 
 abbrev pub invariant-loop-left : goal.invariant-loop-left
-invariant-loop-left l = with_front l.mappings.items (segments_at l.fields (parts_of (option_map (λ x. x.now) l.left))) ≡ mappings_at l.text
+invariant-loop-left l = with_front l.mappings.items (segments_at l.fields (comma_parts (option_map (λ x. x.now) l.left))) ≡ mappings_at l.text
 
 abbrev pub decreases-loop-left : goal.decreases-loop-left
 decreases-loop-left l = left_length (option_map (λ x. x.now) l.left)

@@ -1,7 +1,7 @@
 use Rattle.std.proofs.Common.{◌≡◌, ◌∷◌, None, get_or, drop, sym, ap, ◌∙◌, drop-cons, arith}
 use Rattle.std.proofs.lemmas.List.{take_rest}
 use Rattle.source_map.specs.declared.mapping.Mapping.{Mapping}
-use Rattle.source_map.specs.Spelling.{start}
+use Rattle.source_map.specs.Spelling.{no_fields}
 use Rattle.source_map.specs.Shortest.{spelling}
 use Rattle.source_map.proofs.Loops.{first_written}
 use Rattle.source_map.proofs.writing.encode.Goals as goal
@@ -13,4 +13,4 @@ loop-mapping-init c =
     let item = get_or all 0 none in
     let whole : all ≡ item ∷ drop 1 all = drop-cons all 0 none (omega arith) in
     rw (take_rest all 1, c.in_ok-write_segment.ensures, c.new-out.ensures.items, c.after-fields.ensures, c.start-fields.ensures)
-    (first_written start item (drop 1 all) ∙ sym (ap spelling whole))
+    (first_written no_fields item (drop 1 all) ∙ sym (ap spelling whole))

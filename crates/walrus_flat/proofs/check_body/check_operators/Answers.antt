@@ -6,7 +6,7 @@ use Rattle.wasm_operators.specs.Meaning.{meaning}
 use Rattle.wasm_ops.specs.Position.{Position, IsAfter}
 use Rattle.wasm_body.specs.declared.error.ParseError.TheVariants.{Trailing}
 use Rattle.wasm_body.specs.Parsing.Lists.{failure}
-use Rattle.walrus_flat.specs.CheckedBody.{IsTaken, ChecksNextAtOnce}
+use Rattle.walrus_flat.specs.CheckedBody.{IsValidated, ChecksNextAtOnce}
 use Rattle.walrus_flat.proofs.CheckedLoop.{begins_loop, still, stays, completes, goes_past, breaks, goes_next}
 use Rattle.walrus_flat.proofs.check_body.check_operators.Goals as goal
 
@@ -74,7 +74,7 @@ returns-in-Err-step g c =
     let next = c.read_other-read.new.self in
     let o = meaning c.in-Ok.operator in
     let read : read_operation now.rest ≡ Ok (o, next.rest) = IfOk-at_ok (λ x. read_operation now.rest ≡ Ok (meaning x, next.rest)) c.in-Ok.is (subst (λ (r : Position). IfOk c.read_other-read.result (λ x. read_operation r.rest ≡ Ok (meaning x, c.read_other-read.new.self.rest))) same c.read_other-read.ensures.is_read) in
-    let taken : IsTaken check v w o a.limit.has_limit now.place = subst (λ p. IsTaken check v w o a.limit.has_limit p) c.original_position-at.ensures c.in-Ok-accepts.ensures.ok in
+    let taken : IsValidated check v w o a.limit.has_limit now.place = subst (λ p. IsValidated check v w o a.limit.has_limit p) c.original_position-at.ensures c.in-Ok-accepts.ensures.ok in
     let some : 0 < length now.rest = search rules in
     breaks a.reader.now.place check v0 a.limit.has_limit a.reader.now.rest a.checker.now c.check_control.new.checker c.step.new.self v w now.place next.place now.rest next.rest o so read taken c.in-Err-step.error some c.in-Err-step.ensures.step
     c.failure-in-Err-step.result (c.failure-in-Err-step.ensures ∙ ap (failure c.in-Err-step.error) c.original_position-at.ensures)
@@ -95,7 +95,7 @@ returns-then-not-eof g c =
     let next = c.read_other-read.new.self in
     let o = meaning c.in-Ok.operator in
     let read : read_operation now.rest ≡ Ok (o, next.rest) = IfOk-at_ok (λ x. read_operation now.rest ≡ Ok (meaning x, next.rest)) c.in-Ok.is (subst (λ (r : Position). IfOk c.read_other-read.result (λ x. read_operation r.rest ≡ Ok (meaning x, c.read_other-read.new.self.rest))) same c.read_other-read.ensures.is_read) in
-    let taken : IsTaken check v w o a.limit.has_limit now.place = subst (λ p. IsTaken check v w o a.limit.has_limit p) c.original_position-at.ensures c.in-Ok-accepts.ensures.ok in
+    let taken : IsValidated check v w o a.limit.has_limit now.place = subst (λ p. IsValidated check v w o a.limit.has_limit p) c.original_position-at.ensures c.in-Ok-accepts.ensures.ok in
     let Moves : Type 0 = (next.place + length next.rest ≡ now.place + length now.rest) × (length next.rest < length now.rest) in
     let moves : Moves = IfOk-at_ok (λ _. Moves) c.in-Ok.is (subst (λ (r : Position). IfOk c.read_other-read.result (λ _. IsAfter r c.read_other-read.new.self)) same c.read_other-read.ensures.moves) in
     let empty : length c.step.new.self.«open».items ≡ 0 = search rules in
@@ -120,7 +120,7 @@ returns-then-is_empty g c = λ locations h.
     let next = c.read_other-read.new.self in
     let o = meaning c.in-Ok.operator in
     let read : read_operation now.rest ≡ Ok (o, next.rest) = IfOk-at_ok (λ x. read_operation now.rest ≡ Ok (meaning x, next.rest)) c.in-Ok.is (subst (λ (r : Position). IfOk c.read_other-read.result (λ x. read_operation r.rest ≡ Ok (meaning x, c.read_other-read.new.self.rest))) same c.read_other-read.ensures.is_read) in
-    let taken : IsTaken check v w o a.limit.has_limit now.place = subst (λ p. IsTaken check v w o a.limit.has_limit p) c.original_position-at.ensures c.in-Ok-accepts.ensures.ok in
+    let taken : IsValidated check v w o a.limit.has_limit now.place = subst (λ p. IsValidated check v w o a.limit.has_limit p) c.original_position-at.ensures c.in-Ok-accepts.ensures.ok in
     let Moves : Type 0 = (next.place + length next.rest ≡ now.place + length now.rest) × (length next.rest < length now.rest) in
     let moves : Moves = IfOk-at_ok (λ _. Moves) c.in-Ok.is (subst (λ (r : Position). IfOk c.read_other-read.result (λ _. IsAfter r c.read_other-read.new.self)) same c.read_other-read.ensures.moves) in
     let empty : length c.step.new.self.«open».items ≡ 0 = search rules in
@@ -143,7 +143,7 @@ loop-limit-preserved g c =
     let next = c.read_other-read.new.self in
     let o = meaning c.in-Ok.operator in
     let read : read_operation now.rest ≡ Ok (o, next.rest) = IfOk-at_ok (λ x. read_operation now.rest ≡ Ok (meaning x, next.rest)) c.in-Ok.is (subst (λ (r : Position). IfOk c.read_other-read.result (λ x. read_operation r.rest ≡ Ok (meaning x, c.read_other-read.new.self.rest))) same c.read_other-read.ensures.is_read) in
-    let taken : IsTaken check v w o a.limit.has_limit now.place = subst (λ p. IsTaken check v w o a.limit.has_limit p) c.original_position-at.ensures c.in-Ok-accepts.ensures.ok in
+    let taken : IsValidated check v w o a.limit.has_limit now.place = subst (λ p. IsValidated check v w o a.limit.has_limit p) c.original_position-at.ensures c.in-Ok-accepts.ensures.ok in
     let Moves : Type 0 = (next.place + length next.rest ≡ now.place + length now.rest) × (length next.rest < length now.rest) in
     let moves : Moves = IfOk-at_ok (λ _. Moves) c.in-Ok.is (subst (λ (r : Position). IfOk c.read_other-read.result (λ _. IsAfter r c.read_other-read.new.self)) same c.read_other-read.ensures.moves) in
     let some : 0 < length c.step.new.self.«open».items = search rules in

@@ -4,7 +4,7 @@ use Rattle.wasm_operators.proofs.ReadingBytes.{each_byte}
 use Rattle.wasm_body.specs.declared.error.ParseFailure.{ParseFailure}
 use Rattle.wasm_body.specs.Naming.{Environment}
 use Rattle.walrus_maps.specs.Environments.{environment_of}
-use Rattle.walrus_flat.specs.Checked.{env_of}
+use Rattle.walrus_flat.specs.Checked.{env_of_checker}
 use Rattle.walrus_flat.specs.CheckedBody.{setting_at, ChecksOperators}
 use Rattle.walrus_flat.proofs.CheckedWhole.{checks_all, entry_fault}
 use Rattle.walrus_flat.proofs.flat_check.check.Goals as goal
@@ -31,6 +31,6 @@ returns g c =
     let r = c.check_operators-result.result in
     let checks : ChecksOperators (setting_at env a.start check v0) a.has_limit a.ops.now old new r =
     subst (λ (e : Environment). ChecksOperators (setting_at e a.start check v0) a.has_limit a.ops.now old new r) c.in-Ok-begin_check.ensures.env
-    (subst (λ (b : Bool). ChecksOperators (setting_at (env_of old) a.start check v0) b a.ops.now old new r) c.new-limit.ensures
-    (subst (λ (p : Position). ChecksOperators (setting_at (env_of old) p.place check v0) c.new-limit.result.has_limit p.rest old new r) c.new-reader.ensures c.check_operators-result.ensures)) in
+    (subst (λ (b : Bool). ChecksOperators (setting_at (env_of_checker old) a.start check v0) b a.ops.now old new r) c.new-limit.ensures
+    (subst (λ (p : Position). ChecksOperators (setting_at (env_of_checker old) p.place check v0) c.new-limit.result.has_limit p.rest old new r) c.new-reader.ensures c.check_operators-result.ensures)) in
     checks_all (setting_at env a.start check v0) a.has_limit a.ops.now c.in-Ok.entry (λ l. sym c.in-Ok.ensures) (each_byte a.ops.now (λ k. omega (arith, c.type_inv.ops k))) old new c.in-Ok-begin_check.ensures.none r checks

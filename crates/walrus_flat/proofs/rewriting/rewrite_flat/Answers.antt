@@ -4,7 +4,7 @@ use Rattle.walrus_parser.specs.Bodies.{body_input}
 use Rattle.walrus_validators.specs.Locating.{MayCall}
 use Rattle.walrus_rewrite.specs.RewrittenBodies.{RefusesRewriting}
 use Rattle.wasm_body.specs.Pairs.{Pair}
-use Rattle.walrus_flat.specs.RewrittenFlat.{emit_input, Composes, Finishes, FinishesBoth}
+use Rattle.walrus_flat.specs.RewrittenFlat.{emit_input, Composes, FinishesBytes, FinishesBoth}
 use Rattle.walrus_flat.proofs.SinkLemmas.{if_in_memory}
 use Rattle.walrus_flat.proofs.FlatResults.{ends_there, flat_with_map, flat_without_map, accepts_to, refused_to, each_body, each_fault}
 use Rattle.walrus_flat.proofs.rewriting.rewrite_flat.Goals as goal
@@ -86,7 +86,7 @@ returns-in-None-clause-rewritten g c =
     let by = emit_input a.module.now a.out.now a.args.now in
     let composes = λ (xs : List ℕ). Composes g.F.Fn (record i { bytes = xs }) by false in
     let ok = subst (λ (xs : List ℕ). IfOk made (composes xs)) c.operators-ops.ensures (if_in_memory (composes c.operators-ops.result.now) _ _ made c.write_body-without.ensures.ok) in
-    rw c.in-None.is (flat_without_map g.F.Fn i by false made ok a.dst.now.items c.finish.new.dst.items _ c.finish.result (subst (λ (xs : List ℕ). Finishes made xs c.finish.new.dst.items c.finish.result) c.list_to_write-alone.ensures.same c.finish.ensures.finishes))
+    rw c.in-None.is (flat_without_map g.F.Fn i by false made ok a.dst.now.items c.finish.new.dst.items _ c.finish.result (subst (λ (xs : List ℕ). FinishesBytes made xs c.finish.new.dst.items c.finish.result) c.list_to_write-alone.ensures.same c.finish.ensures.finishes))
 
 pub returns-in-None-clause-refused : goal.returns-in-None-clause-refused
 returns-in-None-clause-refused g c =

@@ -6,7 +6,7 @@ use Rattle.walrus_numbering.specs.NumberMaps.{numbers_by}
 use Rattle.walrus_validators.specs.Locating.{MayCall}
 use Rattle.walrus_flat.specs.UsedLocals.{entries_of}
 use Rattle.walrus_flat.specs.Sinks.{OfWhole}
-use Rattle.walrus_flat.specs.WrittenBody.{again, IsAccepted, WritesBody, RefusesWriting}
+use Rattle.walrus_flat.specs.WrittenBody.{again, IsAcceptedBody, WritesBody, RefusesWriting}
 use Rattle.walrus_flat.proofs.rewriting.write.Goals as goal
 
 pub write_operators-requires-clause-begins : goal.write_operators-requires-clause-begins
@@ -21,7 +21,7 @@ write_operators-requires-clause-may_call g c = subst (λ (p : Position). MayCall
 pub write_operators-requires-clause-accepted : goal.write_operators-requires-clause-accepted
 write_operators-requires-clause-accepted g c =
     let a = c.args in
-    subst (λ (p : Position). IsAccepted (again (environment_of a.module.now a.indices.now a.function a.ty) p a.module.now.code_section_offset a.on_instr_pos)) (sym c.new-reader.ensures) c.requires.accepted
+    subst (λ (p : Position). IsAcceptedBody (again (environment_of a.module.now a.indices.now a.function a.ty) p a.module.now.code_section_offset a.on_instr_pos)) (sym c.new-reader.ensures) c.requires.accepted
 
 pub returns-in-Ok-write_operators-clause-ok : goal.returns-in-Ok-write_operators-clause-ok
 returns-in-Ok-write_operators-clause-ok g c =

@@ -20,7 +20,7 @@ use Rattle.walrus_context.specs.OpenTrees.{env_of}
 use Rattle.walrus_validators.specs.Checking.{fault_of_refusal}
 use Rattle.walrus_validators.specs.Locating.{MayCall, Locates}
 use Rattle.walrus_parser.specs.NextOperator.{TakesNext, ParsesAtOnce}
-use Rattle.wasm_ops.specs.CommonOperators.{listed}
+use Rattle.wasm_ops.specs.CommonOperators.{common_listed}
 use Rattle.wasm_ops.specs.Position.{Position, IsAfter}
 use Rattle.std.specs.Prelude.{IfOk, IfErr}
 use Rattle.walrus_validators.proofs.Taking.{is_not_read}
@@ -288,7 +288,7 @@ loop-reader-preserved-in-Ok-Taken g c =
     let m = c.loop-reader.instruction_mapping.items in
     let following = c.parse_at_once.new.mapping.items in
     let t = subst (λ k. ParsesAtOnce g.F.Fn a.on_instr_pos g.V.OpCheck.check (g.V.OpCheck.state c.loop-reader.validator) (g.V.OpCheck.state c.parse_at_once.new.validator) c.original_position-at.result a.code_offset c.loop-reader.reader c.parse_at_once.new.reader c.loop-reader.parser c.parse_at_once.new.parser c.loop-reader.instruction_mapping.items c.parse_at_once.new.mapping.items (Ok k)) c.in-Ok-Taken.field-0-is c.in-Ok-Taken.ensures in
-    let o = meaning (listed t.0) in
+    let o = meaning (common_listed t.0) in
     takes g.F.Fn i c.requires.offset c.loop-reader.parser c.parse_at_once.new.parser state then now.place next.place now.rest next.rest m following o c.loop-reader.invariant t.1 t.2.0 t.2.1
     (subst (λ p. TakesNext g.F.Fn a.on_instr_pos g.V.OpCheck.check state then p a.code_offset o c.loop-reader.parser c.parse_at_once.new.parser m following) c.original_position-at.ensures t.3)
 

@@ -1,6 +1,6 @@
 use Rattle.std.proofs.Common.{rules, Some, ◌==◌, ◌≡◌, ◌++◌, subst}
 use Rattle.std.specs.HashSet.{contains}
-use Rattle.walrus_rewrite.specs.RawBodies.{emit_input, Writes}
+use Rattle.walrus_rewrite.specs.RawBodies.{emit_input, WritesRawBody}
 use Rattle.walrus_rewrite.proofs.RawBodyLemmas.{of_both, why_not}
 use Rattle.walrus_rewrite.proofs.whole_body.append_raw_body_with_map.Goals as goal
 
@@ -12,7 +12,7 @@ returns-in-Ok-raw_body_with_map-clause-ok c =
     let used = contains (λ x y. x == y) c.in-Ok.facts.used_locals in
     let bytes = c.in-Ok-raw_body_with_map.bytes.items in
     let pairs = c.raw_body_with_map.new.map.items in
-    let written = subst (λ l. Writes by used a.function.now.builder bytes (Some (l, pairs))) c.new-pairs.ensures.items c.in-Ok-raw_body_with_map.ensures.ok in
+    let written = subst (λ l. WritesRawBody by used a.function.now.builder bytes (Some (l, pairs))) c.new-pairs.ensures.items c.in-Ok-raw_body_with_map.ensures.ok in
     let bytes_after : c.append_lists.new.dst.items ≡ a.dst.now.items ++ bytes = search rules in
     let pairs_after : c.append_lists.new.map.items ≡ a.map.now.items ++ pairs = search rules in
     record {

@@ -1,5 +1,5 @@
 use Rattle.std.proofs.Common.{rules, inl, ◌⊎◌, ◌<◌, ◌^◌, length}
-use Rattle.walrus_run.specs.Rewriting.{IsNormalBytes, IsRewritten, IsFaulty}
+use Rattle.walrus_run.specs.Rewriting.{IsNormalBytes, IsRewrittenDemo, IsFaulty}
 use Rattle.walrus_rewrite.specs.Errors.{IsOutOfMemory}
 use Rattle.walrus_run.proofs.RewritingLemmas.{demo_tree, demo_accepts, demo_refuses}
 use Rattle.walrus_rewrite.proofs.SameResults.{if_ok, if_err}
@@ -21,7 +21,7 @@ returns-in-Ok-clause-ok c =
     let a = c.args in
     let made = c.in-Ok.function in
     let x = demo_accepts _ a.module.now a.indices.now c.new-2.result c.new-3.result c.requires.module_is c.requires.indices_are c.new-2.ensures c.new-3.ensures a.ops.now made.builder made.instruction_mapping c.in-Ok.ensures.accepted in
-    if_ok (λ out. (b : Body Occurrence) → IsFunction made.builder (demo_tree b) → IsNormalBytes b out.items) (λ out. IsRewritten a.ops.now out.items) (λ out h. (x.0, x.1, h x.0 x.2))
+    if_ok (λ out. (b : Body Occurrence) → IsFunction made.builder (demo_tree b) → IsNormalBytes b out.items) (λ out. IsRewrittenDemo a.ops.now out.items) (λ out h. (x.0, x.1, h x.0 x.2))
     c.written_operators.result c.written_operators.ensures.ok
 
 pub returns-in-Ok-clause-err : goal.returns-in-Ok-clause-err

@@ -1,6 +1,6 @@
 use Rattle.std.proofs.Common.{◌≡◌, ◌≤◌, ◌<◌, ℕ, false, List, length, get_or, ap, subst, ◌∙◌, arith}
 use Rattle.wasm_sections.specs.declared.changes.NewContents.{NewContents}
-use Rattle.wasm_sections.specs.Sections.{rank, id_of, section}
+use Rattle.wasm_sections.specs.Sections.{rank, section_id, section}
 use Rattle.wasm_module.specs.WrittenModules.{Puts, is_between}
 use Rattle.wasm_module.proofs.NewSectionLemmas.{is_within_ranks, is_before_ranks, is_after_ranks, one_new, one_elsewhere}
 use Rattle.wasm_module.proofs.writing.put_between.Goals as goal
@@ -14,14 +14,14 @@ given-preserved g c =
     let gs = c.args.changes.now.given.items in
     let at = c.given in
     let item = c.given-item.result in
-    let r = rank (id_of item.kind) in
+    let r = rank (section_id item.kind) in
     let within : at.given-index < length gs = omega arith in
     let is = c.given-item.is ∙ ap (λ (l : List NewContents). get_or l at.given-index item) c.deref-given-items.ensures.value in
     elim c.if-ranks-rank.branch [
       | then-ranks-rank+then-rank-ranks+in_ok-end w ↦
           let p : first < r = omega (arith, c.rank-rank.ensures) in
           let q : r < second = omega (arith, c.rank-rank.ensures) in
-          let puts = subst (λ (l : List ℕ). Puts (contents at.out) (contents w.put_section.new.out) at.end w.in_ok-end.end (section (id_of item.kind) l)) w.deref.ensures.value w.in_ok-end.ensures in
+          let puts = subst (λ (l : List ℕ). Puts (contents at.out) (contents w.put_section.new.out) at.end w.in_ok-end.end (section (section_id item.kind) l)) w.deref.ensures.value w.in_ok-end.ensures in
           one_new first second gs at.given-index item within is (contents c.args.out.now) (contents at.out) (contents w.put_section.new.out) (contents c.if-ranks-rank.out)
           c.args.at at.end w.in_ok-end.end c.if-ranks-rank.end at.invariant (is_within_ranks first r second p q) puts (cc w.out-is) (cc w.end-is)
       | else-ranks-rank w ↦

@@ -1,5 +1,5 @@
 use Rattle.std.proofs.Common.{sym, subst, ◌∙◌}
-use Rattle.wasm_ops.specs.CommonOperators.{listed}
+use Rattle.wasm_ops.specs.CommonOperators.{common_listed}
 use Rattle.wasm_operators.specs.Meaning.{meaning}
 use Rattle.walrus_flat.specs.Writers.{WritesCommon}
 use Rattle.walrus_flat.proofs.WriterAtOnce.{stays, cuts}
@@ -8,18 +8,18 @@ use Rattle.walrus_flat.proofs.writer.Writer.step_live.Goals as goal
 pub returns-then-not-write_common : goal.returns-then-not-write_common
 returns-then-not-write_common c =
     let done = c.write_common in
-    subst (WritesCommon c.args.self.now done.new.self (meaning (listed c.args.common)) c.args.location) c.if-not-write_common.true done.ensures
+    subst (WritesCommon c.args.self.now done.new.self (meaning (common_listed c.args.common)) c.args.location) c.if-not-write_common.true done.ensures
 
-pub returns-then-is_cutting : goal.returns-then-is_cutting
-returns-then-is_cutting c =
+pub returns-then-common_makes_unreachable : goal.returns-then-common_makes_unreachable
+returns-then-common_makes_unreachable c =
     let done = c.write_common in
-    let o = listed c.args.common in
+    let o = common_listed c.args.common in
     cuts c.args.self.now o c.args.location c.requires done.new.self (subst (WritesCommon c.args.self.now done.new.self (meaning o) c.args.location) c.if-not-write_common.false done.ensures)
-    (sym c.is_cutting.ensures ∙ c.if-is_cutting.true)
+    (sym c.common_makes_unreachable.ensures ∙ c.if-common_makes_unreachable.true)
 
-pub returns-else-is_cutting : goal.returns-else-is_cutting
-returns-else-is_cutting c =
+pub returns-else-common_makes_unreachable : goal.returns-else-common_makes_unreachable
+returns-else-common_makes_unreachable c =
     let done = c.write_common in
-    let o = listed c.args.common in
+    let o = common_listed c.args.common in
     stays c.args.self.now o c.args.location c.requires done.new.self (subst (WritesCommon c.args.self.now done.new.self (meaning o) c.args.location) c.if-not-write_common.false done.ensures)
-    (sym c.is_cutting.ensures ∙ c.if-is_cutting.false)
+    (sym c.common_makes_unreachable.ensures ∙ c.if-common_makes_unreachable.false)

@@ -1,6 +1,6 @@
 use Rattle.std.proofs.Common.{◌+◌, Some, ap, sym, ◌∙◌, arith}
 use Rattle.walrus_machine.specs.Controls.{control_meaning}
-use Rattle.walrus_machine.specs.Tables.{place_at}
+use Rattle.walrus_machine.specs.Tables.{place_from}
 use Rattle.walrus_machine.specs.declared.machine.control.Control.{Control}
 use Rattle.walrus_machine.proofs.Tables.{within}
 use Rattle.walrus_machine.proofs.Tracing.{clause_here, no_clause_here, no_clause}
@@ -31,5 +31,5 @@ pub returns-in_default-control : goal.returns-in_default-control
 returns-in_default-control c =
     let cs = c.args.table.now in
     let f = c.seek-found.result in
-    no_clause c.in-Some.control.now f.passed (place_at cs (f.position + 1)) c.in_default-control.not-Catch c.in_default-control.not-CatchAll c.in_default-control.not-Delegate
+    no_clause c.in-Some.control.now f.passed (place_from cs (f.position + 1)) c.in_default-control.not-Catch c.in_default-control.not-CatchAll c.in_default-control.not-Delegate
     ∙ clause_here c.args.tags.now.keys cs _ f.passed f.position _ c.seek-found.ensures (sym c.in-Some.ensures.control)

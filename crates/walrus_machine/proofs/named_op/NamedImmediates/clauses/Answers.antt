@@ -13,4 +13,4 @@ caught (c ∷ cs) = ap (λ more. clause_meaning c ∷ more) (caught cs)
 pub returns-in-Clauses : goal.returns-in-Clauses
 returns-in-Clauses c =
     ap (map clause_meaning) c.deref.ensures.value
-    ∙ (caught c.in-Clauses.clauses.items ∙ sym (ap (λ (is : NamedImmediates). C.catches (named_immediates is)) c.in-Clauses.is))
+    ∙ (caught c.in-Clauses.clauses.items ∙ sym (ap (λ (is : NamedImmediates). C.catch_list (named_immediates is)) c.in-Clauses.is))

@@ -1,6 +1,6 @@
 use Rattle.std.proofs.Common.{inl, inr, reverse}
 use Rattle.wasm_operators.specs.Meaning.{meaning}
-use Rattle.walrus_parser.specs.OperatorKinds.{is_diverging}
+use Rattle.walrus_parser.specs.OperatorKinds.{makes_unreachable}
 use Rattle.walrus_parser.proofs.SingleInstructions.{refused_alone}
 use Rattle.walrus_parser.proofs.Roles.{fate_of_operator}
 use Rattle.walrus_parser.proofs.body_parser.BodyParser.push_any.Goals as goal
@@ -12,7 +12,7 @@ returns-in-Err c =
     record {
       step = λ ls s place keeps. elim c.in-Err.ensures.placed [
         | inl is ↦ inl is
-        | inr is ↦ inr (refused_alone old.context old.context (reverse old.if_else.items) ls s (meaning op) place c.args.location (is_diverging op) (fate_of_operator op c.requires.kind) keeps c.in-Err.error is)
+        | inr is ↦ inr (refused_alone old.context old.context (reverse old.if_else.items) ls s (meaning op) place c.args.location (makes_unreachable op) (fate_of_operator op c.requires.kind) keeps c.in-Err.error is)
       ];
       rest = tt;
     }

@@ -1,12 +1,12 @@
 use Rattle.std.proofs.Common.{◌≡◌, ◌<◌, length, sym, ap, ◌∙◌, rules}
 use Rattle.walrus_run.specs.NamedBodies.{names_of}
-use Rattle.walrus_run.specs.Namers.{env_of}
+use Rattle.walrus_run.specs.Namers.{env_of_namer}
 use Rattle.walrus_run.proofs.Reading.{some_left, none_left, before, after_next, before_none}
 use Rattle.walrus_run.proofs.named_body.NamedBody.named.Goals as goal
 
 pub operators-preserved : goal.operators-preserved
 operators-preserved c = λ xs left.
-    let env = env_of c.args.namer.now in
+    let env = env_of_namer c.args.namer.now in
     let now = c.operators in
     let kept = now.invariant xs left in
     let some : 0 < length now.reader.rest = search rules in
@@ -19,7 +19,7 @@ operators-preserved c = λ xs left.
 
 pub returns-in-Err : goal.returns-in-Err
 returns-in-Err c = λ xs left.
-    let env = env_of c.args.namer.now in
+    let env = env_of_namer c.args.namer.now in
     let now = c.operators in
     let kept = now.invariant xs left in
     let some : 0 < length now.reader.rest = search rules in
@@ -28,7 +28,7 @@ returns-in-Err c = λ xs left.
 
 pub returns : goal.returns
 returns c = λ xs left.
-    let env = env_of c.args.namer.now in
+    let env = env_of_namer c.args.namer.now in
     let now = c.operators in
     let kept = now.invariant xs left in
     let none : length now.reader.rest ≡ 0 = search rules in

@@ -1,14 +1,14 @@
 -- The operators are what follows the declarations.
 use Rattle.std.proofs.Common.{slice_get, sym, ◌∙◌, inl, inr}
 use Rattle.std.proofs.lemmas.Result.{err_from_is_err_and}
-use Rattle.wasm_sections.specs.Declarations.{parameters_of}
+use Rattle.wasm_sections.specs.Declarations.{parameters_of_type}
 use Rattle.wasm_sections.proofs.LocalLemmas.{operators_left, none_of_type}
 use Rattle.wasm_module.proofs.parsed.ParsedModule.declared.Goals as goal
 
 pub returns-clause-locals : goal.returns-clause-locals
 returns-clause-locals c =
     let parsed = c.args.self.now in
-    operators_left parsed.spaces.indices (parameters_of parsed.module.types c.in-Some.ty) c.params-params.result.now c.args.body.input.rest.now
+    operators_left parsed.spaces.indices (parameters_of_type parsed.module.types c.in-Some.ty) c.params-params.result.now c.args.body.input.rest.now
     c.declared.new.input.rest.now c.until.result.now c.bytes.result.now c.in_ok-locals.locals.types c.params-params.ensures c.in_ok-locals.ensures.types c.until.ensures
     c.bytes.ensures
 

@@ -1,5 +1,5 @@
 use Rattle.std.proofs.Common.{◌≡◌, ◌≢◌, refl, rules}
-use Rattle.wasm_sections.specs.Sections.{id_of, section}
+use Rattle.wasm_sections.specs.Sections.{section_id, section}
 use Rattle.wasm_module.specs.WrittenModules.IsWrittenFor.{code, replaced, carried_over}
 use Rattle.wasm_module.proofs.ModuleLemmas.{extends_same, then_ok}
 use Rattle.wasm_module.proofs.WritingLemmas.{if_so}
@@ -7,7 +7,7 @@ use Rattle.wasm_module.proofs.parsed.ParsedModule.put_in_place.Goals as goal
 
 pub returns-then-eq-clause-written : goal.returns-then-eq-clause-written
 returns-then-eq-clause-written g c = λ source e.
-    let is_code : id_of c.args.section.now.kind ≡ 10 = search rules in
+    let is_code : section_id c.args.section.now.kind ≡ 10 = search rules in
     if_so c.put_code_section.result (c.put_code_section.ensures.written source e) (λ end w. (section 10 w.2, code w.0 w.2 is_code w.1 w.3 refl, w.4))
 
 pub returns-in-Some-clause-extends : goal.returns-in-Some-clause-extends
@@ -20,13 +20,13 @@ pub returns-in-Some-clause-written : goal.returns-in-Some-clause-written
 returns-in-Some-clause-written g c = λ source e.
     let kind = c.args.section.now.kind in
     let contents = c.in-Some.contents.now in
-    let not_code : id_of kind ≢ 10 = search rules in
-    if_so c.put_section.result c.put_section.ensures (λ end p. (section (id_of kind) contents, replaced contents not_code (c.in_ok-omits.ensures.no c.if-branch.false) c.in-Some.ensures.some refl, p))
+    let not_code : section_id kind ≢ 10 = search rules in
+    if_so c.put_section.result c.put_section.ensures (λ end p. (section (section_id kind) contents, replaced contents not_code (c.in_ok-omits.ensures.no c.if-branch.false) c.in-Some.ensures.some refl, p))
 
 pub returns-then-branch-clause-extends : goal.returns-then-branch-clause-extends
 returns-then-branch-clause-extends g c = extends_same c.args.self.now
 
 pub returns-in-None-clause-written : goal.returns-in-None-clause-written
 returns-in-None-clause-written g c = λ source e.
-    let not_code : id_of c.args.section.now.kind ≢ 10 = search rules in
+    let not_code : section_id c.args.section.now.kind ≢ 10 = search rules in
     if_so c.put.result c.put.ensures (λ end p. (c.args.section.now.whole.now, carried_over not_code (c.in_ok-omits.ensures.no c.if-branch.false) c.in-None.ensures.none refl, p))

@@ -1,6 +1,6 @@
 use Rattle.std.proofs.Common.{◌≡◌, ◌≢◌, ℕ, List, ◌++◌, sym, ap, subst, ◌∙◌, arith}
 use Rattle.std.proofs.lemmas.List.{append-nil}
-use Rattle.wasm_sections.specs.Sections.{rank, id_of, IsModule}
+use Rattle.wasm_sections.specs.Sections.{rank, section_id, IsModule}
 use Rattle.wasm_module.specs.WrittenModules.{new_after, new_after_section}
 use Rattle.wasm_module.proofs.WritingLemmas.{if_so, puts_then}
 use Rattle.wasm_module.proofs.NewSectionLemmas.{after_other}
@@ -10,7 +10,7 @@ pub returns-then-rank-eq0-clause-written : goal.returns-then-rank-eq0-clause-wri
 returns-then-rank-eq0-clause-written g c = λ source all e m.
     let changes = c.args.rewritten.now.changes in
     let w = c.in_ok-end.ensures.written source e in
-    let is_custom : 0 ≡ rank (id_of c.args.section.now.kind) = omega (arith, c.rank-rank.ensures) in (
+    let is_custom : 0 ≡ rank (section_id c.args.section.now.kind) = omega (arith, c.rank-rank.ensures) in (
       w.0,
       record {
         own = w.0;
@@ -24,7 +24,7 @@ pub returns-clause-written : goal.returns-clause-written
 returns-clause-written g c = λ source all e m.
     let contents = g.W.Write.contents in
     let changes = c.args.rewritten.now.changes in
-    let r = rank (id_of c.args.section.now.kind) in
+    let r = rank (section_id c.args.section.now.kind) in
     let not_custom : r ≢ 0 = omega (arith, c.rank-rank.ensures) in
     let w = c.in_ok-end.ensures.written source e in
     let here = subst (λ (l : List ℕ). IsModule l all) (sym c.in_ok-end.ensures.extends.bytes) m in

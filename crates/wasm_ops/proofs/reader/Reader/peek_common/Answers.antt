@@ -3,7 +3,7 @@ use Rattle.std.specs.Prelude.{Option, IfSome}
 use Rattle.wasm_operators.specs.Operations.{RawOperation}
 use Rattle.wasm_operators.specs.Meaning.{meaning}
 use Rattle.wasm_operators.specs.Spelling.{Spells, read_operation}
-use Rattle.wasm_ops.specs.CommonOperators.{listed}
+use Rattle.wasm_ops.specs.CommonOperators.{common_listed}
 use Rattle.wasm_ops.specs.Position.{Position}
 use Rattle.wasm_ops.proofs.reader.Reader.peek_common.Goals as goal
 
@@ -15,5 +15,5 @@ spelt view after bytes None read law = tt
 
 pub returns-clause-spelt : goal.returns-clause-spelt
 returns-clause-spelt c =
-    spelt (λ x. meaning (listed x.0)) (λ x. x.1.now) c.self.inside.rest.now c.find_common.result
-    (subst (λ (p : Position). IfSome c.find_common.result (λ x. read_operation p.rest ≡ Ok (meaning (listed x.0), x.1.now))) (sym c.self.view_is) c.find_common.ensures) c.law_front.ensures
+    spelt (λ x. meaning (common_listed x.0)) (λ x. x.1.now) c.self.inside.rest.now c.find_common.result
+    (subst (λ (p : Position). IfSome c.find_common.result (λ x. read_operation p.rest ≡ Ok (meaning (common_listed x.0), x.1.now))) (sym c.self.view_is) c.find_common.ensures) c.law_front.ensures

@@ -1,5 +1,5 @@
 use Rattle.std.proofs.Common.{◌≡◌, ◌≢◌, ◌<◌, length, get_or, arith}
-use Rattle.wasm_sections.specs.Sections.{id_of}
+use Rattle.wasm_sections.specs.Sections.{section_id}
 use Rattle.wasm_sections.proofs.AdditionLemmas.{none_yet}
 use Rattle.wasm_sections.proofs.changes.Changes.given_at.Goals as goal
 
@@ -8,7 +8,7 @@ returns-then-id-clause-found c =
     let gs = c.args.self.now.given.items in
     let item = c.given-item.result in
     let is : item ≡ get_or gs c.given.at item = cc in
-    let same : id_of item.kind ≡ id_of c.args.kind = cc in
+    let same : section_id item.kind ≡ section_id c.args.kind = cc in
     record { one = item; is_there = is; has_id = same; is_first = c.given.invariant }
 
 pub given-preserved : goal.given-preserved
@@ -17,5 +17,5 @@ given-preserved c =
     let item = c.given-item.result in
     let is : item ≡ get_or gs c.given.at item = cc in
     let within : c.given.at < length gs = omega arith in
-    let other : id_of item.kind ≢ id_of c.args.kind = λ e. c.if-id.false (cc) in
-    none_yet gs c.given.at (id_of c.args.kind) item within is c.given.invariant other
+    let other : section_id item.kind ≢ section_id c.args.kind = λ e. c.if-id.false (cc) in
+    none_yet gs c.given.at (section_id c.args.kind) item within is c.given.invariant other

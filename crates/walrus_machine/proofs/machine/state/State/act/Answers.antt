@@ -4,13 +4,13 @@ use Rattle.wasm_body.specs.Machine as M
 use Rattle.walrus_machine.specs.declared.machine.control.Action.{Action}
 use Rattle.walrus_machine.specs.declared.machine.state.State.{State}
 use Rattle.walrus_machine.specs.Controls.{action_meaning}
-use Rattle.walrus_machine.specs.Tables.{place_at}
+use Rattle.walrus_machine.specs.Tables.{place_from}
 use Rattle.walrus_machine.specs.Tracing.{continued_run}
 use Rattle.walrus_machine.proofs.machine.state.State.act.Goals as goal
 
 acts : (again go : M.From ℕ) (cs : List C.Control) (s : State) (i : ℕ) {x y : Action} → x ≡ y →
-    continued_run cs s (M.act again go (action_meaning x) i (place_at cs (i + 1))) ≡ continued_run cs s (M.act again go (action_meaning y) i (place_at cs (i + 1)))
-acts again go cs s i e = ap (λ (x : Action). continued_run cs s (M.act again go (action_meaning x) i (place_at cs (i + 1)))) e
+    continued_run cs s (M.act again go (action_meaning x) i (place_from cs (i + 1))) ≡ continued_run cs s (M.act again go (action_meaning y) i (place_from cs (i + 1)))
+acts again go cs s i e = ap (λ (x : Action). continued_run cs s (M.act again go (action_meaning x) i (place_from cs (i + 1)))) e
 
 pub returns-in_ok-next-in-Branch : goal.returns-in_ok-next-in-Branch
 returns-in_ok-next-in-Branch c = λ again go.

@@ -1,16 +1,16 @@
 use Rattle.std.proofs.Common.{◌+◌, ℕ, List, Bool, cond, inl, inr, ap, ◌∙◌}
 use Rattle.wasm_body.specs.Control as C
 use Rattle.wasm_body.specs.Machine as M
-use Rattle.walrus_machine.specs.Tables.{place_at}
+use Rattle.walrus_machine.specs.Tables.{place_from}
 use Rattle.walrus_machine.specs.Tracing.{Continuation, continued_run}
 use Rattle.walrus_machine.proofs.Tracing.{outcome_taken}
 use Rattle.walrus_machine.proofs.machine.state.State.conditional_branch.Goals as goal
 
 abbrev step : (again go : M.From ℕ) → List C.Control → (n : ℕ) → (position : ℕ) → Continuation
-step again go cs n i = M.act again go (C.ConditionalBranch n) i (place_at cs (i + 1))
+step again go cs n i = M.act again go (C.ConditionalBranch n) i (place_from cs (i + 1))
 
 abbrev chosen : (again go : M.From ℕ) → List C.Control → (n position : ℕ) → Bool → Continuation
-chosen again go cs n i way ls o = cond way (M.branch again go n ls o) (go (place_at cs (i + 1)) ls o)
+chosen again go cs n i way ls o = cond way (M.branch again go n ls o) (go (place_from cs (i + 1)) ls o)
 
 pub returns-in_default : goal.returns-in_default
 returns-in_default c = λ again go. c.in_default.ensures.none c.args.table.now (step again go c.args.table.now c.args.n c.args.position)

@@ -1,13 +1,13 @@
 use Rattle.std.proofs.Common.{◌+◌, ℕ, List, inl, inr, ◌∙◌}
 use Rattle.wasm_body.specs.Control as C
 use Rattle.wasm_body.specs.Machine as M
-use Rattle.walrus_machine.specs.Tables.{place_at}
+use Rattle.walrus_machine.specs.Tables.{place_from}
 use Rattle.walrus_machine.specs.Tracing.{Continuation}
 use Rattle.walrus_machine.proofs.Tracing.{outcome_taken}
 use Rattle.walrus_machine.proofs.machine.state.State.plain.Goals as goal
 
 abbrev step : (again go : M.From ℕ) → List C.Control → (position : ℕ) → Continuation
-step again go cs i = M.act again go C.Plain i (place_at cs (i + 1))
+step again go cs i = M.act again go C.Plain i (place_from cs (i + 1))
 
 pub returns-in_default : goal.returns-in_default
 returns-in_default c = λ again go. c.in_default.ensures.none c.args.table.now (step again go c.args.table.now c.args.position)
@@ -17,7 +17,7 @@ returns-in_ok-executed-in-Go c = λ again go.
     let cs = c.args.table.now in
     let i = c.args.position in
     outcome_taken cs c.args.self.now c.next_outcome.new.self (step again go cs i) _ _ c.in-Some.ensures.some c.in-Go.is
-    ∙ c.in_ok-executed-in-Go.ensures cs (go (place_at cs (i + 1)))
+    ∙ c.in_ok-executed-in-Go.ensures cs (go (place_from cs (i + 1)))
 
 pub returns-in_ok-executed-in-Trap : goal.returns-in_ok-executed-in-Trap
 returns-in_ok-executed-in-Trap c = λ again go.

@@ -4,7 +4,7 @@ use Rattle.wasm_body.specs.Control as C
 use Rattle.wasm_body.specs.Machine as M
 use Rattle.walrus_machine.specs.declared.machine.label.Label.{Label}
 use Rattle.walrus_machine.specs.declared.machine.state.State.{State}
-use Rattle.walrus_machine.specs.Tables.{place_at}
+use Rattle.walrus_machine.specs.Tables.{place_from}
 use Rattle.walrus_machine.specs.Tracing.{label_of, continued_run}
 use Rattle.walrus_machine.proofs.Tracing.{same_on, inner_raise}
 use Rattle.walrus_machine.proofs.machine.state.State.raise.Goals as goal
@@ -46,7 +46,7 @@ returns-in-Enters c = λ again go.
     let cs = c.args.table.now in
     let tags = c.args.tags.now.keys in
     let l = c.in-Some.label in
-    let place = place_at cs c.in-Enters.place in
+    let place = place_from cs c.in-Enters.place in
     c.labels.invariant again go
     ∙ (c.in-Some.ensures.some cs (λ ls o. M.raise again go tags ls o 0)
     ∙ (responded again go cs tags l c.leave_label.new.self c.in-Enters.ensures

@@ -1,13 +1,13 @@
 use Rattle.std.proofs.Common.{◌+◌, ℕ, List, inl, inr, ap, sym, ◌∙◌}
 use Rattle.wasm_body.specs.Control as C
 use Rattle.wasm_body.specs.Machine as M
-use Rattle.walrus_machine.specs.Tables.{place_at}
+use Rattle.walrus_machine.specs.Tables.{place_from}
 use Rattle.walrus_machine.specs.Tracing.{Continuation, continued_run}
 use Rattle.walrus_machine.proofs.Tracing.{outcome_taken}
 use Rattle.walrus_machine.proofs.machine.state.State.table_branch.Goals as goal
 
 abbrev step : (again go : M.From ℕ) → List C.Control → (targets : List ℕ) → (default : ℕ) → (position : ℕ) → Continuation
-step again go cs targets default i = M.act again go (C.TableBranch targets default) i (place_at cs (i + 1))
+step again go cs targets default i = M.act again go (C.TableBranch targets default) i (place_from cs (i + 1))
 
 pub returns-in_default : goal.returns-in_default
 returns-in_default c = λ again go. c.in_default.ensures.none c.args.table.now (step again go c.args.table.now c.args.targets.now c.args.default c.args.position)

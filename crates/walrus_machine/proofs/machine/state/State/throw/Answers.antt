@@ -1,13 +1,13 @@
 use Rattle.std.proofs.Common.{◌+◌, ℕ, List, Bool, cond, inl, inr, ap, sym, ◌∙◌}
 use Rattle.wasm_body.specs.Control as C
 use Rattle.wasm_body.specs.Machine as M
-use Rattle.walrus_machine.specs.Tables.{place_at}
+use Rattle.walrus_machine.specs.Tables.{place_from}
 use Rattle.walrus_machine.specs.Tracing.{Continuation, continued_run}
 use Rattle.walrus_machine.proofs.Tracing.{outcome_taken}
 use Rattle.walrus_machine.proofs.machine.state.State.throw.Goals as goal
 
 abbrev step : (again go : M.From ℕ) → List C.Control → (tag : ℕ) → (position : ℕ) → Continuation
-step again go cs tag i = M.act again go (C.Throw tag) i (place_at cs (i + 1))
+step again go cs tag i = M.act again go (C.Throw tag) i (place_from cs (i + 1))
 
 -- whether the tag is among those of the outcome
 abbrev raised : (again go : M.From ℕ) → (tags : M.Tags) → (position : ℕ) → Bool → Continuation

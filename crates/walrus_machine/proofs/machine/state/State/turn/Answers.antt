@@ -1,7 +1,7 @@
 use Rattle.std.proofs.Common.{◌≡◌, ◌-◌, length, sym, ap, ◌∙◌, arith}
 use Rattle.wasm_body.specs.Machine as M
 use Rattle.walrus_machine.specs.Controls.{control_meaning}
-use Rattle.walrus_machine.specs.Tables.{place_at}
+use Rattle.walrus_machine.specs.Tables.{place_from}
 use Rattle.walrus_machine.specs.Tracing.{continued_by, continued_run}
 use Rattle.walrus_machine.proofs.Tables.{within, length_left}
 use Rattle.walrus_machine.proofs.Tracing.{same_on, one_step, no_step}
@@ -11,8 +11,8 @@ pub steps-init : goal.steps-init
 steps-init c = λ again.
     let cs = c.args.table.now in
     let from = c.args.from in
-    let count : length (place_at cs from) ≡ c.saturating_sub-left.result = omega (arith, length_left cs from, c.saturating_sub-left.ensures, c.len.ensures) in
-    ap (λ n. continued_run cs c.args.self.now (M.straight again n (place_at cs from))) count
+    let count : length (place_from cs from) ≡ c.saturating_sub-left.result = omega (arith, length_left cs from, c.saturating_sub-left.ensures, c.len.ensures) in
+    ap (λ n. continued_run cs c.args.self.now (M.straight again n (place_from cs from))) count
 
 pub returns-in_default : goal.returns-in_default
 returns-in_default c = λ again.

@@ -1,13 +1,13 @@
 use Rattle.std.proofs.Common.{◌≡◌, ◌+◌, ◌∷◌, List, ap, inl, inr, reverse, subst, sym, ◌∙◌}
-use Rattle.wasm_body.specs.Machine.{shape_of}
+use Rattle.wasm_body.specs.Machine.{control_shape}
 use Rattle.walrus_machine.specs.Controls.{control_meaning}
 use Rattle.walrus_machine.specs.declared.machine.control.Control.{Control}
 use Rattle.walrus_machine.specs.declared.machine.table.Ahead.{Ahead}
 use Rattle.walrus_machine.proofs.Tables.{popped, pushed, ListAhead, others_listed, opener_listed, closer_listed, part_listed}
 use Rattle.walrus_machine.proofs.machine.table.Levels.go_back.Goals as goal
 
-shape_at : {x y : Control} → x ≡ y → shape_of (control_meaning y) ≡ shape_of (control_meaning x)
-shape_at e = ap (λ (x : Control). shape_of (control_meaning x)) (sym e)
+shape_at : {x y : Control} → x ≡ y → control_shape (control_meaning y) ≡ control_shape (control_meaning x)
+shape_at e = ap (λ (x : Control). control_shape (control_meaning x)) (sym e)
 
 pub returns-in-Does-clause-levels : goal.returns-in-Does-clause-levels
 returns-in-Does-clause-levels c = λ cs at. others_listed cs c.args.position _ at (shape_at c.in-Does.is) c.args.self.now

@@ -1,7 +1,7 @@
 use Rattle.std.proofs.Common.{◌≡◌, List, ◌+◌, Some, length, slice_get, refl, subst, arith, rules}
 use Rattle.std.proofs.lemmas.Option.{slice_get_read}
 use Rattle.wasm_module.specs.declared.changing.kept_bodies.KeptBody.{KeptBody}
-use Rattle.wasm_sections.specs.CodeSections.{body_at, bytes_of, place_of}
+use Rattle.wasm_sections.specs.CodeSections.{body_at, body_bytes, place_of}
 use Rattle.wasm_module.proofs.KeptLemmas.{is_kept, same_body}
 use Rattle.wasm_module.proofs.changing.kept_bodies.KeptBodies.kept_for.Goals as goal
 
@@ -17,5 +17,5 @@ returns c = λ source.
     let found : slice_get c.args.self.now.bodies.items at ≡ Some kept =
     subst (λ (ks : List KeptBody). slice_get ks at ≡ Some kept) c.deref.ensures.value there in
     let starts : place_of kept.source ≡ place_of b = search rules in
-    let bytes : bytes_of kept.source ≡ bytes_of b = search rules in
+    let bytes : body_bytes kept.source ≡ body_bytes b = search rules in
     is_kept c.args.self.now source b.func (body_at b) at kept place found (same_body (body_at kept.source) (body_at b) starts bytes)

@@ -1,8 +1,8 @@
 use Rattle.std.proofs.Common.{◌≡◌, ◌<◌, ◌+◌, ◌-◌, [], length, Some, refl, ap, sym, ◌∙◌, arith, true}
 use Rattle.std.proofs.lemmas.Option.{slice_get-get_or}
-use Rattle.walrus_context.specs.OpenFrames.{changed_at, marked_dead}
+use Rattle.walrus_context.specs.OpenFrames.{changed_at, marked_unreachable}
 use Rattle.walrus_context.proofs.FrameStacks.{count, set_control, starts_set}
-use Rattle.walrus_context.proofs.frame_stack.FrameStack.kill_innermost.Goals as goal
+use Rattle.walrus_context.proofs.frame_stack.FrameStack.mark_innermost_unreachable.Goals as goal
 
 pub overflow_sub-index : goal.overflow_sub-index
 overflow_sub-index c =
@@ -33,7 +33,7 @@ returns c =
     let within : i < length cs = omega arith in
     let at = slice_get-get_or cs i f within ∙ ap Some (sym c.index_mut.ensures.value) in
     let last : 0 + i + 1 ≡ length cs = omega arith in
-    (some, set_control inside.instrs.items marked_dead [] cs i 0 f (record f { unreachable = true }) last at refl (λ l. refl) ∙ ap (changed_at 0 marked_dead) c.self.view_is)
+    (some, set_control inside.instrs.items marked_unreachable [] cs i 0 f (record f { unreachable = true }) last at refl (λ l. refl) ∙ ap (changed_at 0 marked_unreachable) c.self.view_is)
 
 pub invariant_of-self : goal.invariant_of-self
 invariant_of-self c =
