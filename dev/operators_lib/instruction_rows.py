@@ -7,7 +7,7 @@ from .operator_rows import variants
 from .parts import Part, merged, wrapped
 
 TREE = "crates/walrus_ir/src/"
-WRITING = "crates/walrus_operators/"
+WRITING = "crates/walrus_to_operators/"
 
 
 def modules(definitions):
@@ -85,7 +85,7 @@ def parts():
     yield Part(TREE + "instr.rt", (r"^//! Instructions\.$", r"^$"), r"^use wasm_types::", imports)
     yield Part(TREE + "instr.rt", (r"^pub enum Instr \{$",), r"^\}$", enum_rows)
     yield Part(TREE + "lib.rt", (r"^mod walk;$", r"^$"), "", exports)
-    yield Part("crates/walrus_instructions/src/instructions.rt",
+    yield Part("crates/walrus_from_operators/src/instructions.rt",
                (r"^pub fn instruction\(", r"^        instruction_row, indices operator,$"), r"^    \)$", instruction_of_operator)
     yield Part(WRITING + "src/operators.rt", (r"^pub fn operator_of<", r"^        operator_row, numbers instr scopes,$"), r"^    \)$",
                operator_of_instruction)

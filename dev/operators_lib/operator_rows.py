@@ -169,5 +169,5 @@ def parts():
                    partial(read_rows, f"{name}_rows", last))
     yield Part(READERS + "prefix_reader.rt", (r"^macro_rules! read_number ", r"^        match \$number \{$"), r"^        \}$",
                partial(read_rows, "bulk_rows", ""))
-    yield Part("crates/wasm_translate/src/operators.rt", (r"^pub fn translated<", r"^        translated_row, with operator,$"), r"^    \)$",
+    yield Part("crates/wasm_renumber/src/operators.rt", (r"^pub fn translated<", r"^        translated_row, with operator,$"), r"^    \)$",
                translated_rows)

@@ -7,8 +7,8 @@
 use module_tools::{Snipping, Tool};
 use std::alloc::Global;
 use walrus_body::LocalFunction;
+use walrus_facts::{Listener, Listening};
 use walrus_ir::{FunctionId, IdHashMap, IdHashSet, Instr, InstrLocId, dfs_in_order};
-use walrus_walks::{Listener, Listening};
 use wasm_module::{Changes, ModuleError, ParsedModule};
 
 /// The functions that a function calls or names.

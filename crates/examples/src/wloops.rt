@@ -6,11 +6,11 @@
 use module_tools::Tool;
 use std::alloc::{AllocError, Global};
 use walrus_body::LocalFunction;
+use walrus_facts::{Listener, Listening};
 use walrus_ir::{
     BinaryOp, Binop, Const, FunctionId, GlobalGet, GlobalId, GlobalSet, IdHashSet, Instr,
     InstrLocId, InstrSeq, InstrSeqId, ModuleLocals, Value, dfs_in_order,
 };
-use walrus_walks::{Listener, Listening};
 use wasm_module::{ChangeFunction, Changes, ModuleError, ParsedModule};
 
 /// The sequences inside of loops, in the order of the `loop` operators.

@@ -7,7 +7,7 @@ ghost use Rattle.module_tools.specs.Endings.{status_of, IsMemoryOr};
 use crate::escaped::Escaped;
 use crate::not_a_module::NotAModule;
 use crate::usage_error::UsageError;
-use source_map_json::{SourceMapError, SourceMapFault};
+use source_map::{SourceMapError, SourceMapFault};
 use std::alloc::{AllocError, AllocFailed, Global};
 use std::env::FillError;
 use std::process::ExitCode;

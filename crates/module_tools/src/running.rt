@@ -18,7 +18,7 @@ use crate::usage_error::UsageError;
 use crate::version::{BUILD, VERSION};
 use crate::warnings::warn;
 use crate::writing::write_module;
-use source_map_json::SourceMap;
+use source_map::SourceMap;
 use std::alloc::{AllocError, Global};
 use std::cmp::Ordering;
 use std::process::ExitCode;

@@ -5,7 +5,7 @@ use crate::files::Target;
 use crate::locks::LockFiles;
 use crate::program::Task;
 use crate::source_maps::{Moves, MovesAndLines, write_source_map};
-use source_map_json::SourceMap;
+use source_map::SourceMap;
 use std::alloc::Global;
 use std::io::{BufWriter, Write};
 use wasm_module::{

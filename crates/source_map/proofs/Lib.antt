@@ -12,3 +12,5 @@ pub mod Short
 -- loops: over segments, and over moves
 pub mod Loops
 pub mod Moves
+-- text that is appended to a text
+pub mod Longer

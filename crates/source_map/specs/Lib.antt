@@ -7,3 +7,7 @@ pub mod Reading
 pub mod Shortest
 -- mappings of a program whose operators have moved
 pub mod Moving
+-- which JSON texts are source maps
+pub mod SourceMaps
+-- the JSON text that is written
+pub mod WrittenSourceMaps

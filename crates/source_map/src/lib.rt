@@ -1,11 +1,13 @@
-//! Mappings of source maps (ECMA-426, Source map format specification) of programs of one line,
-//! such as WebAssembly modules: the text of `mappings` is read and written, and mappings are moved
-//! when the operators of a program move. The rest of a source map, its JSON, isn't handled here.
+//! Source maps (ECMA-426, Source map format specification) of programs of one line, such as
+//! WebAssembly modules. The text of `mappings` is read and written, and mappings are moved when the
+//! operators of a program move. Source maps as files are JSON texts, whose mappings are read and
+//! written, and whose other members are copied.
 #![tactic(auto)]
 
 mod digit;
 mod fault;
 mod fields;
+mod json;
 mod law;
 mod mapping;
 mod moving;
@@ -14,6 +16,7 @@ mod reading;
 mod writing;
 
 pub use fault::{MappingsError, MappingsFault};
+pub use json::{SourceMap, SourceMapError, SourceMapFault, SourceMapFaultName};
 pub use law::{law_one_reading, law_spelt};
 pub use mapping::{Mapping, Original};
 pub use moving::{Move, moved};

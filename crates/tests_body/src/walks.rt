@@ -3,10 +3,10 @@
 use crate::by_hand::example;
 use std::process::Abort;
 use std::test::Fail;
+use walrus_facts::{Listener, Listening, VisitInstr, for_each_instr, map_instrs};
 use walrus_ir::{
     FunctionBuilder, Instr, InstrLocId, InstrSeq, InstrSeqId, Value, WalkError, dfs_in_order,
 };
-use walrus_walks::{Listener, Listening, VisitInstr, for_each_instr, map_instrs};
 
 /// The locations of constants, each below 16, as the hexadecimal digits of a number, and their sum.
 #[derive(Drop)]

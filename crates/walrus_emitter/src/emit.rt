@@ -24,7 +24,7 @@ use walrus_ir::{
     dfs_in_order,
 };
 use walrus_numbering::{NumberMaps, memory_argument, number_at, number_table};
-use walrus_operators::{Lists, closing_operator, operator_of};
+use walrus_to_operators::{Lists, closing_operator, operator_of};
 use wasm_body::EmitError;
 use wasm_encode::{FunctionEncoder, OutOp};
 use wasm_operators::{Opcode, binary_opcode, load_opcode, store_opcode, unary_opcode};

@@ -6,3 +6,7 @@ mod Marks
 mod FactLaws
 pub mod LocalsOfTrees
 pub mod Scans
+-- the visits of a walk
+mod Visits
+-- items that are changed one after the other
+mod Changes

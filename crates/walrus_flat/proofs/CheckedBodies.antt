@@ -16,8 +16,8 @@ use Rattle.wasm_body.specs.Parsing.Progress.{Layer, Progress, Within, Whole, NoB
 use Rattle.wasm_body.proofs.Structure.ReadFrames.{progress_frames, further_frames, may_move}
 use Rattle.wasm_body.proofs.Parsing.NamingLemmas.{named_is_allowed}
 use Rattle.walrus_parser.specs.Advancing.{occurrence}
-use Rattle.wasm_flat.specs.Flat.{Named, Unreachability, first_unreachability, unreachability_after, live_locals, locals_read, unreachability_behind}
-use Rattle.wasm_flat.proofs.Fronts.{locals-append, unreachability-append}
+use Rattle.wasm_body.specs.Flat.{Named, Unreachability, first_unreachability, unreachability_after, live_locals, locals_read, unreachability_behind}
+use Rattle.wasm_body.proofs.Flat.Fronts.{locals-append, unreachability-append}
 use Rattle.walrus_flat.specs.declared.open_sequence.OpenSequence.{OpenSequence}
 use Rattle.walrus_flat.specs.Checked.{AreFrames, CheckState, unreachability_of, marks, Passes}
 use Rattle.walrus_flat.proofs.CheckedFronts.{ReadsSo, goes_over}

@@ -13,7 +13,7 @@ use Rattle.wasm_body.specs.Frames.{SequenceFrame, OfFunction, OfWrapper, Consequ
 use Rattle.wasm_body.specs.Translation.{translate}
 use Rattle.wasm_body.specs.Naming.{Environment, NamedOperation, Occurrence, naming, id_at, block_signature, named_in}
 use Rattle.walrus_parser.proofs.Rules.{catch_types, named_catch, named_catch_all}
-use Rattle.wasm_flat.specs.Flat.{unreachability, unreachability_after, first_or_true}
+use Rattle.wasm_body.specs.Flat.{unreachability, unreachability_after, first_or_true}
 use Rattle.walrus_flat.specs.declared.open_sequence.OpenSequence.{OpenSequence}
 use Rattle.walrus_flat.specs.Checked.{IsWrapper, IsFrame, AreFrames, CheckState, unreachability_of, Passes}
 use Rattle.walrus_flat.specs.Checkers.{as_kind, has_handler_type}

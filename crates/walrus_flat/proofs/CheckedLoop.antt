@@ -15,11 +15,11 @@ use Rattle.wasm_body.specs.Naming.{Occurrence, named_in}
 use Rattle.wasm_body.specs.Parsing.Progress.{Layer, frames_of}
 use Rattle.walrus_ir.specs.Types.{ModuleType}
 use Rattle.std.proofs.lemmas.List.{reverse-reverse}
-use Rattle.wasm_flat.specs.Flat.{unreachability}
+use Rattle.wasm_body.specs.Flat.{unreachability}
 use Rattle.walrus_flat.specs.declared.open_sequence.OpenSequence.{OpenSequence}
 use Rattle.wasm_body.specs.Parsing.Accepted.{Setting, has_location}
 use Rattle.wasm_body.specs.Parsing.Lists.{failure}
-use Rattle.walrus_instructions.specs.OperatorKinds.{is_instruction}
+use Rattle.walrus_from_operators.specs.OperatorKinds.{is_instruction}
 use Rattle.walrus_parser.specs.OperatorKinds.{makes_unreachable}
 use Rattle.walrus_parser.specs.Advancing.{occurrence}
 use Rattle.walrus_parser.proofs.Roles.{fate_of_operator}

@@ -23,7 +23,7 @@ use Rattle.wasm_body.proofs.Translation.Kinds.{kind_in, kind_kept, through, at_o
 use Rattle.wasm_body.proofs.Translation.LocalsKept.{before, first_local, IsNoLocal, no_local}
 use Rattle.walrus_parser.proofs.Roles.{DoesAs, does_as, fate_by, fate_of_role}
 use Rattle.walrus_parser.proofs.Rules.{named_alone}
-use Rattle.wasm_flat.specs.Flat.{unreachability, unreachability_after, plain_unreachability, unless_dropped, own_locals, live_locals}
+use Rattle.wasm_body.specs.Flat.{unreachability, unreachability_after, plain_unreachability, unless_dropped, own_locals, live_locals}
 use Rattle.walrus_flat.specs.declared.open_sequence.OpenSequence.{OpenSequence}
 use Rattle.walrus_flat.specs.Checked.{IsWrapper, IsFrame, AreFrames, CheckState, unreachability_of, Passes}
 

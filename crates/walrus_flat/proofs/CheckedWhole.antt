@@ -19,7 +19,7 @@ use Rattle.wasm_body.specs.Parsing.Progress.{Whole, nothing_read, progress_after
 use Rattle.wasm_body.proofs.Parsing.ParseResults.{ParseResults, parse_results}
 use Rattle.wasm_body.proofs.Structure.ReadTexts.{IsRead, read_text, text_read}
 use Rattle.walrus_parser.specs.Settings.{operators_of}
-use Rattle.wasm_flat.specs.Flat.{first_unreachability, locals_read}
+use Rattle.wasm_body.specs.Flat.{first_unreachability, locals_read}
 use Rattle.walrus_flat.specs.declared.checker.Checker.{Checker}
 use Rattle.walrus_flat.specs.Checked.{marks}
 use Rattle.walrus_flat.specs.Checkers.{used_in}

@@ -12,7 +12,7 @@ use Rattle.wasm_ops.specs.declared.common.CommonOperator.{CommonOperator}
 use Rattle.wasm_ops.specs.declared.common.CommonOperator.TheVariants as common
 use Rattle.wasm_ops.specs.CommonOperators.{common_listed}
 use Rattle.walrus_maps.specs.IndexMaps.{id_of}
-use Rattle.walrus_instructions.specs.OperatorKinds.{is_instruction}
+use Rattle.walrus_from_operators.specs.OperatorKinds.{is_instruction}
 use Rattle.walrus_parser.specs.OperatorKinds.{makes_unreachable}
 use Rattle.walrus_flat.specs.declared.checker.Checker.{Checker}
 use Rattle.walrus_flat.specs.Checked.{env_of_checker, check_state_of, StepsChecker, StaysSame, ChecksAtOnce}

@@ -17,7 +17,7 @@ use Rattle.wasm_body.specs.declared.error.ParseError.{ParseError}
 use Rattle.wasm_body.specs.declared.error.ParseError.TheVariants.{Memory}
 use Rattle.wasm_body.specs.Control.{Block, Loop, If, Try, TryTable, catch_list}
 use Rattle.wasm_body.specs.Naming.{naming}
-use Rattle.walrus_instructions.specs.OperatorKinds.{is_instruction}
+use Rattle.walrus_from_operators.specs.OperatorKinds.{is_instruction}
 use Rattle.walrus_parser.specs.OperatorKinds.{makes_unreachable}
 use Rattle.walrus_parser.proofs.Roles.{fate_of_operator}
 use Rattle.walrus_flat.specs.declared.checker.Checker.{Checker}

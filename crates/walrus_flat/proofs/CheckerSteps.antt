@@ -18,7 +18,7 @@ use Rattle.wasm_body.specs.Translation.{translate}
 use Rattle.wasm_body.specs.Naming.{Environment, NamedOperation, Occurrence, naming, block_signature, named_in}
 use Rattle.wasm_body.specs.LocalNumbers.{locals_among}
 use Rattle.wasm_body.specs.NormalForm.{Drops}
-use Rattle.wasm_flat.specs.Flat.{unreachability, plain_unreachability}
+use Rattle.wasm_body.specs.Flat.{unreachability, plain_unreachability}
 use Rattle.std.proofs.Math.Bool.{or-false}
 use Rattle.walrus_parser.proofs.Roles.{fate_by, fate_of_role}
 use Rattle.walrus_flat.specs.declared.checker.Checker.{Checker}

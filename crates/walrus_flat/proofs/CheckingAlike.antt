@@ -15,7 +15,7 @@ use Rattle.wasm_body.specs.Frames.{SequenceFrame, OfFunction, OfWrapper, Consequ
 use Rattle.wasm_body.specs.Translation.{translate, translate_immediates}
 use Rattle.wasm_body.specs.Naming.{Environment, NamedOperation, Occurrence, naming, id_at, name_block, handler_label}
 use Rattle.wasm_body.proofs.Translation.Outcomes.{outcome, Alike, AreAlike, translate_alike}
-use Rattle.wasm_translate.specs.Changes.{changing, changed_operator}
+use Rattle.wasm_renumber.specs.Changes.{changing, changed_operator}
 use Rattle.walrus_context.specs.Placing.{is_handler_kind}
 use Rattle.walrus_flat.specs.declared.open_sequence.OpenSequence.{OpenSequence}
 use Rattle.walrus_flat.specs.Checked.{IsWrapper, IsFrame, AreFrames, open_handler, checking_changes}

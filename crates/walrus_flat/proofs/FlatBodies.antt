@@ -37,7 +37,7 @@ use Rattle.walrus_numbering.specs.EmittedLocals.{HasNoDeclarations}
 use Rattle.walrus_numbering.specs.NumberMaps.{numbers_by}
 use Rattle.walrus_rewrite.proofs.ParsedBodies.{are_id_numbers, no_parsed_body}
 use Rattle.walrus_rewrite.proofs.RawBodyLemmas.{same_numbers}
-use Rattle.wasm_flat.specs.Flat.{first_unreachability, locals_read}
+use Rattle.wasm_body.specs.Flat.{first_unreachability, locals_read}
 use Rattle.walrus_flat.specs.Checked.{marks}
 use Rattle.walrus_flat.specs.CheckedBody.{HasLimit, AcceptsUsing, ChecksAll}
 use Rattle.walrus_flat.specs.Laws.{written_of, reads_local}

@@ -11,8 +11,8 @@ use Rattle.wasm_body.specs.LocalNumbers.{AreDeclared, ids_of, uses_local, number
 use Rattle.wasm_body.specs.Pairs.{pairs_from, tree_pairs}
 use Rattle.wasm_body.specs.TextLaws.{IsNamedBody}
 use Rattle.wasm_body.proofs.Bytes.LawfulTyped.{lawful_named}
-use Rattle.wasm_flat.proofs.FlatNumbers.{flat_is_numbered}
-use Rattle.wasm_flat.proofs.FlatLocals.{locals_read_are_named}
+use Rattle.wasm_body.proofs.Flat.Numbers.{flat_is_numbered}
+use Rattle.wasm_body.proofs.Flat.Locals.{locals_read_are_named}
 use Rattle.walrus_rewrite.specs.RawBodies.{unwritten}
 use Rattle.walrus_rewrite.proofs.ParsedBodies.{no_parsed_body}
 use Rattle.walrus_rewrite.proofs.RewrittenLemmas.{keeps_source}

@@ -28,8 +28,8 @@ use Rattle.wasm_body.specs.Bytes.{Numbers, in_32_bits, numbers_in_32_bits}
 use Rattle.wasm_body.proofs.Bytes.NumberedBodies.{u32_fits}
 use Rattle.wasm_body.proofs.Translation.Steps.{bound, all_of}
 use Rattle.wasm_body.proofs.Translation.Translations.{LeadsLabel, LeadsCount, LeadsClause, LeadsHeap, LeadsTag, LeadsAt, translate_leads}
-use Rattle.wasm_flat.specs.Flat.{renumbering}
-use Rattle.wasm_translate.specs.Changes.{changing}
+use Rattle.wasm_body.specs.Flat.{renumbering}
+use Rattle.wasm_renumber.specs.Changes.{changing}
 use Rattle.walrus_flat.specs.Written.{writing_changes}
 use Rattle.walrus_flat.specs.Laws.{RenumbersNamed}
 

@@ -21,7 +21,7 @@ use Rattle.wasm_operators.specs.Shortest.{short_immediate, short}
 use Rattle.wasm_body.specs.declared.error.EmitError.TheVariants.{TooLarge}
 use Rattle.wasm_body.specs.Bytes.{in_32_bits}
 use Rattle.wasm_body.specs.Translation.{at_location}
-use Rattle.wasm_flat.specs.Flat.{flat_state, FlatState}
+use Rattle.wasm_body.specs.Flat.{flat_state, FlatState}
 use Rattle.walrus_maps.specs.IndexMaps.{id_of, local_of, number_of}
 use Rattle.walrus_numbering.specs.EmittedLocals.{number_in}
 use Rattle.walrus_parser.specs.OperatorKinds.{makes_unreachable}

@@ -9,7 +9,7 @@ use Rattle.wasm_operators.specs.declared.operator.Op.TheVariants as op
 use Rattle.wasm_operators.specs.Meaning.{Listed, meaning}
 use Rattle.wasm_operators.specs.Operations.{block, operation}
 use Rattle.wasm_operators.specs.Shortest.{short_number}
-use Rattle.wasm_flat.specs.Flat.{Kept, Live, flat_state, innermost, around}
+use Rattle.wasm_body.specs.Flat.{Kept, Live, flat_state, innermost, around}
 use Rattle.walrus_emit_state.specs.TreeWriting.Drafts.{with_bytes}
 use Rattle.walrus_flat.specs.declared.writer.Writer.{Writer}
 use Rattle.walrus_flat.specs.declared.sequences.Next.TheVariants as next

@@ -16,8 +16,8 @@ use Rattle.wasm_body.specs.Frames.{outside}
 use Rattle.wasm_body.specs.Naming.{naming, id_at, open_label}
 use Rattle.wasm_body.specs.Translation.{translate_immediate}
 use Rattle.wasm_body.proofs.Translation.Steps.{bound}
-use Rattle.wasm_flat.specs.Flat.{Live, Unreachable, flat_state, innermost, around}
-use Rattle.walrus_instructions.specs.OperatorKinds.{is_instruction}
+use Rattle.wasm_body.specs.Flat.{Live, Unreachable, flat_state, innermost, around}
+use Rattle.walrus_from_operators.specs.OperatorKinds.{is_instruction}
 use Rattle.walrus_parser.specs.OperatorKinds.{makes_unreachable}
 use Rattle.walrus_parser.proofs.Roles.{fate_of_operator}
 use Rattle.walrus_flat.specs.declared.writer.Writer.{Writer}

@@ -23,7 +23,7 @@ use Rattle.wasm_body.specs.NormalForm.{Typing, typing_of, construct_type, fate}
 use Rattle.wasm_body.specs.RewrittenTree.{else_at, catch_at, catch_all_at, delegate_at}
 use Rattle.wasm_body.specs.TextLaws.{mark_named}
 use Rattle.wasm_body.proofs.Translation.Steps.{bound}
-use Rattle.wasm_flat.specs.Flat.{Named, Open, Dropped, Kept, Live, Unreachable, FlatState, flat_state, innermost, around, needs_else, begins_with, else_written as flat_else, end_written as flat_end, live_written, waiting_written, ending_written, unreachable_written, written_in, parted, closed_state, written_at, after, renumbering, numbered_at_location}
+use Rattle.wasm_body.specs.Flat.{Named, Open, Dropped, Kept, Live, Unreachable, FlatState, flat_state, innermost, around, needs_else, begins_with, else_written as flat_else, end_written as flat_end, live_written, waiting_written, ending_written, unreachable_written, written_in, parted, closed_state, written_at, after, renumbering, numbered_at_location}
 use Rattle.walrus_parser.proofs.Roles.{does_as, fate_by, fate_of_role}
 use Rattle.walrus_flat.specs.declared.writer.Writer.{Writer}
 use Rattle.walrus_flat.specs.declared.sequences.Next.{Next}

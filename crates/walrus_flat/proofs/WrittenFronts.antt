@@ -25,7 +25,7 @@ use Rattle.walrus_validators.specs.Locating.{Locates}
 use Rattle.wasm_body.specs.Parsing.Accepted.{has_location}
 use Rattle.walrus_parser.proofs.ParsedSoFar.{Reads, occurrence, goes_over, progress-append}
 use Rattle.walrus_validators.proofs.Taking.{is_admitted, located_fits}
-use Rattle.wasm_flat.specs.Flat.{Named}
+use Rattle.wasm_body.specs.Flat.{Named}
 
 -- ---- the frames of what was read, by the names of their openers
 

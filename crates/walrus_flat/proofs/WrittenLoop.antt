@@ -36,10 +36,10 @@ use Rattle.walrus_validators.specs.Locating.{MayCall, Locates, HasNoLocation}
 use Rattle.walrus_parser.specs.Settings.{operators_of}
 use Rattle.walrus_parser.proofs.Bodies.{is_whole, whole_mapping}
 use Rattle.walrus_parser.proofs.ParsedSoFar.{begins, occurrence, progress-append}
-use Rattle.wasm_flat.specs.Flat.{Named, first_state, written_at, after, flat, numbered_at_location, IsWrittenSo}
-use Rattle.wasm_flat.specs.FlatLaws.{without_location}
-use Rattle.wasm_flat.proofs.Fronts as fronts
-use Rattle.wasm_flat.proofs.OtherLocations.{faults_anywhere}
+use Rattle.wasm_body.specs.Flat.{Named, first_state, written_at, after, flat, numbered_at_location, IsWrittenSo}
+use Rattle.wasm_body.specs.FlatLaws.{without_location}
+use Rattle.wasm_body.proofs.Flat.Fronts as fronts
+use Rattle.wasm_body.proofs.Flat.OtherLocations.{faults_anywhere}
 use Rattle.walrus_emit_state.specs.Emission.{Output}
 use Rattle.walrus_emit_state.specs.TreeWriting.Drafts.{Drafted}
 use Rattle.walrus_flat.specs.declared.writer.Writer.{Writer}

@@ -14,8 +14,8 @@ use Rattle.wasm_body.specs.Naming.{Environment, NamedOperation, Occurrence, id_a
 use Rattle.wasm_body.specs.NormalForm.{name_at}
 use Rattle.wasm_body.specs.TextLaws.{mark_named}
 use Rattle.wasm_body.specs.Translation.{at_location}
-use Rattle.wasm_flat.specs.Flat.{Named, Unreachability, unreachability, unreachability_after, live_locals}
-use Rattle.wasm_translate.specs.Changes.{Changes}
+use Rattle.wasm_body.specs.Flat.{Named, Unreachability, unreachability, unreachability_after, live_locals}
+use Rattle.wasm_renumber.specs.Changes.{Changes}
 use Rattle.walrus_context.specs.Placing.{is_handler_kind}
 use Rattle.walrus_maps.specs.Environments.{environment_of}
 use Rattle.walrus_flat.specs.UsedLocals.{is_used}

@@ -18,8 +18,8 @@ use Rattle.wasm_body.specs.Naming.{Environment, Occurrence}
 use Rattle.wasm_body.specs.Parsing.Accepted.{Setting, Accepted, FirstFault, mark}
 use Rattle.wasm_body.specs.Parsing.Lists.{parsed_from}
 use Rattle.wasm_body.specs.Parsing.Progress.{Whole, nothing_read, progress_after}
-use Rattle.wasm_flat.specs.Flat.{first_unreachability, locals_read}
-use Rattle.walrus_instructions.specs.OperatorKinds.{is_instruction}
+use Rattle.wasm_body.specs.Flat.{first_unreachability, locals_read}
+use Rattle.walrus_from_operators.specs.OperatorKinds.{is_instruction}
 use Rattle.walrus_validators.specs.Checking.{placed_at}
 use Rattle.walrus_parser.specs.Settings.{operators_of}
 use Rattle.walrus_flat.specs.declared.checker.Checker.{Checker}

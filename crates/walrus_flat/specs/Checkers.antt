@@ -13,7 +13,7 @@ use Rattle.wasm_operators.specs.Operations.{operation, RawOperation}
 use Rattle.wasm_body.specs.declared.error.ParseError.{ParseError}
 use Rattle.wasm_body.specs.declared.error.ParseError.TheVariants.{Memory, Index, ElseOutsideIf, CatchOutsideTry, DelegateOutsideTry}
 use Rattle.wasm_body.specs.Naming.{Environment, id_at, name_block, tag_type, has_pick}
-use Rattle.wasm_translate.specs.Changes.{changed_operator}
+use Rattle.wasm_renumber.specs.Changes.{changed_operator}
 use Rattle.walrus_flat.specs.UsedLocals.{is_used}
 use Rattle.walrus_flat.specs.declared.checker.Checker.{Checker}
 use Rattle.walrus_flat.specs.declared.open_sequence.OpenSequence.{OpenSequence}

@@ -20,8 +20,8 @@ use Rattle.wasm_body.specs.LocalNumbers.{Local, AreDeclared, declared, ids_of, n
 use Rattle.wasm_body.specs.LocationLaws.{BalanceAlike}
 use Rattle.wasm_body.specs.EmissionFaults.{AreIdNumbers}
 use Rattle.wasm_body.specs.Parsing.Accepted.{HasSpelling, Lawful}
-use Rattle.wasm_flat.specs.Flat.{first_state, flat, renumbering, numbered_at_location, first_unreachability, locals_read}
-use Rattle.wasm_translate.specs.Changes.{changed_operator}
+use Rattle.wasm_body.specs.Flat.{first_state, flat, renumbering, numbered_at_location, first_unreachability, locals_read}
+use Rattle.wasm_renumber.specs.Changes.{changed_operator}
 use Rattle.walrus_rewrite.specs.RawBodies.{EmitInput, IsRawBody, HasNoParsedBody}
 use Rattle.walrus_rewrite.specs.RewrittenBodies.{KeepsSource}
 use Rattle.walrus_flat.specs.Checked.{marks}

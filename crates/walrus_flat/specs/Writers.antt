@@ -21,8 +21,8 @@ use Rattle.wasm_body.specs.Naming.{Environment, NamedOperation, Occurrence, name
 use Rattle.wasm_body.specs.NormalForm.{Typing, typing_of, construct_type}
 use Rattle.wasm_body.specs.TextLaws.{mark_named}
 use Rattle.wasm_body.specs.Translation.{Located, at_location}
-use Rattle.wasm_flat.specs.Flat.{Named, Kept, Dropped, Unreachable, Live, FlatState, flat_state, innermost, around, needs_else, written_at, after, numbered_at_location}
-use Rattle.wasm_translate.specs.Changes.{changed_operator}
+use Rattle.wasm_body.specs.Flat.{Named, Kept, Dropped, Unreachable, Live, FlatState, flat_state, innermost, around, needs_else, written_at, after, numbered_at_location}
+use Rattle.wasm_renumber.specs.Changes.{changed_operator}
 use Rattle.walrus_maps.specs.Environments.{environment_of}
 use Rattle.walrus_maps.specs.IndexMaps.{id_of, local_of}
 use Rattle.walrus_numbering.specs.NumberMaps.{numbers_by}

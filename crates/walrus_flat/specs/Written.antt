@@ -13,8 +13,8 @@ use Rattle.wasm_body.specs.Translation.{Located, at_location}
 use Rattle.wasm_body.specs.FunctionTree.{last_location}
 use Rattle.wasm_body.specs.NormalForm.{Typing}
 use Rattle.wasm_body.specs.Bytes.{Numbers, in_32_bits, numbers_in_32_bits, numbered_block}
-use Rattle.wasm_flat.specs.Flat.{Named, Open, Dropped, Kept, Mode, Live, Waits, Unreachable, FlatState, flat_state, innermost, around, needs_else, mode_of_else, parted, closed_state, numbered_at_location}
-use Rattle.wasm_translate.specs.Changes.{Changes}
+use Rattle.wasm_body.specs.Flat.{Named, Open, Dropped, Kept, Mode, Live, Waits, Unreachable, FlatState, flat_state, innermost, around, needs_else, mode_of_else, parted, closed_state, numbered_at_location}
+use Rattle.wasm_renumber.specs.Changes.{Changes}
 use Rattle.walrus_maps.specs.IndexMaps.{id_of, local_of}
 use Rattle.walrus_numbering.specs.NumberMaps.{numbers_by}
 use Rattle.walrus_emit_state.specs.TreeWriting.Drafts.{Drafted, with_written}

@@ -23,7 +23,7 @@ use walrus_ir::{BlockKind, InstrSeqType, Module, TypeId, ValType};
 use wasm_body::ParseError;
 use wasm_operators::{BlockType, Operator};
 use wasm_ops::CommonOperator;
-use wasm_translate::{Lists, translated};
+use wasm_renumber::{Lists, translated};
 
 /// The state while a body is checked.
 #[derive(Drop)]

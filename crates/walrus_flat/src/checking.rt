@@ -6,7 +6,7 @@ use walrus_ir::{BlockKind, FunctionId, Module};
 use walrus_maps::IndicesToIds;
 use wasm_body::ParseError;
 use wasm_operators::{BlockType, Space};
-use wasm_translate::Translate;
+use wasm_renumber::Translate;
 
 /// What is needed to check the parts of an operator, which stay as they are.
 #[derive(Clone, Copy)]

@@ -23,7 +23,7 @@ use walrus_ir::{BlockKind, FunctionId, InstrSeqType, Module, TypeId};
 use walrus_maps::IndicesToIds;
 use walrus_parser::{FunctionBody, OpCheck, failure};
 use wasm_body::{ParseError, ParseFailure};
-use wasm_translate::Lists;
+use wasm_renumber::Lists;
 
 /// The entry type of a function of this type.
 fn entry_type(module: &Module, ty: TypeId) -> Result<TypeId, ParseError>

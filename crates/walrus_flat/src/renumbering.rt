@@ -11,7 +11,7 @@ use walrus_maps::{IdsToIndices, IndicesToIds};
 use walrus_numbering::{NumberMaps, block_type};
 use wasm_body::EmitError;
 use wasm_operators::{BlockType, Space};
-use wasm_translate::Translate;
+use wasm_renumber::Translate;
 
 /// What is needed to write an operator of a function's body with new numbers.
 #[derive(Clone, Copy)]

@@ -1,7 +1,7 @@
 //! Rewriting a body without its tree.
 ghost use Rattle.std.specs.Prelude.{◌≡◌, ◌⊎◌, ◌++◌, ◌≤◌, ◌<◌, ◌+◌, ◌^◌, ℕ, List, [], length, Option, Some, OnOk, OnErr, IfOk, IfErr, IsErr, false};
 ghost use Rattle.wasm_body.specs.declared.error.EmitError.TheVariants.{Memory};
-ghost use Rattle.wasm_flat.specs.Flat.{first_state};
+ghost use Rattle.wasm_body.specs.Flat.{first_state};
 ghost use Rattle.walrus_rewrite.specs.RawBodies.{BeginsRawBody, IsNotBegun};
 ghost use Rattle.walrus_maps.specs.Environments.{environment_of};
 ghost use Rattle.walrus_parser.specs.Bodies.{input_of, body_input, IfAccepted, IfFirstFault};
@@ -37,7 +37,7 @@ use walrus_maps::{IdsToIndices, IndicesToIds, make_room};
 use walrus_parser::{FunctionBody, OpCheck, failure};
 use walrus_rewrite::{RewriteError, append_lists};
 use wasm_body::{EmitError, ParseError, ParseFailure};
-use wasm_translate::Lists;
+use wasm_renumber::Lists;
 
 /// The sequences of a body of which nothing is written. They take the list of the scratch.
 fn begin_sequences(alloc: Global, scratch: &mut FlatScratch) -> Result<OpenSequences, EmitError>

@@ -2,7 +2,7 @@
 ghost use Rattle.std.specs.Prelude.{◌≡◌, ◌<◌, ◌∷◌, vec_len, vec_capacity, OnOk, IfErr};
 ghost use Rattle.std.specs.Bool.{OnTrue};
 ghost use Rattle.wasm_body.specs.declared.error.EmitError.TheVariants.{Memory};
-ghost use Rattle.wasm_flat.specs.Flat.{innermost, around, needs_else};
+ghost use Rattle.wasm_body.specs.Flat.{innermost, around, needs_else};
 ghost use Rattle.walrus_flat.specs.Written.{open_of, opens_of, flat_state_of, is_unreachable_next, waits, waiting_location, ends_dropped};
 ghost use Rattle.walrus_flat.specs.declared.sequences.Next.TheVariants.{Live as LiveNext};
 

@@ -1,7 +1,7 @@
 //! The second pass: a body that was checked is read again, and written.
 ghost use Rattle.std.specs.Prelude.{◌≡◌, ◌≤◌, ◌<◌, ◌+◌, length, MatchOption};
 ghost use Rattle.walrus_validators.specs.Locating.{MayCall, Locates, HasNoLocation};
-ghost use Rattle.wasm_flat.specs.Flat.{first_state};
+ghost use Rattle.wasm_body.specs.Flat.{first_state};
 ghost use Rattle.walrus_flat.specs.Written.{flat_state_of};
 ghost use Rattle.walrus_flat.specs.declared.sequences.Next.TheVariants.{Live as LiveNext};
 ghost use Rattle.walrus_flat.specs.Writers.{env_at, numbers_of_writer};

@@ -5,7 +5,7 @@ ghost use Rattle.walrus_ir.specs.declared.val_type.InstrSeqType.TheVariants.{Sim
 ghost use Rattle.wasm_operators.specs.Meaning.{meaning};
 ghost use Rattle.wasm_encode.specs.Writable.{IsWritable};
 ghost use Rattle.wasm_body.specs.declared.error.EmitError.TheVariants.{Memory};
-ghost use Rattle.wasm_flat.specs.Flat.{Kept as KeptOpen, Live as LiveMode, Unreachable as DeadMode, innermost, around, mode_of_else, flat_state};
+ghost use Rattle.wasm_body.specs.Flat.{Kept as KeptOpen, Live as LiveMode, Unreachable as DeadMode, innermost, around, mode_of_else, flat_state};
 ghost use Rattle.walrus_parser.specs.OperatorKinds.{makes_unreachable};
 ghost use Rattle.walrus_flat.specs.declared.sequences.Next.TheVariants.{Live as LiveNext};
 ghost use Rattle.std.specs.Bool.{OnTrue, OnFalse};
@@ -38,7 +38,7 @@ use wasm_operators::{
     BlockType, Opcode, Operator, RawMemArg, binary_opcode, load_opcode, store_opcode, unary_opcode,
 };
 use wasm_ops::CommonOperator;
-use wasm_translate::{Lists, translated};
+use wasm_renumber::{Lists, translated};
 
 /// The state while a body is written.
 #[derive(Drop)]

@@ -9,7 +9,7 @@ use Rattle.wasm_ops.specs.declared.common.CommonOperator.{CommonOperator}
 use Rattle.wasm_ops.specs.declared.common.CommonOperator.TheVariants as common
 use Rattle.wasm_ops.specs.CommonOperators.{common_listed}
 use Rattle.wasm_body.specs.InstructionTable.{operation_of, clauses_of_try}
-use Rattle.walrus_instructions.specs.OperatorKinds.{is_instruction}
+use Rattle.walrus_from_operators.specs.OperatorKinds.{is_instruction}
 use Rattle.walrus_context.specs.OpenFrames.{OpenFrame, changed_at, with_instr}
 use Rattle.walrus_context.specs.OpenTrees.{OpenTrees}
 use Rattle.walrus_parser.specs.declared.body_parser.BodyParser.{BodyParser}

@@ -33,7 +33,7 @@ use Rattle.wasm_operators.specs.ReferenceOperations.{by_null, reference_opcode}
 use Rattle.wasm_operators.specs.VectorAccessOpcodes.{vector_access_opcode}
 use Rattle.wasm_body.specs.Control.{Role, an_unreachable, a_branch, a_conditional_branch, a_table_branch, a_return, a_tail_call, a_throw, a_rethrow, a_throw_ref, a_plain, role_of, Action, Plain, Return, Unreachable, Branch, ConditionalBranch, Throw, Rethrow, ThrowRef, TailCall, Control, Does, control_by, first_index, first_depth, first_label, branches}
 use Rattle.wasm_body.specs.NormalForm.{Fate, Stays, MakesUnreachable, fate}
-use Rattle.walrus_instructions.specs.OperatorKinds.{is_instruction}
+use Rattle.walrus_from_operators.specs.OperatorKinds.{is_instruction}
 use Rattle.walrus_parser.specs.OperatorKinds.{makes_unreachable}
 
 -- ---- plain operators, from the tables of their opcodes

@@ -9,12 +9,12 @@ ghost use Rattle.wasm_ops.specs.CommonOperators.{common_listed};
 ghost use Rattle.wasm_encode.specs.Writable.{IsWritable};
 ghost use Rattle.walrus_ir.specs.Unfolding.{slots_in};
 ghost use Rattle.wasm_body.specs.InstructionTable.{operation_of, clauses_of_try};
-ghost use Rattle.walrus_instructions.specs.OperatorKinds.{is_instruction};
+ghost use Rattle.walrus_from_operators.specs.OperatorKinds.{is_instruction};
 ghost use Rattle.walrus_parser.specs.OperatorKinds.{makes_unreachable};
 ghost use Rattle.walrus_parser.specs.BodyParsers.{TakesAtOnce, placed_in};
 
 use crate::body_parser::BodyParser;
-use walrus_instructions::{constant, memory_argument};
+use walrus_from_operators::{constant, memory_argument};
 use walrus_ir::{
     Binop, Br, BrIf, Call, GlobalGet, GlobalSet, Instr, InstrLocId, Load, LoadKind, LocalGet,
     LocalSet, LocalTee, Store, StoreKind, Unop, Value,

@@ -6,7 +6,7 @@ ghost use Rattle.wasm_operators.specs.Operations.{operation, block};
 ghost use Rattle.wasm_operators.specs.declared.operator.Op.TheVariants as op;
 ghost use Rattle.wasm_operators.specs.Meaning.{meaning};
 ghost use Rattle.wasm_encode.specs.Writable.{IsWritable};
-ghost use Rattle.walrus_instructions.specs.OperatorKinds.{is_instruction};
+ghost use Rattle.walrus_from_operators.specs.OperatorKinds.{is_instruction};
 ghost use Rattle.walrus_parser.specs.OperatorKinds.{makes_unreachable};
 ghost use Rattle.wasm_body.specs.declared.error.ParseError.{ParseError as ParseFault};
 ghost use Rattle.wasm_body.specs.Control.{end_operation, else_operation};
@@ -21,7 +21,7 @@ ghost use Rattle.walrus_parser.specs.BodyParsers.{BeginsParse, IsSameBody, Parse
 use std::alloc::Global;
 use std::mem;
 use walrus_context::{IfElseState, ValidationContext, push_or_fail};
-use walrus_instructions::instruction;
+use walrus_from_operators::instruction;
 use walrus_ir::{
     Block, BlockKind, FunctionBuilder, FunctionId, IfElse, Instr, InstrLocId, InstrSeqId, Loop,
     Module, TypeId, ValType,

@@ -9,7 +9,7 @@ ghost use Rattle.walrus_parser.specs.BodyParsers.{IsSameBody, ParsesStep, clause
 
 use crate::body_parser::BodyParser;
 use walrus_context::push_or_fail;
-use walrus_instructions::branch_target;
+use walrus_from_operators::branch_target;
 use walrus_ir::{BlockKind, Instr, InstrLocId, InstrSeqId, TagId, TryTable, TryTableCatch};
 use wasm_body::ParseError;
 use wasm_ops::{BlockType, CatchList, RawCatch};

@@ -11,7 +11,7 @@ use Rattle.wasm_body.specs.declared.error.ParseError.TheVariants.{Memory}
 use Rattle.wasm_body.specs.Translation.{translate}
 use Rattle.wasm_body.specs.Naming.{Environment, NamedOperation, Occurrence}
 use Rattle.wasm_body.specs.Parsing.Accepted.{placed}
-use Rattle.walrus_instructions.specs.Placed.{GivesOrMemory}
+use Rattle.walrus_from_operators.specs.Placed.{GivesOrMemory}
 use Rattle.walrus_machine.specs.declared.named_op.NamedOp.{NamedOp}
 use Rattle.walrus_machine.specs.NamedOperators.{named_operation}
 use Rattle.walrus_run.specs.NamedBodies.{BodyNames}

@@ -10,7 +10,7 @@ ghost use Rattle.wasm_operators.specs.ReferenceOperations.{cast_of};
 ghost use Rattle.wasm_body.specs.declared.error.ParseError.{ParseError as ParseFault};
 ghost use Rattle.wasm_body.specs.Naming.{name_block};
 ghost use Rattle.wasm_body.specs.Translation.{translate, translate_access, translate_cast, translate_clause, translate_immediate, translate_immediates, translate_tag};
-ghost use Rattle.walrus_instructions.specs.Placed.{GivesOrMemory};
+ghost use Rattle.walrus_from_operators.specs.Placed.{GivesOrMemory};
 ghost use Rattle.walrus_machine.specs.NamedOperators.{named_index, named_access, named_block, named_clause, named_cast, named_immediates, named_operation};
 ghost use Rattle.walrus_run.specs.Namers.{env_of_namer, anywhere};
 

@@ -20,3 +20,5 @@ pub mod Executions
 pub mod Validity
 -- examples that pin the definitions: small bodies, their names, texts, pairs and runs, computed
 pub mod Examples
+-- what is written operator by operator is the text of the rewritten body (`law_flat`)
+pub mod Flat

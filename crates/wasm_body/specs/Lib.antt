@@ -36,3 +36,7 @@ pub mod ErrorNames
 -- the validation algorithm, and the law that validity is kept
 pub mod Validity
 pub mod ValidityLaws
+-- what is written of a body, operator by operator, without its tree
+pub mod Flat
+-- and the laws that it is what is written of its tree
+pub mod FlatLaws

@@ -21,7 +21,7 @@ use Rattle.walrus_emit_state.specs.TreeWriting.Closers.{places_of, scopes_of}
 use Rattle.walrus_emit_state.specs.TreeWriting.Drafts.{Drafted, with_bytes}
 use Rattle.walrus_emit_state.specs.TreeWriting.ScopeLists.{ScopeLists}
 use Rattle.walrus_emit_state.specs.TreeWriting.Announcing.{AreAnnounced}
-use Rattle.walrus_operators.specs.TreeWriting.Operators.{numbered_operator}
+use Rattle.walrus_to_operators.specs.TreeWriting.Operators.{numbered_operator}
 use Rattle.walrus_emitter.specs.TreeWriting.Emitters.{emitter_at}
 use Rattle.walrus_emitter.proofs.TreeWriting.Steps.{sequences_begin, kept_begins}
 

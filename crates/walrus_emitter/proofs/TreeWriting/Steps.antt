@@ -24,7 +24,7 @@ use Rattle.walrus_emit_state.specs.Emission.{Scope, Emitter, slots_of, closers_i
 use Rattle.walrus_emit_state.specs.TreeWriting.Closers.{scope_of, scopes_of, places_of}
 use Rattle.walrus_emit_state.specs.TreeWriting.Drafts.{Drafted, with_written}
 use Rattle.walrus_emit_state.specs.TreeWriting.ScopeLists.{ScopeLists, with_more}
-use Rattle.walrus_operators.specs.TreeWriting.Operators.{numbered_operator, IsOperatorOf}
+use Rattle.walrus_to_operators.specs.TreeWriting.Operators.{numbered_operator, IsOperatorOf}
 use Rattle.walrus_emitter.specs.TreeWriting.Emitters.{emitter_at}
 
 -- ---- an instruction: its type, its operator, its sequences

@@ -11,7 +11,7 @@ use Rattle.wasm_body.specs.Translation.{translate}
 use Rattle.wasm_body.specs.TreeOfFunction.{with_targets}
 use Rattle.walrus_numbering.specs.NumberMaps.{numbers_of}
 use Rattle.walrus_emit_state.specs.TreeWriting.Closers.{places_of}
-use Rattle.walrus_operators.specs.TreeWriting.Operators.{numbered_operator}
+use Rattle.walrus_to_operators.specs.TreeWriting.Operators.{numbered_operator}
 use Rattle.walrus_emitter.proofs.TreeWriting.Steps.{plain_visited, on_ok}
 use Rattle.walrus_emitter.proofs.emit.EmitVisitor.visit_constant.Goals as goal
 

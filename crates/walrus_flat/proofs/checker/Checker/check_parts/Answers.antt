@@ -1,7 +1,7 @@
 use Rattle.std.proofs.Common.{◌≡◌, reverse, Result, Ok, refl, sym, subst}
 use Rattle.std.specs.Prelude.{IsOk}
 use Rattle.wasm_operators.specs.Meaning.{meaning}
-use Rattle.wasm_translate.specs.Changes.{changed_operator}
+use Rattle.wasm_renumber.specs.Changes.{changed_operator}
 use Rattle.std.specs.Prelude.{◌⊎◌, Err}
 use Rattle.wasm_body.specs.declared.error.ParseError.TheVariants.{Memory}
 use Rattle.walrus_flat.specs.Checked.{env_of_checker, checking_changes}

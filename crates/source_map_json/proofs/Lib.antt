@@ -1,2 +1,0 @@
--- text that is appended to a text
-pub mod Longer
