@@ -6,7 +6,8 @@ use Rattle.std.proofs.lemmas.Bool.Decides.{nat_tests}
 use Rattle.source_map.specs.declared.fault.MappingsFault.{MappingsFault}
 use Rattle.source_map.specs.declared.fault.MappingsFault.TheVariants.{BadDigit, LongNumber, SecondLine}
 use Rattle.source_map.specs.Vlq.{digit_value, IsVlqNumber, max_digits}
-use Rattle.source_map.specs.Reading.{◌>>=◌, some_or, digit_at, number_at, next_at}
+use Rattle.wasm_numbers.specs.Results.{◌>>=◌, some_or}
+use Rattle.source_map.specs.Reading.{digit_at, number_at, next_at}
 use Rattle.source_map.proofs.Steps.{bind_ok, some_or_ok, ok_is, chosen, test_false}
 
 pub digit_below : (c d : ℕ) → digit_value c ≡ Some d → d < 64

@@ -4,7 +4,8 @@ use Rattle.std.specs.List.{AllByRecursion}
 use Rattle.std.proofs.lemmas.Bool.{ltb-false, eqb-false}
 use Rattle.source_map.specs.declared.fault.MappingsFault.TheVariants.{FieldOutOfRange, UnsortedColumn}
 use Rattle.source_map.specs.Vlq.{max_digits, within, lowered, moved_by, IsField}
-use Rattle.source_map.specs.Reading.{◌>>=◌, some_or, next_at, field_at, column_after, column_at}
+use Rattle.wasm_numbers.specs.Results.{◌>>=◌, some_or}
+use Rattle.source_map.specs.Reading.{next_at, field_at, column_after, column_at}
 use Rattle.source_map.proofs.Steps.{bind_ok, some_or_ok, ok_is, some_is, chosen}
 use Rattle.source_map.proofs.Digits.{Takes, next_taken, next_again, number_lacks}
 

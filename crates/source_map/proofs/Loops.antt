@@ -9,7 +9,8 @@ use Rattle.source_map.specs.declared.mapping.Mapping.{Mapping}
 use Rattle.source_map.specs.declared.fields.Fields.{Fields}
 use Rattle.source_map.specs.declared.fault.MappingsFault.{MappingsFault}
 use Rattle.source_map.specs.Spelling.{fields_after}
-use Rattle.source_map.specs.Reading.{◌>>=◌, segment_at, segments_at}
+use Rattle.wasm_numbers.specs.Results.{◌>>=◌}
+use Rattle.source_map.specs.Reading.{segment_at, segments_at}
 use Rattle.source_map.specs.Shortest.{short_segment, short_segments}
 use Rattle.source_map.proofs.Steps.{test_false}
 

@@ -7,7 +7,8 @@ use Rattle.source_map.specs.declared.mapping.Mapping.{Mapping}
 use Rattle.source_map.specs.declared.fields.Fields.{Fields}
 use Rattle.source_map.specs.Vlq.{IsField}
 use Rattle.source_map.specs.Spelling.{fields_after, IsName, IsOriginal, IsOriginalOrNone, IsSegment, AreSegments}
-use Rattle.source_map.specs.Reading.{◌>>=◌, field_at, column_at, last_field, name_at, original_at, original_or_none_at, segment_at, segments_at}
+use Rattle.wasm_numbers.specs.Results.{◌>>=◌}
+use Rattle.source_map.specs.Reading.{field_at, column_at, last_field, name_at, original_at, original_or_none_at, segment_at, segments_at}
 use Rattle.source_map.proofs.Steps.{bind_ok, ok_is}
 use Rattle.source_map.proofs.FieldLaws.{field_taken, field_again, field_lacks, column_taken, column_again}
 

@@ -1,7 +1,7 @@
 -- Steps that did not fail, and tests.
 use Rattle.std.proofs.Common.{◌≡◌, Bool, true, false, cond, Option, Some, None, Result, Ok, Err, refl, ap, inl, inr, ◌⊎◌}
 use Rattle.source_map.specs.declared.fault.MappingsFault.{MappingsFault}
-use Rattle.source_map.specs.Reading.{◌>>=◌, some_or}
+use Rattle.wasm_numbers.specs.Results.{◌>>=◌, some_or}
 
 -- the value of a step that did not fail
 pub bind_ok : {A B : Type 0} (r : Result A MappingsFault) (f : A → Result B MappingsFault) (y : B) → (r >>= f) ≡ Ok y → (x : A) × (r ≡ Ok x) × (f x ≡ Ok y)

@@ -8,24 +8,11 @@ use Rattle.source_map.specs.declared.fault.MappingsFault.{MappingsFault}
 use Rattle.source_map.specs.declared.fault.MappingsFault.TheVariants.{BadDigit, CutNumber, LongNumber, FieldCount, FieldOutOfRange, UnsortedColumn, SecondLine}
 use Rattle.source_map.specs.declared.fault.MappingsError.{MappingsError}
 use Rattle.source_map.specs.declared.fault.MappingsError.TheVariants as errors
+use Rattle.wasm_numbers.specs.Results.{◌>>=◌, some_or}
 use Rattle.source_map.specs.Vlq.{digit_value, max_digits, within, moved_by}
 use Rattle.source_map.specs.Spelling.{no_fields, fields_after}
 
-infixl 10 ◌>>=◌
-abbrev pub ◌>>=◌ : {A B : Type 0} → Result A MappingsFault → (A → Result B MappingsFault) → Result B MappingsFault
-(Ok x) >>= f = f x
-(Err e) >>= f = Err e
-
-abbrev pub some_or : {A : Type 0} → Option A → MappingsFault → Result A MappingsFault
-some_or (Some x) e = Ok x
-some_or None e = Err e
-
--- The result of a function, seen by `view`, is the result of reading.
-abbrev pub Gives : {X Y : Type 0} → (X → Y) → Result X MappingsFault → Result Y MappingsFault → Type 0
-Gives view (Ok x) read = read ≡ Ok (view x)
-Gives view (Err e) read = read ≡ Err e
-
--- The same, unless memory ran out.
+-- Reading ends with this fault, unless memory ran out.
 abbrev pub Fails : {Y : Type 0} → MappingsError → Result Y MappingsFault → Type 0
 Fails errors.Memory read = Unit {0}
 Fails (errors.Fault f) read = read ≡ Err f

@@ -2,7 +2,8 @@
 
 ghost use Rattle.std.specs.Prelude.{◌≡◌, ◌<◌, IfOk};
 ghost use Rattle.source_map.specs.Shortest.{digit};
-ghost use Rattle.source_map.specs.Reading.{Gives, digit_at};
+ghost use Rattle.wasm_numbers.specs.Results.{Gives};
+ghost use Rattle.source_map.specs.Reading.{digit_at};
 
 use crate::fault::MappingsFault;
 

@@ -2,7 +2,8 @@
 
 ghost use Rattle.std.specs.Prelude.{◌≡◌, ◌<◌, ◌≤◌, ◌*◌, ◌^◌, ◌++◌, ◌∷◌, [], IfOk, OnOk};
 ghost use Rattle.source_map.specs.Shortest.{digit, short_number, short_field};
-ghost use Rattle.source_map.specs.Reading.{Gives, some_or, number_at, next_at, field_at, column_at, column_after};
+ghost use Rattle.wasm_numbers.specs.Results.{Gives, some_or};
+ghost use Rattle.source_map.specs.Reading.{number_at, next_at, field_at, column_at, column_after};
 ghost use Rattle.source_map.specs.Vlq.{moved_by};
 ghost use Rattle.source_map.specs.declared.fault.MappingsFault.TheVariants as faults;
 

@@ -3,7 +3,8 @@
 ghost use Rattle.std.specs.Prelude.{◌≡◌, ◌==◌, ◌∷◌, ◌<◌, List, length, IfOk, IfSome, Ok, option_map};
 ghost use Rattle.std.specs.List.{slice_split};
 ghost use Rattle.source_map.specs.Spelling.{SpellsMappings};
-ghost use Rattle.source_map.specs.Reading.{Gives, ReadsOrMemory, name_at, original_at, original_or_none_at, segment_at, comma_parts, mappings_at};
+ghost use Rattle.wasm_numbers.specs.Results.{Gives};
+ghost use Rattle.source_map.specs.Reading.{ReadsOrMemory, name_at, original_at, original_or_none_at, segment_at, comma_parts, mappings_at};
 ghost use Rattle.source_map.specs.declared.mapping.Mapping.{Mapping as AMapping};
 
 use crate::fault::{MappingsError, MappingsFault};

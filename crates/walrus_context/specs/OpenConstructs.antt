@@ -10,6 +10,7 @@ use Rattle.wasm_body.specs.SourceTree.{Sequence, Wrapper, OfBlock, OfLoop, OfTry
 use Rattle.wasm_body.specs.Translation.{Located}
 use Rattle.wasm_body.specs.FunctionTree.{Head, LegacyClause, handles, handles_all, Instruction}
 use Rattle.wasm_body.specs.Naming.{NamedOperation}
+use Rattle.wasm_body.specs.Flat.{Named}
 use Rattle.wasm_body.specs.NormalForm.{Typing, construct_type, handler_type, head, normal}
 use Rattle.wasm_body.specs.Parsing.Progress.{ClosedClause, closed_clause, OpenConstruct, InWrapper, InThen, InElse, InTry, InCatch, InCatchAll}
 
@@ -51,9 +52,6 @@ clauses_in (InCatch a b gs h t) = clauses_after gs (handles t ∷ [])
 clauses_in (InCatchAll a b gs h) = clauses_after gs (handles_all ∷ [])
 
 -- ---- the closed sequences
-
-abbrev pub Named : Type 0
-Named = Located NamedOperation
 
 -- sequences followed by others
 abbrev pub sequences_joined : {S I : Type 0} → Sequences S I → Sequences S I → Sequences S I

@@ -1,18 +1,10 @@
 //! The operators of a body, one after the other.
-ghost use Rattle.std.specs.Prelude.{◌≡◌, ◌++◌, List, ℕ, Ok};
-ghost use Rattle.wasm_operators.specs.Operations.{RawOperation};
+ghost use Rattle.std.specs.Prelude.{◌≡◌, List, ℕ, Ok};
 ghost use Rattle.wasm_operators.specs.Spelling.{Spells, read_operation};
 
 use crate::control::{Control, control_at_front};
 use std::marker::Model;
-use wasm_ops::{CommonOperator, Operator, ReadError, Reader};
-
-/// An operator that is read at the front is spelt by the bytes that are taken.
-#[inline(always)]
-fn law_front(bytes: &[u8])
-    ensures { (o : RawOperation) (rest : List ℕ) → read_operation bytes.now ≡ Ok (o, rest)
-        → (text : List ℕ) × (bytes.now ≡ text ++ rest) × Spells o text }
-{}
+use wasm_ops::{CommonOperator, Operator, ReadError, Reader, law_front};
 
 /// The bytes of a body that aren't read yet, and the place of the first of them: a `Reader` of which
 /// the bytes are at hand.

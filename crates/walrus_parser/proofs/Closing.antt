@@ -7,7 +7,8 @@ use Rattle.wasm_body.specs.FunctionTree.{Head, LegacyClause, handles, handles_al
 use Rattle.wasm_body.specs.Naming.{NamedOperation, Occurrence}
 use Rattle.wasm_body.specs.NormalForm.{Typing, construct_type, handler_type, instruction, head, legacy_clauses, closed_at, normal, handler_sequences, name_at}
 use Rattle.wasm_body.specs.Parsing.Progress.{ClosedClause, closed_clause, after_closed, OpenConstruct, InWrapper, InThen, InElse, InTry, InCatch, InCatchAll, closed}
-use Rattle.walrus_context.specs.OpenConstructs.{opener_in, clauses_after, clauses_in, Named, sequences_joined, handlers_after, first_clause_at, try_sequences, closed_in, added_in, sequences_closed, map_closed, map_open_construct}
+use Rattle.walrus_context.specs.OpenConstructs.{opener_in, clauses_after, clauses_in, sequences_joined, handlers_after, first_clause_at, try_sequences, closed_in, added_in, sequences_closed, map_closed, map_open_construct}
+use Rattle.wasm_body.specs.Flat.{Named}
 
 -- ---- clauses after closed ones
 
