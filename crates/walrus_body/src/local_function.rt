@@ -25,7 +25,7 @@ use walrus_ir::{
     InstrSeqId, LocalId, Module, ModuleTypes, TypeId, WalkError,
 };
 use walrus_maps::{IdsToIndices, IndicesToIds};
-use walrus_parser::{FunctionBody, OpCheck, parse_function};
+use walrus_parser::{BodySource, FunctionBody, OpCheck, parse_function};
 use wasm_body::{EmitError, ParseFailure};
 use wasm_encode::FunctionEncoder;
 use wasm_ops::RawValType;
@@ -145,18 +145,16 @@ impl LocalFunction {
             ≡ Some (range_of body.entry «module».now.code_section_offset)) }
         ensures instrs { instrs.new.items ≡ [] }
     {
-        let parsed = parse_function(
-            *instrs.allocator(),
+        let source = BodySource {
             module,
             indices,
-            id,
+            function: id,
             ty,
-            body.operators(),
-            body.start + body.ops,
+            ops: body.operators(),
+            start: body.start + body.ops,
             on_instr_pos,
-            validator,
-            instrs,
-        );
+        };
+        let parsed = parse_function(*instrs.allocator(), &source, validator, instrs);
         instrs.clear();
         match parsed {
             Ok(parsed) => Ok(LocalFunction {

@@ -118,6 +118,13 @@ impl Draft {
         }
     }
 
+    /// Whether pairs are kept.
+    pub fn has_map(&self) -> bool
+        ensures { result ≡ self.now.has_map }
+    {
+        self.has_map
+    }
+
     /// Takes out what is written, so that nothing is left, and what is written next comes after it. If
     /// places could then be 2^63 and more, it does nothing.
     pub fn take_lists(&mut self) -> Option<(Vec<u8>, Vec<(InstrLocId, usize)>)>

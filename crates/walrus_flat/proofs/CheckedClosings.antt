@@ -17,7 +17,8 @@ use Rattle.wasm_body.specs.Flat.{unreachability, unreachability_after, first_or_
 use Rattle.walrus_flat.specs.declared.open_sequence.OpenSequence.{OpenSequence}
 use Rattle.walrus_flat.specs.Checked.{IsWrapper, IsFrame, AreFrames, CheckState, unreachability_of, Passes}
 use Rattle.walrus_flat.specs.Checkers.{as_kind, has_handler_type}
-use Rattle.walrus_flat.specs.SequenceKinds.{has_else, has_clauses, has_delegate}
+use Rattle.walrus_parser.specs.Handlers.{has_clauses}
+use Rattle.walrus_flat.specs.SequenceKinds.{has_else, has_delegate}
 use Rattle.walrus_flat.proofs.CheckedSteps.{passes_other, named_immediates}
 
 -- ---- kinds

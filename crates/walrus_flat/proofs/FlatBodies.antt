@@ -28,7 +28,7 @@ use Rattle.walrus_parser.specs.Bodies.{ParseInput, setting_with, mapped_by, Refu
 use Rattle.walrus_parser.specs.Settings.{BothOrNone, operators_of, IsMapping}
 use Rattle.walrus_parser.proofs.Mappings.{mapped_both}
 use Rattle.walrus_emit_state.specs.TreeWriting.Drafts.{Drafted}
-use Rattle.walrus_rewrite.specs.RawBodies.{EmitInput, IsRawBody, BeginsRawBody, IsNotBegun, HasNoRawBody, undeclared}
+use Rattle.walrus_rewrite.specs.RawBodies.{EmitInput, input_for, IsRawBody, BeginsRawBody, IsNotBegun, HasNoRawBody, undeclared}
 use Rattle.walrus_rewrite.specs.RewrittenBodies.{IsAcceptedAs, RefusesRewriting}
 use Rattle.walrus_rewrite.specs.declared.error.RewriteError.TheVariants.{Emit}
 use Rattle.walrus_ir.specs.declared.module.Module.{Module}
@@ -42,7 +42,7 @@ use Rattle.walrus_flat.specs.Checked.{marks}
 use Rattle.walrus_flat.specs.CheckedBody.{HasLimit, AcceptsUsing, ChecksAll}
 use Rattle.walrus_flat.specs.Laws.{written_of, reads_local}
 use Rattle.walrus_flat.specs.WrittenBody.{some_locations, IsAcceptedBody, WritesBody, RefusesWriting}
-use Rattle.walrus_flat.specs.RewrittenFlat.{read_again, begun_draft, emit_input, is_none, Composes, WritesAll, IsNotAllWritten, out_of_memory, not_begun as all_not_begun, not_written as all_not_written}
+use Rattle.walrus_flat.specs.RewrittenFlat.{read_again, begun_draft, is_none, Composes, WritesAll, IsNotAllWritten, out_of_memory, not_begun as all_not_begun, not_written as all_not_written}
 use Rattle.walrus_flat.proofs.Accepting.{accepted_of}
 use Rattle.walrus_flat.proofs.CheckedWhole.{read_operators}
 use Rattle.walrus_flat.proofs.Drafts.{drafted_bytes, drafted_pairs, drafted_no_pairs}
@@ -187,15 +187,15 @@ module _ {S F : Type 0} (asks : Shared F (Bor ℕ × Unit {0}) ℕ) (i : ParseIn
   abbrev numbers_with : List (ℕ × ℕ) → Numbers
   numbers_with entries = numbers_by m.types out entries
 
-  pub composed : BalanceAlike (typing_of i.environment) (numbers_by m.types out []) → AreBytes i.bytes → (has_map : Bool) (d : Drafted) → WritesAll asks (read_again i) (emit_input m out args) has_map (numbers_by m.types out) used d →
-      Composes asks i (emit_input m out args) has_map d
+  pub composed : BalanceAlike (typing_of i.environment) (numbers_by m.types out []) → AreBytes i.bytes → (has_map : Bool) (d : Drafted) → WritesAll asks (read_again i) (input_for out m args) has_map (numbers_by m.types out) used d →
+      Composes asks i (input_for out m args) has_map d
   composed alike fits has_map d h =
-      composes asks i used checks (emit_input m out args) h.declared h.entries h.begins (numbers_with h.entries)
+      composes asks i used checks (input_for out m args) h.declared h.entries h.begins (numbers_with h.entries)
       (same_numbers m.types out h.entries args (ids_of h.begins.declares.others) h.begins.declares.numbers_are) alike fits has_map d h.writes
 
-  pub refused : (e : EmitError) → IsNotAllWritten asks (read_again i) (emit_input m out args) (numbers_by m.types out) used e → RefusesRewriting asks i (emit_input m out args) (Emit e)
+  pub refused : (e : EmitError) → IsNotAllWritten asks (read_again i) (input_for out m args) (numbers_by m.types out) used e → RefusesRewriting asks i (input_for out m args) (Emit e)
   refused e (out_of_memory memory) = inl memory
-  refused e (all_not_begun h) = not_begun asks i used checks (emit_input m out args) (are_id_numbers m.types out) e h
+  refused e (all_not_begun h) = not_begun asks i used checks (input_for out m args) (are_id_numbers m.types out) e h
   refused e (all_not_written declared entries begins h) =
-      not_written asks i used checks (emit_input m out args) declared entries begins (numbers_with entries) (same_numbers m.types out entries args (ids_of begins.declares.others) begins.declares.numbers_are)
+      not_written asks i used checks (input_for out m args) declared entries begins (numbers_with entries) (same_numbers m.types out entries args (ids_of begins.declares.others) begins.declares.numbers_are)
       (are_id_numbers m.types out) e h

@@ -18,7 +18,8 @@ use Rattle.walrus_flat.specs.UsedLocals.{is_used}
 use Rattle.walrus_flat.specs.declared.checker.Checker.{Checker}
 use Rattle.walrus_flat.specs.declared.open_sequence.OpenSequence.{OpenSequence}
 use Rattle.walrus_flat.specs.Checked.{env_of_checker, checking_changes}
-use Rattle.walrus_flat.specs.SequenceKinds.{handler_kind, has_else, has_clauses, has_delegate}
+use Rattle.walrus_parser.specs.Handlers.{handler_kind, has_clauses}
+use Rattle.walrus_flat.specs.SequenceKinds.{has_else, has_delegate}
 
 -- ---- parts and types
 

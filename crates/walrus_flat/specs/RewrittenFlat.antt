@@ -16,14 +16,13 @@ use Rattle.walrus_parser.specs.Settings.{operators_of, IsMapping}
 use Rattle.walrus_body.specs.EmittedInstructions.{LentPairs, Left}
 use Rattle.walrus_rewrite.specs.declared.error.RewriteError.{RewriteError}
 use Rattle.walrus_rewrite.specs.declared.error.RewriteError.TheVariants.{Parse, Walk, Emit}
-use Rattle.walrus_rewrite.specs.RawBodies.{EmitInput, IsRawBody, BeginsRawBody, IsNotBegun, AppendsPairs}
+use Rattle.walrus_rewrite.specs.RawBodies.{EmitInput, input_for, IsRawBody, BeginsRawBody, IsNotBegun, AppendsPairs}
 use Rattle.walrus_ir.specs.Function.{Function}
 use Rattle.walrus_rewrite.specs.RewrittenBodies.{KeepsSource, Rewrites}
 use Rattle.walrus_ir.specs.declared.module.Module.{Module}
-use Rattle.walrus_maps.specs.declared.ids_to_indices.IdsToIndices.{IdsToIndices}
-use Rattle.walrus_numbering.specs.NumberMaps.{numbers_by}
 use Rattle.walrus_emit_state.specs.Emission.{Output}
 use Rattle.walrus_emit_state.specs.TreeWriting.Drafts.{Drafted}
+use Rattle.walrus_flat.specs.declared.target.Target.{Target}
 use Rattle.walrus_flat.specs.WrittenBody.{WritesBody, RefusesWriting}
 
 -- the same input with a validator of one state that accepts everything
@@ -38,9 +37,9 @@ read_again i = record {
   bytes = i.bytes;
 }
 
--- the input of writing with new indices, for a function with these arguments
-abbrev pub emit_input : Module → IdsToIndices → List ℕ → EmitInput
-emit_input m out args = record { to = numbers_by m.types out []; types = m.locals; args = args }
+-- the input of writing a body of this module
+abbrev pub target_input : Module → Target → EmitInput
+target_input m t = input_for t.out.now m t.args.now
 
 -- the declarations are written, and no operator
 abbrev pub begun_draft : List ℕ → Bool → Drafted

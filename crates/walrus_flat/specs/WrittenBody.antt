@@ -15,6 +15,8 @@ use Rattle.wasm_body.specs.Naming.{Environment, Occurrence}
 use Rattle.wasm_body.specs.Parsing.Accepted.{Accepted}
 use Rattle.wasm_body.specs.Translation.{Located}
 use Rattle.walrus_parser.specs.Bodies.{ParseInput, setting_with, operators_input, mapped_by, operators_parsed}
+use Rattle.walrus_parser.specs.BodySources.{source_input}
+use Rattle.walrus_parser.specs.declared.body_source.BodySource.{BodySource}
 use Rattle.walrus_parser.specs.Settings.{operators_of, IsMapping}
 use Rattle.walrus_validators.specs.Locating.{Locates, HasNoLocation}
 use Rattle.walrus_emit_state.specs.Emission.{Output}
@@ -28,6 +30,10 @@ use Rattle.walrus_flat.specs.Written.{drafted}
 -- the input of reading a body again, with a validator of one state that accepts everything
 abbrev pub again : {F : Type 0} → Environment → Position → (offset : ℕ) → Option (Bor F) → ParseInput (Unit {0}) F
 again env position offset on_instr_pos = operators_input env position offset on_instr_pos (λ v x. Ok tt) tt
+
+-- the same for a whole body
+abbrev pub source_again : {F : Type 0} → BodySource F → ParseInput (Unit {0}) F
+source_again s = source_input s (λ v x. Ok tt) tt
 
 -- some locations, if there is a location function
 abbrev pub some_locations : {F : Type 0} → Option F → Option (ℕ → ℕ)

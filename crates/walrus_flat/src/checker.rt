@@ -7,7 +7,7 @@ ghost use Rattle.wasm_body.specs.declared.error.ParseError.TheVariants.{Memory a
 ghost use Rattle.wasm_body.specs.Naming.{has_pick};
 ghost use Rattle.walrus_parser.specs.OperatorKinds.{makes_unreachable};
 ghost use Rattle.walrus_flat.specs.Checkers.{NamesNoType, HasNoParts, IsOneByte};
-ghost use Rattle.walrus_flat.specs.SequenceKinds.{handler_kind, has_else, has_clauses, has_delegate};
+ghost use Rattle.walrus_flat.specs.SequenceKinds.{has_else, has_delegate};
 ghost use Rattle.std.specs.Bool.{OnTrue, OnFalse};
 ghost use Rattle.wasm_ops.specs.CommonOperators.{common_listed};
 ghost use Rattle.walrus_flat.specs.Controls.{control_listed};
@@ -20,6 +20,7 @@ use crate::open_sequence::OpenSequence;
 use crate::used_locals::UsedLocals;
 use walrus_context::value_type;
 use walrus_ir::{BlockKind, InstrSeqType, Module, TypeId, ValType};
+use walrus_parser::{handler_kind, has_clauses, makes_unreachable};
 use wasm_body::ParseError;
 use wasm_operators::{BlockType, Operator};
 use wasm_ops::CommonOperator;
@@ -41,16 +42,6 @@ pub(crate) struct Checker<'a> {
     pub lists: Lists,
 }
 
-/// The kind of a handler of a tag, or of all.
-fn handler_kind(tag: Option<u32>) -> BlockKind
-    ensures { result ≡ handler_kind tag }
-{
-    match tag {
-        Some(_) => BlockKind::Catch,
-        None => BlockKind::CatchAll,
-    }
-}
-
 /// Whether an `else` may follow a sequence of this kind.
 fn has_else(kind: BlockKind) -> bool
     ensures { result ≡ has_else kind }
@@ -64,13 +55,6 @@ fn has_label(open: &Vec<OpenSequence>, label: u32) -> bool
     ensures { result ≡ nat_lt label (length (reverse open.now.items)) }
 {
     (label as usize) < open.len()
-}
-
-/// Whether clauses may follow a sequence of this kind.
-fn has_clauses(kind: BlockKind) -> bool
-    ensures { result ≡ has_clauses kind }
-{
-    matches!(kind, BlockKind::Try | BlockKind::Catch)
 }
 
 /// Whether a `delegate` may follow a sequence of this kind.
@@ -564,22 +548,6 @@ impl Checker<'_> {
             _ => self.take(operator),
         }
     }
-}
-
-/// Whether what follows the operator in its sequence is unreachable.
-pub(crate) fn makes_unreachable(operator: &Operator<'_>) -> bool
-    ensures { result ≡ makes_unreachable operator.now }
-{
-    matches!(
-        operator,
-        Operator::Unreachable
-            | Operator::Br { .. }
-            | Operator::BrTable(_)
-            | Operator::Return
-            | Operator::Throw { .. }
-            | Operator::Rethrow { .. }
-            | Operator::ThrowRef
-    )
 }
 
 /// The byte of an operator by itself that is one byte, if it is one of those that are frequent.

@@ -32,33 +32,7 @@ impl Translate for Checking<'_> {
     ghost memory = { Memory };
 
     fn index(&self, space: Space, index: u32) -> Result<u32, ParseError> {
-        let indices = self.indices;
-        match space {
-            Space::Tables => {
-                indices.get_table(index)?;
-            }
-            Space::Types => {
-                indices.get_type(index)?;
-            }
-            Space::Funcs => {
-                indices.get_func(index)?;
-            }
-            Space::Globals => {
-                indices.get_global(index)?;
-            }
-            Space::Memories => {
-                indices.get_memory(index)?;
-            }
-            Space::Elements => {
-                indices.get_element(index)?;
-            }
-            Space::Data => {
-                indices.get_data(index)?;
-            }
-            Space::Tags => {
-                indices.get_tag(index)?;
-            }
-        }
+        self.indices.id_at(space, index)?;
         Ok(index)
     }
 

@@ -1,12 +1,13 @@
 //! The first pass over a whole body, which is a check by itself, too.
 ghost use Rattle.std.specs.Prelude.{◌≡◌, ◌≤◌, ◌<◌, ◌+◌, ◌^◌, ℕ, None, length, IfOk, IfErr, false};
 ghost use Rattle.wasm_body.specs.declared.error.ParseError.TheVariants.{Memory as MemoryFault};
-ghost use Rattle.walrus_maps.specs.Environments.{environment_of};
-ghost use Rattle.walrus_parser.specs.Bodies.{body_setting, body_operators};
+ghost use Rattle.walrus_parser.specs.Bodies.{setting_with, body_setting, body_operators};
+ghost use Rattle.walrus_parser.specs.BodySources.{source_environment, source_input};
 ghost use Rattle.walrus_flat.specs.Checked.{env_of_checker};
 ghost use Rattle.walrus_flat.specs.Checkers.{used_in};
-ghost use Rattle.walrus_flat.specs.CheckedBody.{BeginsBody, setting_at, entry_in, ChecksAll};
+ghost use Rattle.walrus_flat.specs.CheckedBody.{BeginsBody, entry_in, ChecksAll};
 ghost use Rattle.walrus_flat.specs.FlatChecks.{ChecksFlat};
+ghost use Rattle.walrus_flat.specs.RewrittenFlat.{is_none};
 ghost use Rattle.walrus_flat.specs.UsedLocals.{is_used};
 
 use crate::body_indices::BodyIndices;
@@ -17,11 +18,10 @@ use crate::open_sequence::OpenSequence;
 use crate::place_limit::PlaceLimit;
 use crate::scratch::FlatScratch;
 use crate::used_locals::UsedLocals;
-use std::alloc::Global;
 use std::mem;
-use walrus_ir::{BlockKind, FunctionId, InstrSeqType, Module, TypeId};
+use walrus_ir::{BlockKind, FunctionId, InstrLocId, InstrSeqType, Module, TypeId};
 use walrus_maps::IndicesToIds;
-use walrus_parser::{FunctionBody, OpCheck, failure};
+use walrus_parser::{BodySource, FunctionBody, OpCheck, failure, law_bytes};
 use wasm_body::{ParseError, ParseFailure};
 use wasm_renumber::Lists;
 
@@ -39,22 +39,19 @@ fn entry_type(module: &Module, ty: TypeId) -> Result<TypeId, ParseError>
     }
 }
 
-/// A checker that has checked no operator. It takes the lists of the scratch.
-fn begin_check<'a>(
-    alloc: Global,
-    module: &'a Module,
-    indices: &'a IndicesToIds,
-    function: FunctionId,
-    ty: TypeId,
+/// A checker that has checked no operator of a body, whose function has this type at its entry. It
+/// takes the lists of the scratch.
+fn begin_check<'a, F>(
+    source: &BodySource<'a, F>,
     entry: TypeId,
     scratch: &mut FlatScratch,
 ) -> Result<Checker<'a>, ParseError>
     ensures begins { IfOk result BeginsBody }
-    ensures env { IfOk result (λ c. env_of_checker c
-        ≡ environment_of «module».now indices.now function ty) }
+    ensures env { IfOk result (λ c. env_of_checker c ≡ source_environment source.now) }
     ensures none { IfOk result (λ c. (x : ℕ) → used_in c x ≡ false) }
     ensures err { IfErr result (λ e. e ≡ MemoryFault) }
 {
+    let alloc = *scratch.open.allocator();
     let mut open = mem::replace(&mut scratch.open, Vec::new(alloc));
     open.clear();
     let last = mem::replace(&mut scratch.used, UsedLocals::new(alloc));
@@ -66,13 +63,13 @@ fn begin_check<'a>(
     };
     match open.push(first) {
         Ok(()) => Ok(Checker {
-            module,
+            module: source.module,
             indices: BodyIndices {
-                ids: indices,
-                function,
-                locals: indices.locals_of(function),
+                ids: source.indices,
+                function: source.function,
+                locals: source.indices.locals_of(source.function),
             },
-            ty,
+            ty: source.ty,
             open,
             unreachable: false,
             used,
@@ -82,34 +79,38 @@ fn begin_check<'a>(
     }
 }
 
+/// Whether places have a limit, which they have where there is no location function.
+fn has_limit<F>(source: &BodySource<'_, F>) -> bool
+    ensures { result ≡ is_none source.now.on_instr_pos }
+{
+    match source.on_instr_pos {
+        Some(_) => false,
+        None => true,
+    }
+}
+
 /// The first pass over the operators of a body. The scratch then holds the locals that live
 /// operators name.
-pub(crate) fn check<V: OpCheck>(
-    alloc: Global,
-    module: &Module,
-    indices: &IndicesToIds,
-    function: FunctionId,
-    ty: TypeId,
-    ops: &[u8],
-    start: usize,
-    has_limit: bool,
+pub(crate) fn check<V: OpCheck, F>(
+    source: &BodySource<'_, F>,
     validator: V,
     scratch: &mut FlatScratch,
 ) -> Result<(), ParseFailure>
-    requires { start + length ops.now < 2 ^ 64 }
-    ensures { ChecksAll (setting_at (environment_of «module».now indices.now function ty) start
-        V.check (V.state validator)) has_limit ops.now (is_used scratch.new.used) result }
+    requires { source.now.start + length source.now.ops.now < 2 ^ 64 }
+    ensures { ChecksAll (setting_with (source_input source.now V.check (V.state validator)))
+        (is_none source.now.on_instr_pos) source.now.ops.now (is_used scratch.new.used) result }
 {
-    let entry = match entry_type(module, ty) {
+    law_bytes(source.ops);
+    let entry = match entry_type(source.module, source.ty) {
         Ok(entry) => entry,
-        Err(error) => return Err(failure(error, start)),
+        Err(error) => return Err(failure(error, source.start)),
     };
-    let mut checker = match begin_check(alloc, module, indices, function, ty, entry, scratch) {
+    let mut checker = match begin_check(source, entry, scratch) {
         Ok(checker) => checker,
-        Err(error) => return Err(failure(error, start)),
+        Err(error) => return Err(failure(error, source.start)),
     };
-    let mut reader = Cursor::new(ops, start);
-    let limit = PlaceLimit::new(has_limit);
+    let mut reader = Cursor::new(source.ops, source.start);
+    let limit = PlaceLimit::new(has_limit(source));
     let result = check_operators(&mut checker, &mut reader, limit, validator);
     let Checker { open, used, .. } = checker;
     scratch.open = open;
@@ -138,10 +139,16 @@ pub fn check_flat<V: OpCheck>(
     ensures { ChecksFlat (body_setting «module».now indices.now id ty body.entry V.check
         (V.state validator) None) (body_operators body.entry) result }
 {
-    let alloc = *scratch.open.allocator();
     let start = body.start + body.ops;
     let ops = body.operators();
-    check(
-        alloc, module, indices, id, ty, ops, start, true, validator, scratch,
-    )
+    let source = BodySource {
+        module,
+        indices,
+        function: id,
+        ty,
+        ops,
+        start,
+        on_instr_pos: None::<&fn(&usize) -> InstrLocId>,
+    };
+    check(&source, validator, scratch)
 }

@@ -18,6 +18,7 @@ mod renumbering;
 mod rewriting;
 mod scratch;
 mod sequences;
+mod target;
 mod used_locals;
 mod write_body;
 mod writer;

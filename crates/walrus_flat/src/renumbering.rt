@@ -52,18 +52,8 @@ impl Translate for Renumbering<'_> {
     ghost memory = { Memory };
 
     fn index(&self, space: Space, index: u32) -> Result<u32, EmitError> {
-        let indices = self.indices;
-        let ids = self.ids;
-        match space {
-            Space::Tables => Ok(ids.get_table_index(indices.get_table(index)?)?),
-            Space::Types => Ok(ids.get_type_index(indices.get_type(index)?)?),
-            Space::Funcs => Ok(ids.get_func_index(indices.get_func(index)?)?),
-            Space::Globals => Ok(ids.get_global_index(indices.get_global(index)?)?),
-            Space::Memories => Ok(ids.get_memory_index(indices.get_memory(index)?)?),
-            Space::Elements => Ok(ids.get_element_index(indices.get_element(index)?)?),
-            Space::Data => Ok(ids.get_data_index(indices.get_data(index)?)?),
-            Space::Tags => Ok(ids.get_tag_index(indices.get_tag(index)?)?),
-        }
+        let id = self.indices.id_at(space, index)?;
+        Ok(self.ids.index_at(space, id)?)
     }
 
     fn local(&self, index: u32) -> Result<u32, EmitError> {

@@ -2,9 +2,9 @@
 ghost use Rattle.std.specs.Prelude.{◌≡◌, ◌⊎◌, ◌++◌, ◌≤◌, ◌<◌, ◌+◌, ◌^◌, ℕ, List, [], length, Option, Some, OnOk, OnErr, IfOk, IfErr, IsErr, false};
 ghost use Rattle.wasm_body.specs.declared.error.EmitError.TheVariants.{Memory};
 ghost use Rattle.wasm_body.specs.Flat.{first_state};
-ghost use Rattle.walrus_rewrite.specs.RawBodies.{BeginsRawBody, IsNotBegun};
-ghost use Rattle.walrus_maps.specs.Environments.{environment_of};
-ghost use Rattle.walrus_parser.specs.Bodies.{input_of, body_input, IfAccepted, IfFirstFault};
+ghost use Rattle.walrus_rewrite.specs.RawBodies.{input_for, BeginsRawBody, IsNotBegun};
+ghost use Rattle.walrus_parser.specs.Bodies.{body_input, IfAccepted, IfFirstFault};
+ghost use Rattle.walrus_parser.specs.BodySources.{source_input, IsReadable};
 ghost use Rattle.walrus_validators.specs.Locating.{MayCall};
 ghost use Rattle.walrus_body.specs.EmittedInstructions.{KeepsPairs};
 ghost use Rattle.walrus_numbering.specs.NumberMaps.{numbers_by};
@@ -14,9 +14,9 @@ ghost use Rattle.walrus_rewrite.specs.Errors.{IsOutOfMemory};
 ghost use Rattle.walrus_rewrite.specs.RewrittenBodies.{RefusesRewriting, IsOfWriting};
 ghost use Rattle.walrus_flat.specs.UsedLocals.{is_used, entries_of};
 ghost use Rattle.walrus_flat.specs.Written.{flat_state_of};
-ghost use Rattle.walrus_flat.specs.WrittenBody.{again, IsAcceptedBody, WritesBody, RefusesWriting};
+ghost use Rattle.walrus_flat.specs.WrittenBody.{source_again, IsAcceptedBody, WritesBody, RefusesWriting};
 ghost use Rattle.walrus_flat.specs.Sinks.{OfWhole};
-ghost use Rattle.walrus_flat.specs.RewrittenFlat.{emit_input, is_none, Composes, WritesAll, IsNotAllWritten, FinishesTo, IsUntouched, FinishesBytes, FinishesBoth, RewritesFlat, RewritesTo};
+ghost use Rattle.walrus_flat.specs.RewrittenFlat.{target_input, Composes, WritesAll, IsNotAllWritten, FinishesTo, IsUntouched, FinishesBytes, FinishesBoth, RewritesFlat, RewritesTo};
 
 use crate::body_indices::BodyIndices;
 use crate::byte_sink::{ByteSink, InMemory};
@@ -26,17 +26,18 @@ use crate::flat_check::check;
 use crate::local_numbers::{LocalNumbers, NumberedLocals, declare_locals};
 use crate::scratch::FlatScratch;
 use crate::sequences::{Next, OpenSequences, Written};
+use crate::target::Target;
 use crate::used_locals::UsedLocals;
 use crate::write_body::write_operators;
 use crate::writer::Writer;
 use std::alloc::Global;
 use std::mem;
 use walrus_emit_state::Draft;
-use walrus_ir::{BlockKind, FunctionId, InstrLocId, InstrSeqType, LocalId, Module, TypeId};
+use walrus_ir::{FunctionId, InstrLocId, LocalId, Module, TypeId};
 use walrus_maps::{IdsToIndices, IndicesToIds, make_room};
-use walrus_parser::{FunctionBody, OpCheck, failure};
+use walrus_parser::{BodySource, FunctionBody, OpCheck, law_bytes};
 use walrus_rewrite::{RewriteError, append_lists};
-use wasm_body::{EmitError, ParseError, ParseFailure};
+use wasm_body::EmitError;
 use wasm_renumber::Lists;
 
 /// The sequences of a body of which nothing is written. They take the list of the scratch.
@@ -57,49 +58,36 @@ fn begin_sequences(alloc: Global, scratch: &mut FlatScratch) -> Result<OpenSeque
 
 /// The second pass over the operators of a body, after its declarations, which are written.
 fn write<'a, F: Fn(&usize) -> InstrLocId, S: ByteSink>(
-    alloc: Global,
-    module: &'a Module,
-    indices: &'a IndicesToIds,
-    function: FunctionId,
-    ty: TypeId,
-    ops: &[u8],
-    start: usize,
-    on_instr_pos: Option<&F>,
-    out: &'a IdsToIndices,
+    source: BodySource<'a, F>,
+    target: Target<'a>,
     locals: &'a NumberedLocals,
     draft: Draft,
     scratch: &mut FlatScratch,
     sink: &mut S,
 ) -> Result<Draft, EmitError>
-    requires fits { start + length ops.now < 2 ^ 64 }
-    requires offset { «module».now.code_section_offset ≤ start }
-    requires may_call { MayCall F.pre on_instr_pos start (start + length ops.now) }
-    requires accepted { IsAcceptedBody (again (environment_of «module».now indices.now function ty)
-        (record { rest = ops.now; place = start }) «module».now.code_section_offset
-        on_instr_pos) }
+    requires readable { IsReadable F.pre source }
+    requires accepted { IsAcceptedBody (source_again source) }
     ensures ok { IfOk result (OfWhole S.takes sink.old sink.new (WritesBody F.Fn
-        (again (environment_of «module».now indices.now function ty)
-        (record { rest = ops.now; place = start }) «module».now.code_section_offset
-        on_instr_pos.entry) (numbers_by «module».now.types out.now (entries_of locals.now))
-        draft)) }
+        (source_again source.entry) (numbers_by source.entry.«module».now.types
+        target.entry.out.now (entries_of locals.now)) draft)) }
     ensures err { IfErr result (λ e. (e ≡ Memory) ⊎ RefusesWriting F.Fn
-        (again (environment_of «module».now indices.now function ty)
-        (record { rest = ops.now; place = start }) «module».now.code_section_offset
-        on_instr_pos.entry) (numbers_by «module».now.types out.now (entries_of locals.now)) e) }
+        (source_again source.entry) (numbers_by source.entry.«module».now.types
+        target.entry.out.now (entries_of locals.now)) e) }
 {
+    let alloc = *scratch.sequences.allocator();
     let open = match begin_sequences(alloc, scratch) {
         Ok(open) => open,
         Err(fault) => return Err(fault),
     };
     let mut writer = Writer {
-        module,
+        module: source.module,
         indices: BodyIndices {
-            ids: indices,
-            function,
-            locals: indices.locals_of(function),
+            ids: source.indices,
+            function: source.function,
+            locals: source.indices.locals_of(source.function),
         },
-        ty,
-        out,
+        ty: source.ty,
+        out: target.out,
         locals: LocalNumbers {
             numbered: locals,
             table: &locals.table,
@@ -108,8 +96,8 @@ fn write<'a, F: Fn(&usize) -> InstrLocId, S: ByteSink>(
         lists: Lists::new(alloc),
         draft,
     };
-    let mut reader = Cursor::new(ops, start);
-    match write_operators(&mut writer, &mut reader, on_instr_pos, sink) {
+    let mut reader = Cursor::new(source.ops, source.start);
+    match write_operators(&mut writer, &mut reader, source.on_instr_pos, sink) {
         Ok(()) => {
             let Writer { open, draft, .. } = writer;
             scratch.sequences = open.sequences;
@@ -121,20 +109,20 @@ fn write<'a, F: Fn(&usize) -> InstrLocId, S: ByteSink>(
 
 /// Writes the declarations of the locals that a body uses, and returns the number of each local.
 fn begin_body(
-    alloc: Global,
     module: &Module,
-    args: &[LocalId],
-    out: &IdsToIndices,
+    target: &Target<'_>,
     used: &UsedLocals,
     bytes: &mut Vec<u8>,
 ) -> Result<NumberedLocals, EmitError>
     requires { bytes.old.items ≡ [] }
-    ensures ok { IfOk result (λ numbers. BeginsRawBody (emit_input «module».now out.now args.now)
+    ensures ok { IfOk result (λ numbers. BeginsRawBody (target_input «module».now target.now)
         (is_used used.now) bytes.new.items (entries_of numbers)) }
-    ensures err { IfErr result (IsNotBegun (emit_input «module».now out.now args.now)
+    ensures err { IfErr result (IsNotBegun (target_input «module».now target.now)
         (is_used used.now)) }
 {
-    let (declarations, numbers) = match declare_locals(alloc, args, module, out, used) {
+    let alloc = *bytes.allocator();
+    let declared = declare_locals(alloc, target.args, module, target.out, used);
+    let (declarations, numbers) = match declared {
         Ok(made) => made,
         Err(fault) => return Err(fault),
     };
@@ -172,135 +160,67 @@ fn make_room_for(
 }
 
 /// The declarations of a body, and what is written after them, of one that was checked. The scratch
-/// has the locals that live operators name, and the body is written to these lists, which are empty.
+/// has the locals that live operators name, and the draft is empty.
 fn write_checked<F: Fn(&usize) -> InstrLocId, S: ByteSink>(
-    alloc: Global,
-    module: &Module,
-    indices: &IndicesToIds,
-    function: FunctionId,
-    ty: TypeId,
-    args: &[LocalId],
-    ops: &[u8],
-    start: usize,
-    on_instr_pos: Option<&F>,
-    out: &IdsToIndices,
-    mut bytes: Vec<u8>,
-    mut pairs: Vec<(InstrLocId, usize)>,
-    has_map: bool,
+    source: &BodySource<'_, F>,
+    target: &Target<'_>,
+    draft: Draft,
     scratch: &mut FlatScratch,
     sink: &mut S,
 ) -> Result<Draft, EmitError>
-    requires fits { start + length ops.now < 2 ^ 64 }
-    requires offset { «module».now.code_section_offset ≤ start }
-    requires may_call { MayCall F.pre on_instr_pos start (start + length ops.now) }
-    requires accepted { IsAcceptedBody (again (environment_of «module».now indices.now function ty)
-        (record { rest = ops.now; place = start }) «module».now.code_section_offset
-        on_instr_pos) }
-    requires no_bytes { bytes.items ≡ [] }
-    requires no_pairs { pairs.items ≡ [] }
+    requires readable { IsReadable F.pre source.now }
+    requires accepted { IsAcceptedBody (source_again source.now) }
+    requires no_bytes { draft.output.bytes ≡ [] }
+    requires no_pairs { draft.output.pairs ≡ [] }
     ensures ok { IfOk result (OfWhole S.takes sink.old sink.new (WritesAll F.Fn
-        (again (environment_of «module».now indices.now function ty)
-        (record { rest = ops.now; place = start }) «module».now.code_section_offset
-        on_instr_pos.entry) (emit_input «module».now out.now args.now) has_map
-        (numbers_by «module».now.types out.now) (is_used scratch.old.used))) }
-    ensures err { IfErr result (IsNotAllWritten F.Fn (again (environment_of «module».now
-        indices.now function ty) (record { rest = ops.now; place = start })
-        «module».now.code_section_offset on_instr_pos.entry) (emit_input «module».now out.now
-        args.now) (numbers_by «module».now.types out.now) (is_used scratch.old.used)) }
+        (source_again source.now) (target_input source.now.«module».now target.now)
+        draft.has_map (numbers_by source.now.«module».now.types target.now.out.now)
+        (is_used scratch.old.used))) }
+    ensures err { IfErr result (IsNotAllWritten F.Fn (source_again source.now)
+        (target_input source.now.«module».now target.now)
+        (numbers_by source.now.«module».now.types target.now.out.now)
+        (is_used scratch.old.used)) }
 {
-    make_room_for(&mut bytes, &mut pairs, ops.len(), has_map, S::MOST);
-    let numbers = match begin_body(alloc, module, args, out, &scratch.used, &mut bytes) {
+    let has_map = draft.has_map();
+    let (mut bytes, mut pairs) = draft.into_lists();
+    make_room_for(&mut bytes, &mut pairs, source.ops.len(), has_map, S::MOST);
+    let numbers = match begin_body(source.module, target, &scratch.used, &mut bytes) {
         Ok(numbers) => numbers,
         Err(fault) => return Err(fault),
     };
-    let draft = Draft::of_lists(bytes, pairs, has_map);
-    match write(
-        alloc,
-        module,
-        indices,
-        function,
-        ty,
-        ops,
-        start,
-        on_instr_pos,
-        out,
-        &numbers,
-        draft,
-        scratch,
-        sink,
-    ) {
+    let begun = Draft::of_lists(bytes, pairs, has_map);
+    match write(*source, *target, &numbers, begun, scratch, sink) {
         Ok(written) => Ok(written),
         Err(fault) => Err(fault),
     }
 }
 
-/// Whether places have a limit, which they have where there is no location function.
-fn has_limit<F: Fn(&usize) -> InstrLocId>(on_instr_pos: Option<&F>) -> bool
-    ensures { result ≡ is_none on_instr_pos.entry }
-{
-    match on_instr_pos {
-        Some(_) => false,
-        None => true,
-    }
-}
-
-/// Both passes: the declarations of a body, and what is written after them, in these lists, which
-/// are empty.
+/// Both passes: the declarations of a body, and what is written after them, in this draft, which is
+/// empty.
 fn write_body<V: OpCheck, F: Fn(&usize) -> InstrLocId, S: ByteSink>(
-    alloc: Global,
-    module: &Module,
-    indices: &IndicesToIds,
-    function: FunctionId,
-    ty: TypeId,
-    args: &[LocalId],
-    ops: &[u8],
-    start: usize,
-    on_instr_pos: Option<&F>,
+    source: &BodySource<'_, F>,
     validator: V,
-    out: &IdsToIndices,
-    bytes: Vec<u8>,
-    pairs: Vec<(InstrLocId, usize)>,
-    has_map: bool,
+    target: &Target<'_>,
+    draft: Draft,
     scratch: &mut FlatScratch,
     sink: &mut S,
 ) -> Result<Draft, RewriteError>
-    requires fits { start + length ops.now < 2 ^ 64 }
-    requires offset { «module».now.code_section_offset ≤ start }
-    requires may_call { MayCall F.pre on_instr_pos start (start + length ops.now) }
-    requires no_bytes { bytes.items ≡ [] }
-    requires no_pairs { pairs.items ≡ [] }
-    ensures ok { IfOk result (OfWhole S.takes sink.old sink.new (Composes F.Fn
-        (input_of «module».now indices.now function ty start ops.now on_instr_pos.entry V.check
-        (V.state validator)) (emit_input «module».now out.now args.now) has_map)) }
-    ensures err { IfErr result (RefusesRewriting F.Fn (input_of «module».now indices.now function
-        ty start ops.now on_instr_pos.entry V.check (V.state validator)) (emit_input
-        «module».now out.now args.now)) }
+    requires readable { IsReadable F.pre source.now }
+    requires no_bytes { draft.output.bytes ≡ [] }
+    requires no_pairs { draft.output.pairs ≡ [] }
+    ensures ok { IfOk result (OfWhole S.takes sink.old sink.new (Composes F.Fn (source_input
+        source.now V.check (V.state validator)) (target_input source.now.«module».now target.now)
+        draft.has_map)) }
+    ensures err { IfErr result (RefusesRewriting F.Fn (source_input source.now V.check
+        (V.state validator)) (target_input source.now.«module».now target.now)) }
     ensures untouched { IfErr result (IsUntouched sink.old sink.new) }
 {
-    let limited = has_limit(on_instr_pos);
-    match check(
-        alloc, module, indices, function, ty, ops, start, limited, validator, scratch,
-    ) {
+    law_bytes(source.ops);
+    match check(source, validator, scratch) {
         Ok(()) => {}
         Err(failure) => return Err(RewriteError::Parse(failure)),
     }
-    match write_checked(
-        alloc,
-        module,
-        indices,
-        function,
-        ty,
-        args,
-        ops,
-        start,
-        on_instr_pos,
-        out,
-        bytes,
-        pairs,
-        has_map,
-        scratch,
-        sink,
-    ) {
+    match write_checked(source, target, draft, scratch, sink) {
         Ok(draft) => Ok(draft),
         Err(fault) => Err(RewriteError::Emit(fault)),
     }
@@ -409,17 +329,9 @@ pub fn rewrite_flat<V: OpCheck, F: Fn(&usize) -> InstrLocId>(
     // outcomes and bound on turns it executes the operators of the source and ends alike, and its
     // pairs hold their locations. What is refused is so for the first reason.
     ensures rewritten { OnOk result (RewritesFlat F.Fn (body_input «module».now indices.now
-        id ty body.entry on_instr_pos.entry V.check (V.state validator)) (record {
-          to = numbers_by «module».now.types out.now [];
-          types = «module».now.locals;
-          args = args.now;
-        }) dst.old.items dst.new.items map.entry map.exit) }
+        id ty body.entry on_instr_pos.entry V.check (V.state validator)) (input_for out.now «module».now args.now) dst.old.items dst.new.items map.entry map.exit) }
     ensures refused { IfErr result (RefusesRewriting F.Fn (body_input «module».now indices.now
-        id ty body.entry on_instr_pos.entry V.check (V.state validator)) (record {
-          to = numbers_by «module».now.types out.now [];
-          types = «module».now.locals;
-          args = args.now;
-        })) }
+        id ty body.entry on_instr_pos.entry V.check (V.state validator)) (input_for out.now «module».now args.now)) }
     // No accepted body is refused by the parse unless memory runs out, and each first fault is
     // returned.
     ensures each_body { IfAccepted (body_input «module».now indices.now id ty body.entry
@@ -433,51 +345,28 @@ pub fn rewrite_flat<V: OpCheck, F: Fn(&usize) -> InstrLocId>(
     let alloc = *dst.allocator();
     let start = body.start + body.ops;
     let ops = body.operators();
+    let source = BodySource {
+        module,
+        indices,
+        function: id,
+        ty,
+        ops,
+        start,
+        on_instr_pos,
+    };
+    let target = Target { out, args };
     match map {
         Some(list) => {
             let bytes = list_to_write(dst, alloc);
             let pairs = list_to_write(list, alloc);
-            let with_pairs = write_body(
-                alloc,
-                module,
-                indices,
-                id,
-                ty,
-                args,
-                ops,
-                start,
-                on_instr_pos,
-                validator,
-                out,
-                bytes,
-                pairs,
-                true,
-                scratch,
-                &mut InMemory,
-            );
+            let draft = Draft::of_lists(bytes, pairs, true);
+            let with_pairs = write_body(&source, validator, &target, draft, scratch, &mut InMemory);
             finish_with_map(with_pairs, dst, list)
         }
         None => {
             let alone = list_to_write(dst, alloc);
-            let none = Vec::new(alloc);
-            let without = write_body(
-                alloc,
-                module,
-                indices,
-                id,
-                ty,
-                args,
-                ops,
-                start,
-                on_instr_pos,
-                validator,
-                out,
-                alone,
-                none,
-                false,
-                scratch,
-                &mut InMemory,
-            );
+            let draft = Draft::of_lists(alone, Vec::new(alloc), false);
+            let without = write_body(&source, validator, &target, draft, scratch, &mut InMemory);
             finish(without, dst)
         }
     }
@@ -536,17 +425,9 @@ pub fn rewrite_flat_to<V: OpCheck, F: Fn(&usize) -> InstrLocId, S: ByteSink>(
     // The sink took what `rewrite_flat` appends to empty lists.
     ensures rewritten { OnOk result ((took : Output) × S.takes sink.old sink.new took
         × RewritesTo F.Fn (body_input «module».now indices.now id ty body.entry
-        on_instr_pos.entry V.check (V.state validator)) (record {
-          to = numbers_by «module».now.types out.now [];
-          types = «module».now.locals;
-          args = args.now;
-        }) needs_pairs took) }
+        on_instr_pos.entry V.check (V.state validator)) (input_for out.now «module».now args.now) needs_pairs took) }
     ensures refused { IfErr result (RefusesRewriting F.Fn (body_input «module».now indices.now
-        id ty body.entry on_instr_pos.entry V.check (V.state validator)) (record {
-          to = numbers_by «module».now.types out.now [];
-          types = «module».now.locals;
-          args = args.now;
-        })) }
+        id ty body.entry on_instr_pos.entry V.check (V.state validator)) (input_for out.now «module».now args.now)) }
     ensures each_body { IfAccepted (body_input «module».now indices.now id ty body.entry
         on_instr_pos.entry V.check (V.state validator)) (IfErr result IsOfWriting) }
     ensures each_fault { IfFirstFault (body_input «module».now indices.now id ty body.entry
@@ -557,26 +438,19 @@ pub fn rewrite_flat_to<V: OpCheck, F: Fn(&usize) -> InstrLocId, S: ByteSink>(
     let alloc = *buffer.allocator();
     let start = body.start + body.ops;
     let ops = body.operators();
-    buffer.clear();
-    let bytes = list_to_write(buffer, alloc);
-    let none = Vec::new(alloc);
-    let made = write_body(
-        alloc,
+    let source = BodySource {
         module,
         indices,
-        id,
+        function: id,
         ty,
-        args,
         ops,
         start,
         on_instr_pos,
-        validator,
-        out,
-        bytes,
-        none,
-        needs_pairs,
-        scratch,
-        sink,
-    );
+    };
+    let target = Target { out, args };
+    buffer.clear();
+    let bytes = list_to_write(buffer, alloc);
+    let draft = Draft::of_lists(bytes, Vec::new(alloc), needs_pairs);
+    let made = write_body(&source, validator, &target, draft, scratch, sink);
     finish_to(made, buffer, sink)
 }

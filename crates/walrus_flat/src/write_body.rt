@@ -1,6 +1,6 @@
 //! The second pass: a body that was checked is read again, and written.
-ghost use Rattle.std.specs.Prelude.{◌≡◌, ◌≤◌, ◌<◌, ◌+◌, length, MatchOption};
-ghost use Rattle.walrus_validators.specs.Locating.{MayCall, Locates, HasNoLocation};
+ghost use Rattle.std.specs.Prelude.{◌≡◌, ◌≤◌, ◌<◌, ◌+◌, length};
+ghost use Rattle.walrus_validators.specs.Locating.{MayCall};
 ghost use Rattle.wasm_body.specs.Flat.{first_state};
 ghost use Rattle.walrus_flat.specs.Written.{flat_state_of};
 ghost use Rattle.walrus_flat.specs.declared.sequences.Next.TheVariants.{Live as LiveNext};
@@ -11,24 +11,8 @@ use crate::byte_sink::{ByteSink, pass_to};
 use crate::cursor::Cursor;
 use crate::writer::Writer;
 use walrus_ir::InstrLocId;
+use walrus_validators::location_at;
 use wasm_body::EmitError;
-
-/// The location of the operator at this place: the one that the function returns. Without a
-/// function it is the place itself, if that is small enough.
-fn location_at<F: Fn(&usize) -> InstrLocId>(
-    on_instr_pos: Option<&F>,
-    place: usize,
-) -> Option<InstrLocId>
-    requires { MayCall F.pre on_instr_pos place (place + 1) }
-    ensures { MatchOption result (HasNoLocation on_instr_pos.entry place)
-        (λ location. Locates F.Fn on_instr_pos.entry place location) }
-{
-    match on_instr_pos {
-        Some(locate) => Some(locate(&place)),
-        None if place < u32::MAX as usize => Some(InstrLocId::new(place as u32)),
-        None => None,
-    }
-}
 
 /// Writes the next operator at once if it is one of the frequent control operators, as
 /// `write_at_once`, where what follows is written and no `else` waits.

@@ -23,7 +23,7 @@ ghost use Rattle.walrus_emit_state.specs.TreeWriting.Drafts.{with_bytes};
 ghost use Rattle.walrus_flat.specs.Writers.{IsOpenerByte, IsTypeByte, IsShortOpener};
 
 use crate::body_indices::BodyIndices;
-use crate::checker::{makes_unreachable, plain_byte};
+use crate::checker::plain_byte;
 use crate::control::Control;
 use crate::local_numbers::LocalNumbers;
 use crate::renumbering::Renumbering;
@@ -33,6 +33,7 @@ use walrus_emit_state::Draft;
 use walrus_ir::{BinaryOp, InstrLocId, InstrSeqType, Module, TypeId, UnaryOp, ValType};
 use walrus_maps::IdsToIndices;
 use walrus_numbering::is_balanced;
+use walrus_parser::makes_unreachable;
 use wasm_body::EmitError;
 use wasm_operators::{
     BlockType, Opcode, Operator, RawMemArg, binary_opcode, load_opcode, store_opcode, unary_opcode,
@@ -663,7 +664,7 @@ impl Writer<'_> {
         if !self.write_common(common, location) {
             return false;
         }
-        if common_makes_unreachable(common) {
+        if is_unreachable_after_common(common) {
             self.open.next = Next::Unreachable;
         }
         true
@@ -745,9 +746,9 @@ impl Writer<'_> {
     }
 }
 
-/// Whether what follows a common operator in its sequence is unreachable.
+/// Whether what follows a common operator in its sequence is unreachable, as `makes_unreachable`.
 #[inline(always)]
-fn common_makes_unreachable(common: CommonOperator) -> bool
+fn is_unreachable_after_common(common: CommonOperator) -> bool
     ensures { result ≡ makes_unreachable (common_listed common) }
 {
     matches!(common, CommonOperator::Br { .. })

@@ -18,12 +18,12 @@ use crate::rethrow::rethrow;
 use std::alloc::Global;
 use walrus_context::{ValidationContext, push_or_fail, value_type};
 use walrus_ir::{
-    AtomicNotify, AtomicRmw, AtomicWait, Binop, Br, BrIf, Cmpxchg, Const, I8x16Shuffle, Instr,
+    AtomicNotify, AtomicRmw, AtomicWait, Binop, Br, BrIf, Cmpxchg, Const, I8x16Shuffle, Id, Instr,
     InstrSeqId, Load, LoadSimd, LocalGet, LocalSet, LocalTee, MemArg, MemoryId, Select, Store,
     TernOp, Unop, Value,
 };
 use wasm_body::ParseError;
-use wasm_operators::{AtomicKind, BrTable, Operator, RawMemArg, index_rows};
+use wasm_operators::{AtomicKind, BrTable, Operator, RawMemArg, Space, index_rows};
 
 /// A memory argument with its alignment as a number of bytes.
 #[inline(always)]
@@ -74,29 +74,8 @@ fn atomic(kind: AtomicKind, memory: MemoryId, arg: MemArg) -> Instr
 
 /// The id of an old index in a space.
 macro_rules! id {
-    ($indices:ident Types $index:ident) => {
-        $indices.get_type($index)?
-    };
-    ($indices:ident Funcs $index:ident) => {
-        $indices.get_func($index)?
-    };
-    ($indices:ident Globals $index:ident) => {
-        $indices.get_global($index)?
-    };
-    ($indices:ident Tables $index:ident) => {
-        $indices.get_table($index)?
-    };
-    ($indices:ident Memories $index:ident) => {
-        $indices.get_memory($index)?
-    };
-    ($indices:ident Elements $index:ident) => {
-        $indices.get_element($index)?
-    };
-    ($indices:ident Data $index:ident) => {
-        $indices.get_data($index)?
-    };
-    ($indices:ident Tags $index:ident) => {
-        $indices.get_tag($index)?
+    ($indices:ident $space:ident $index:ident) => {
+        Id::new($indices.id_at(Space::$space, $index)?)
     };
 }
 

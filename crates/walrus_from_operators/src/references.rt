@@ -9,9 +9,9 @@ ghost use Rattle.walrus_from_operators.specs.Placed.{cast_by, placed_by};
 
 use crate::instructions::{branch_target, id};
 use walrus_context::{ValidationContext, heap_type_of};
-use walrus_ir::{HeapType, Instr, InstrSeqId, RefType};
+use walrus_ir::{HeapType, Id, Instr, InstrSeqId, RefType};
 use wasm_body::ParseError;
-use wasm_operators::{RawCast, ReferenceOp, reference_rows};
+use wasm_operators::{RawCast, ReferenceOp, Space, reference_rows};
 
 /// The immediates of a branch on a cast: first the sequence of its label, then both types.
 fn placed_cast(

@@ -10,8 +10,8 @@ ghost use Rattle.walrus_maps.specs.Numbering.{PushesNumberInOrder};
 use crate::id_numbers::IdNumbers;
 use std::alloc::Global;
 use walrus_ir::{
-    DataId, ElementId, FunctionId, GlobalId, IdHashMap, LocalId, MemoryId, TableId, TagId, TypeId,
-    kind,
+    DataId, ElementId, FunctionId, GlobalId, Id, IdHashMap, LocalId, MemoryId, TableId, TagId,
+    TypeId, kind,
 };
 use wasm_body::IndexError;
 use wasm_operators::Space;
@@ -192,6 +192,24 @@ impl IdsToIndices {
         ensures { result ≡ number_of self.now Tags id }
     {
         self.tags.get_in(Space::Tags, id)
+    }
+
+    /// The new index of the id with this number in a space, or the error `Unnumbered`. Allocates
+    /// nothing.
+    #[inline(always)]
+    pub fn index_at(&self, space: Space, id: usize) -> Result<u32, IndexError>
+        ensures { result ≡ number_of self.now space id }
+    {
+        match space {
+            Space::Tables => self.get_table_index(Id::new(id)),
+            Space::Types => self.get_type_index(Id::new(id)),
+            Space::Funcs => self.get_func_index(Id::new(id)),
+            Space::Globals => self.get_global_index(Id::new(id)),
+            Space::Memories => self.get_memory_index(Id::new(id)),
+            Space::Elements => self.get_element_index(Id::new(id)),
+            Space::Data => self.get_data_index(Id::new(id)),
+            Space::Tags => self.get_tag_index(Id::new(id)),
+        }
     }
 }
 

@@ -202,6 +202,23 @@ impl IndicesToIds {
         self.tags.get_in(Space::Tags, index)
     }
 
+    /// The number of the id with this index in a space, or the error `OutOfRange`. Allocates nothing.
+    #[inline(always)]
+    pub fn id_at(&self, space: Space, index: u32) -> Result<usize, IndexError>
+        ensures { result ≡ id_of self.now space index }
+    {
+        match space {
+            Space::Tables => Ok(self.get_table(index)?.index()),
+            Space::Types => Ok(self.get_type(index)?.index()),
+            Space::Funcs => Ok(self.get_func(index)?.index()),
+            Space::Globals => Ok(self.get_global(index)?.index()),
+            Space::Memories => Ok(self.get_memory(index)?.index()),
+            Space::Elements => Ok(self.get_element(index)?.index()),
+            Space::Data => Ok(self.get_data(index)?.index()),
+            Space::Tags => Ok(self.get_tag(index)?.index()),
+        }
+    }
+
     /// The local of a function with this index. Errors: `NoLocals` if the function has no locals,
     /// otherwise `LocalOutOfRange`. Allocates nothing.
     pub fn get_local(&self, function: FunctionId, index: u32) -> Result<LocalId, IndexError>

@@ -24,3 +24,4 @@ pub mod ParsedSoFar
 pub mod Beginnings
 pub mod Bodies
 pub mod BodyResults
+pub mod BodySources

@@ -24,7 +24,7 @@ caught env None = Ok (None, [])
 caught env (Some n) = id_at env Tags n >>= λ tag. tag_type env tag >>= λ s. Ok (Some tag, s.parameters)
 
 -- the kind of a handler in its `try`
-abbrev pub handler_kind : Option ℕ → BlockKind
+abbrev pub handler_kind : {A : Type 0} → Option A → BlockKind
 handler_kind (Some tag) = kind.Catch
 handler_kind None = kind.CatchAll
 

@@ -6,5 +6,6 @@ pub mod OperatorKinds
 pub mod Handlers
 pub mod BodyParsers
 pub mod Bodies
+pub mod BodySources
 -- the places of a body
 pub mod Ranges

@@ -1,8 +1,15 @@
 //! The bytes of a body.
 ghost use Rattle.std.specs.Prelude.{◌≡◌, ◌≤◌, ◌<◌, ◌+◌, ◌^◌, length, drop};
+ghost use Rattle.wasm_operators.specs.Laws.{AreBytes};
 ghost use Rattle.walrus_parser.specs.Ranges.{range_of};
 
 use std::ops::Range;
+
+/// Bytes are below 256.
+#[inline(always)]
+pub fn law_bytes(bytes: &[u8])
+    ensures { AreBytes bytes.now }
+{}
 
 /// The bytes of a function's body (WebAssembly core specification 3.0, binary format, code
 /// section): its declarations of locals, and then its operators.

@@ -13,20 +13,19 @@ ghost use Rattle.wasm_body.specs.Control.{end_operation, else_operation};
 ghost use Rattle.walrus_ir.specs.Unfolding.{slots_in};
 ghost use Rattle.wasm_body.specs.InstructionTable.{operation_of, clauses_of_try};
 ghost use Rattle.wasm_body.specs.Naming.{entry_type_id as entry_type_of};
-ghost use Rattle.walrus_maps.specs.Environments.{environment_of};
 ghost use Rattle.walrus_context.specs.OpenFrames.{changed_at};
 ghost use Rattle.walrus_context.specs.OpenTrees.{env_of, AddsEmpty};
+ghost use Rattle.walrus_parser.specs.BodySources.{source_environment};
 ghost use Rattle.walrus_parser.specs.BodyParsers.{BeginsParse, IsSameBody, ParsesStep, with_alternative, AppendsIf, HasNoIf, FinishesParse, with_appended, placed_in};
 
+use crate::body_source::BodySource;
 use std::alloc::Global;
 use std::mem;
 use walrus_context::{IfElseState, ValidationContext, push_or_fail};
 use walrus_from_operators::instruction;
 use walrus_ir::{
-    Block, BlockKind, FunctionBuilder, FunctionId, IfElse, Instr, InstrLocId, InstrSeqId, Loop,
-    Module, TypeId, ValType,
+    Block, BlockKind, FunctionBuilder, IfElse, Instr, InstrLocId, InstrSeqId, Loop, TypeId, ValType,
 };
-use walrus_maps::IndicesToIds;
 use wasm_body::ParseError;
 use wasm_ops::{BlockType, Operator};
 
@@ -49,32 +48,32 @@ fn cleared(alloc: Global, lent: &mut Vec<(Instr, InstrLocId)>) -> Vec<(Instr, In
 }
 
 impl<'a> BodyParser<'a> {
-    /// A parser of the body of this function, which has read nothing. `entry` is the type of the
-    /// function's entry. The caller's list is that of the open sequences until `finish` gives it
-    /// back.
-    pub fn new(
+    /// A parser of this body, which has read nothing. `entry` is the type of the function's entry.
+    /// The caller's list is that of the open sequences until `finish` gives it back.
+    pub fn new<F>(
         alloc: Global,
-        module: &'a Module,
-        indices: &'a IndicesToIds,
-        function: FunctionId,
-        ty: TypeId,
+        source: &BodySource<'a, F>,
         entry: TypeId,
         sequences: usize,
         lent: &mut Vec<(Instr, InstrLocId)>,
     ) -> Result<BodyParser<'a>, ParseError>
-        requires { entry_type_of (environment_of «module».now indices.now function ty) ≡ Ok entry }
-        ensures env { IfOk result (λ p.
-            env_of p.context ≡ environment_of «module».now indices.now function ty) }
+        requires { entry_type_of (source_environment source.now) ≡ Ok entry }
+        ensures env { IfOk result (λ p. env_of p.context ≡ source_environment source.now) }
         ensures ok { IfOk result BeginsParse }
         ensures err { IfErr result (λ e. e ≡ ParseFault.Memory) }
     {
-        let mut builder = FunctionBuilder::without_entry(alloc, ty);
+        let mut builder = FunctionBuilder::without_entry(alloc, source.ty);
         builder.set_entry(InstrSeqId::new(0));
         builder.make_room(sequences);
         let controls = Vec::new(alloc);
         let instrs = cleared(alloc, lent);
         let mut context = ValidationContext::new(
-            module, indices, function, builder, controls, instrs,
+            source.module,
+            source.indices,
+            source.function,
+            builder,
+            controls,
+            instrs,
         );
         match context.push_control_with_ty(BlockKind::FunctionEntry, entry) {
             Ok(_entry) => Ok(BodyParser {
@@ -342,7 +341,7 @@ impl BodyParser<'_> {
 }
 
 /// Whether what follows the operator in its sequence is dropped.
-fn makes_unreachable(operator: &Operator<'_>) -> bool
+pub fn makes_unreachable(operator: &Operator<'_>) -> bool
     ensures { result ≡ makes_unreachable operator.now }
 {
     matches!(

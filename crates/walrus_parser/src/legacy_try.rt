@@ -20,8 +20,8 @@ struct Caught<'a> {
     parameters: &'a [ValType],
 }
 
-/// The kind of the sequence that a clause opens.
-fn handler_kind(tag: Option<TagId>) -> BlockKind
+/// The kind of the sequence that a clause opens: for this tag, or for all.
+pub fn handler_kind<T: Copy>(tag: Option<T>) -> BlockKind
     ensures { result ≡ handler_kind tag }
 {
     match tag {
@@ -41,7 +41,7 @@ fn clause_of(tag: Option<TagId>, handler: InstrSeqId) -> LegacyCatch
 }
 
 /// Whether a clause is allowed after a sequence of this kind.
-fn has_clauses(kind: BlockKind) -> bool
+pub fn has_clauses(kind: BlockKind) -> bool
     ensures { result ≡ has_clauses kind }
 {
     matches!(kind, BlockKind::Try | BlockKind::Catch)

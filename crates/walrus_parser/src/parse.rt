@@ -1,18 +1,21 @@
 //! Parsing the operators of a body.
-ghost use Rattle.std.specs.Prelude.{◌≡◌, ◌≤◌, ◌<◌, ◌+◌, ◌^◌, [], length, Some, IfOk, IfErr, OnOk, Ok};
+ghost use Rattle.std.specs.Prelude.{◌≡◌, ◌≤◌, ◌<◌, ◌+◌, [], length, Some, IfOk, IfErr, OnOk, Ok};
 ghost use Rattle.wasm_body.specs.declared.error.ParseError.TheVariants as parse;
 ghost use Rattle.wasm_body.specs.Parsing.Lists.{failure as failure_at};
 ghost use Rattle.walrus_validators.specs.Locating.{MayCall, end_of};
 ghost use Rattle.walrus_context.specs.OpenTrees.{env_of};
 ghost use Rattle.walrus_parser.specs.BodyParsers.{BeginsParse};
 ghost use Rattle.walrus_parser.specs.NextOperator.{ParsesAtOnce};
-ghost use Rattle.walrus_parser.specs.Bodies.{input_of, operators_input, ParsesOperators, AcceptsBody, RefusesBody};
+ghost use Rattle.walrus_parser.specs.Bodies.{operators_input, ParsesOperators, AcceptsBody, RefusesBody};
+ghost use Rattle.walrus_parser.specs.BodySources.{source_input, IsReadable};
 
+use crate::body::law_bytes;
 use crate::body_parser::BodyParser;
+use crate::body_source::BodySource;
 use std::alloc::Global;
 use walrus_context::try_push;
-use walrus_ir::{FunctionBuilder, FunctionId, Instr, InstrLocId, Module, TypeId};
-use walrus_maps::{IndicesToIds, list_with_room};
+use walrus_ir::{FunctionBuilder, Instr, InstrLocId};
+use walrus_maps::list_with_room;
 use walrus_validators::{
     OpCheck, accepted_at, check_common, checked, failure, location_at, read_other, refused,
 };
@@ -191,7 +194,7 @@ fn parse_operators<V: OpCheck, F: Fn(&usize) -> InstrLocId>(
     Err(failure(ParseError::MissingEnd, reader.original_position()))
 }
 
-/// Parses the operators `ops` of this function's body. The first of them is at the place `start`.
+/// Parses the operators of a function's body.
 ///
 /// # Errors
 ///
@@ -199,43 +202,35 @@ fn parse_operators<V: OpCheck, F: Fn(&usize) -> InstrLocId>(
 /// runs out.
 pub fn parse_function<V: OpCheck, F: Fn(&usize) -> InstrLocId>(
     alloc: Global,
-    module: &Module,
-    indices: &IndicesToIds,
-    function: FunctionId,
-    ty: TypeId,
-    ops: &[u8],
-    start: usize,
-    on_instr_pos: Option<&F>,
+    source: &BodySource<'_, F>,
     validator: V,
     lent: &mut Vec<(Instr, InstrLocId)>,
 ) -> Result<ParsedOperators, ParseFailure>
-    requires offset { «module».now.code_section_offset ≤ start }
-    requires fits { start + length ops.now < 2 ^ 64 }
-    requires may_call { MayCall F.pre on_instr_pos start (start + length ops.now) }
-    ensures ok { IfOk result (λ made. AcceptsBody F.Fn (input_of «module».now indices.now function
-        ty start ops.now on_instr_pos.entry V.check (V.state validator))
-        made.builder made.instruction_mapping.items) }
-    ensures err { IfErr result (RefusesBody F.Fn (input_of «module».now indices.now function ty
-        start ops.now on_instr_pos.entry V.check (V.state validator))) }
+    requires { IsReadable F.pre source.now }
+    ensures ok { IfOk result (λ made. AcceptsBody F.Fn (source_input source.now V.check
+        (V.state validator)) made.builder made.instruction_mapping.items) }
+    ensures err { IfErr result (RefusesBody F.Fn (source_input source.now V.check
+        (V.state validator))) }
 {
-    let types = &module.types;
-    if !types.is_func(ty) {
-        return Err(failure(ParseError::NotAFunctionType, start));
+    let types = &source.module.types;
+    if !types.is_func(source.ty) {
+        return Err(failure(ParseError::NotAFunctionType, source.start));
     }
-    let Some(entry) = types.find_for_function_entry(types.results(ty)) else {
-        return Err(failure(ParseError::EntryTypeMissing, start));
+    let Some(entry) = types.find_for_function_entry(types.results(source.ty)) else {
+        return Err(failure(ParseError::EntryTypeMissing, source.start));
     };
-    let sequences = (ops.len() / BYTES_OF_SEQUENCE).min(MOST_SEQUENCES) + 1;
-    match BodyParser::new(alloc, module, indices, function, ty, entry, sequences, lent) {
+    law_bytes(source.ops);
+    let sequences = (source.ops.len() / BYTES_OF_SEQUENCE).min(MOST_SEQUENCES) + 1;
+    match BodyParser::new(alloc, source, entry, sequences, lent) {
         Ok(parser) => parse_operators(
             alloc,
             parser,
-            &mut Reader::new(ops, start),
-            on_instr_pos,
+            &mut Reader::new(source.ops, source.start),
+            source.on_instr_pos,
             validator,
-            module.code_section_offset,
+            source.module.code_section_offset,
             lent,
         ),
-        Err(error) => Err(failure(error, start)),
+        Err(error) => Err(failure(error, source.start)),
     }
 }

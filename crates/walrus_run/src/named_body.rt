@@ -1,6 +1,5 @@
 //! Bodies with the names that their modules give them.
 ghost use Rattle.std.specs.Prelude.{◌≡◌, ◌⊎◌, ◌≤◌, ◌<◌, ◌+◌, ◌∷◌, ◌^◌, ℕ, List, length, map, slice_get, IsSome, ◌↔◌, IfOk, IfErr, IsErr, OnOk};
-ghost use Rattle.wasm_operators.specs.Laws.{AreBytes};
 ghost use Rattle.wasm_body.specs.declared.error.ParseError.{ParseError as ParseFault};
 ghost use Rattle.wasm_body.specs.declared.error.ParseFailure.{ParseFailure as Failure};
 ghost use Rattle.wasm_body.specs.SourceTree.{Body};
@@ -18,6 +17,7 @@ use std::marker::Model;
 use walrus_body::{AcceptAll, FunctionBody, IndicesToIds, LocalFunction, ParseError, ParseFailure};
 use walrus_ir::{FunctionId, InstrLocId, Module, TypeId};
 use walrus_machine::NamedOp;
+use walrus_parser::law_bytes;
 use wasm_ops::Reader;
 
 /// The operators of an accepted body with the names that its module gives them, and the place of
@@ -42,12 +42,6 @@ impl Model for NamedBody {
 
     ghost invariant = { λ b. length b.places.items ≡ length b.operators.items };
 }
-
-/// Bytes are below 256.
-#[inline(always)]
-fn law_bytes(bytes: &[u8])
-    ensures { AreBytes bytes.now }
-{}
 
 /// Checks that a function's body is accepted; else the error is its first fault. Places have no
 /// limit, since there is a location function.

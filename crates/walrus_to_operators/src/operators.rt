@@ -16,7 +16,7 @@ use walrus_ir::{Instr, InstrSeqType, LocalId, Rethrow, Select, Value};
 use walrus_numbering::{NumberMaps, block_type, memory_argument, value_type};
 use wasm_body::EmitError;
 use wasm_encode::OutOp;
-use wasm_operators::{AtomicKind, index_rows};
+use wasm_operators::{AtomicKind, Space, index_rows};
 
 /// The number of a local.
 fn local_index(numbers: &NumberMaps<'_>, local: LocalId) -> Result<u32, EmitError>
@@ -41,29 +41,8 @@ fn wait_kind(sixty_four: bool) -> AtomicKind
 
 /// The index of an id in a space.
 macro_rules! index {
-    ($numbers:ident Types $id:expr) => {
-        $numbers.ids.get_type_index($id)?
-    };
-    ($numbers:ident Funcs $id:expr) => {
-        $numbers.ids.get_func_index($id)?
-    };
-    ($numbers:ident Globals $id:expr) => {
-        $numbers.ids.get_global_index($id)?
-    };
-    ($numbers:ident Tables $id:expr) => {
-        $numbers.ids.get_table_index($id)?
-    };
-    ($numbers:ident Memories $id:expr) => {
-        $numbers.ids.get_memory_index($id)?
-    };
-    ($numbers:ident Elements $id:expr) => {
-        $numbers.ids.get_element_index($id)?
-    };
-    ($numbers:ident Data $id:expr) => {
-        $numbers.ids.get_data_index($id)?
-    };
-    ($numbers:ident Tags $id:expr) => {
-        $numbers.ids.get_tag_index($id)?
+    ($numbers:ident $space:ident $id:expr) => {
+        $numbers.ids.index_at(Space::$space, $id.index())?
     };
 }
 

@@ -15,7 +15,7 @@ use walrus_emit_state::Scopes;
 use walrus_ir::Instr;
 use walrus_numbering::{NumberMaps, heap_type};
 use wasm_body::EmitError;
-use wasm_operators::{RawCast, ReferenceOp, reference_rows};
+use wasm_operators::{RawCast, ReferenceOp, Space, reference_rows};
 
 /// An immediate, from a field of the instruction.
 macro_rules! part {

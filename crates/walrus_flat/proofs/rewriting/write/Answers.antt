@@ -1,7 +1,7 @@
 use Rattle.std.proofs.Common.{◌≡◌, ◌≤◌, ◌+◌, ◌⊎◌, length, sym, subst}
 use Rattle.wasm_ops.specs.Position.{Position}
 use Rattle.wasm_body.specs.declared.error.EmitError.TheVariants.{Memory}
-use Rattle.walrus_maps.specs.Environments.{environment_of}
+use Rattle.walrus_parser.specs.BodySources.{source_environment}
 use Rattle.walrus_numbering.specs.NumberMaps.{numbers_by}
 use Rattle.walrus_validators.specs.Locating.{MayCall}
 use Rattle.walrus_flat.specs.UsedLocals.{entries_of}
@@ -13,26 +13,29 @@ pub write_operators-requires-clause-begins : goal.write_operators-requires-claus
 write_operators-requires-clause-begins g c = c.in-Ok.ensures.ok
 
 pub write_operators-requires-clause-offset : goal.write_operators-requires-clause-offset
-write_operators-requires-clause-offset g c = subst (λ (p : Position). c.args.module.now.code_section_offset ≤ p.place) (sym c.new-reader.ensures) c.requires.offset
+write_operators-requires-clause-offset g c = subst (λ (p : Position). c.args.source.module.now.code_section_offset ≤ p.place) (sym c.new-reader.ensures) c.requires.readable.offset
 
 pub write_operators-requires-clause-may_call : goal.write_operators-requires-clause-may_call
-write_operators-requires-clause-may_call g c = subst (λ (p : Position). MayCall (λ f x. g.F.Fn.pre f (x, tt)) c.args.on_instr_pos p.place (p.place + length p.rest)) (sym c.new-reader.ensures) c.requires.may_call
+write_operators-requires-clause-may_call g c = subst (λ (p : Position). MayCall (λ f x. g.F.Fn.pre f (x, tt)) c.args.source.on_instr_pos p.place (p.place + length p.rest)) (sym c.new-reader.ensures) c.requires.readable.may_call
 
 pub write_operators-requires-clause-accepted : goal.write_operators-requires-clause-accepted
 write_operators-requires-clause-accepted g c =
     let a = c.args in
-    subst (λ (p : Position). IsAcceptedBody (again (environment_of a.module.now a.indices.now a.function a.ty) p a.module.now.code_section_offset a.on_instr_pos)) (sym c.new-reader.ensures) c.requires.accepted
+    let s = a.source in
+    subst (λ (p : Position). IsAcceptedBody (again (source_environment s) p s.module.now.code_section_offset s.on_instr_pos)) (sym c.new-reader.ensures) c.requires.accepted
 
 pub returns-in-Ok-write_operators-clause-ok : goal.returns-in-Ok-write_operators-clause-ok
 returns-in-Ok-write_operators-clause-ok g c =
     let a = c.args in
-    let to = numbers_by a.module.now.types a.out.now (entries_of a.locals.now) in
+    let s = a.source in
+    let to = numbers_by s.module.now.types a.target.out.now (entries_of a.locals.now) in
     let new = c.write_operators.new.writer.draft in
-    subst (λ (p : Position). OfWhole g.S.ByteSink.takes a.sink.now c.write_operators.new.sink (WritesBody g.F.Fn (again (environment_of a.module.now a.indices.now a.function a.ty) p a.module.now.code_section_offset a.on_instr_pos) to a.draft) new) c.new-reader.ensures c.in-Ok-write_operators.ensures
+    subst (λ (p : Position). OfWhole g.S.ByteSink.takes a.sink.now c.write_operators.new.sink (WritesBody g.F.Fn (again (source_environment s) p s.module.now.code_section_offset s.on_instr_pos) to a.draft) new) c.new-reader.ensures c.in-Ok-write_operators.ensures
 
 pub returns-in-Err-write_operators-clause-err : goal.returns-in-Err-write_operators-clause-err
 returns-in-Err-write_operators-clause-err g c =
     let a = c.args in
-    let to = numbers_by a.module.now.types a.out.now (entries_of a.locals.now) in
-    subst (λ (p : Position). (c.in-Err-write_operators.fault ≡ Memory) ⊎ RefusesWriting g.F.Fn (again (environment_of a.module.now a.indices.now a.function a.ty) p a.module.now.code_section_offset a.on_instr_pos) to c.in-Err-write_operators.fault)
+    let s = a.source in
+    let to = numbers_by s.module.now.types a.target.out.now (entries_of a.locals.now) in
+    subst (λ (p : Position). (c.in-Err-write_operators.fault ≡ Memory) ⊎ RefusesWriting g.F.Fn (again (source_environment s) p s.module.now.code_section_offset s.on_instr_pos) to c.in-Err-write_operators.fault)
     c.new-reader.ensures c.in-Err-write_operators.ensures

@@ -10,16 +10,16 @@ returns-then-not-write_common c =
     let done = c.write_common in
     subst (WritesCommon c.args.self.now done.new.self (meaning (common_listed c.args.common)) c.args.location) c.if-not-write_common.true done.ensures
 
-pub returns-then-common_makes_unreachable : goal.returns-then-common_makes_unreachable
-returns-then-common_makes_unreachable c =
+pub returns-then-is_unreachable_after_common : goal.returns-then-is_unreachable_after_common
+returns-then-is_unreachable_after_common c =
     let done = c.write_common in
     let o = common_listed c.args.common in
     cuts c.args.self.now o c.args.location c.requires done.new.self (subst (WritesCommon c.args.self.now done.new.self (meaning o) c.args.location) c.if-not-write_common.false done.ensures)
-    (sym c.common_makes_unreachable.ensures ∙ c.if-common_makes_unreachable.true)
+    (sym c.is_unreachable_after_common.ensures ∙ c.if-is_unreachable_after_common.true)
 
-pub returns-else-common_makes_unreachable : goal.returns-else-common_makes_unreachable
-returns-else-common_makes_unreachable c =
+pub returns-else-is_unreachable_after_common : goal.returns-else-is_unreachable_after_common
+returns-else-is_unreachable_after_common c =
     let done = c.write_common in
     let o = common_listed c.args.common in
     stays c.args.self.now o c.args.location c.requires done.new.self (subst (WritesCommon c.args.self.now done.new.self (meaning o) c.args.location) c.if-not-write_common.false done.ensures)
-    (sym c.common_makes_unreachable.ensures ∙ c.if-common_makes_unreachable.false)
+    (sym c.is_unreachable_after_common.ensures ∙ c.if-is_unreachable_after_common.false)
