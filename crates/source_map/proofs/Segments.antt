@@ -8,7 +8,7 @@ use Rattle.source_map.specs.declared.fields.Fields.{Fields}
 use Rattle.source_map.specs.Vlq.{IsField}
 use Rattle.source_map.specs.Spelling.{fields_after, IsName, IsOriginal, IsOriginalOrNone, IsSegment, AreSegments}
 use Rattle.wasm_numbers.specs.Results.{◌>>=◌}
-use Rattle.source_map.specs.Reading.{field_at, column_at, last_field, name_at, original_at, original_or_none_at, segment_at, segments_at}
+use Rattle.source_map.specs.Reading.{field_at, column_at, last_field, original_name_at, original_at, original_or_none_at, segment_at, segments_at}
 use Rattle.source_map.proofs.Steps.{bind_ok, ok_is}
 use Rattle.source_map.proofs.FieldLaws.{field_taken, field_again, field_lacks, column_taken, column_again}
 
@@ -25,8 +25,8 @@ last_ok : (v : ℕ) (rest : List ℕ) (o : Option ℕ) → last_field (v, rest) 
 last_ok v [] o e = (refl, ok_is (Some v) o e)
 last_ok v (c ∷ cs) o e = absurd cc
 
-name_taken : (before : ℕ) (text : List ℕ) (o : Option ℕ) → name_at before text ≡ Ok o → IsName before o text
-unfolding name_at
+name_taken : (before : ℕ) (text : List ℕ) (o : Option ℕ) → original_name_at before text ≡ Ok o → IsName before o text
+unfolding original_name_at
 name_taken before [] o e = subst (λ (x : Option ℕ). IsName before x []) (ok_is None o e) (refl {a = []})
 name_taken before (c ∷ cs) o e =
     let f = bind_ok (field_at before (c ∷ cs)) last_field o e in
@@ -35,9 +35,9 @@ name_taken before (c ∷ cs) o e =
     let whole : c ∷ cs ≡ t.front = t.parts ∙ ap (λ (x : List ℕ). t.front ++ x) l.0 ∙ append-nil t.front in
     subst (λ (x : Option ℕ). IsName before x (c ∷ cs)) l.1 (subst (IsField before f.0.0) (sym whole) t.is)
 
-name_again : (before : ℕ) (o : Option ℕ) (text : List ℕ) → IsName before o text → name_at before text ≡ Ok o
-unfolding name_at
-name_again before None text h = ap (name_at before) h
+name_again : (before : ℕ) (o : Option ℕ) (text : List ℕ) → IsName before o text → original_name_at before text ≡ Ok o
+unfolding original_name_at
+name_again before None text h = ap (original_name_at before) h
 name_again before (Some v) [] h = absurd h.2
 name_again before (Some v) (c ∷ cs) h =
     let again = field_again before v (c ∷ cs) [] h in
@@ -53,10 +53,10 @@ name_lacks before (Some v) text h = field_lacks before v text h
 original_taken : (s : Fields) (text : List ℕ) (o : Original) → original_at s text ≡ Ok o → IsOriginal s o text
 unfolding original_at
 original_taken s text o e =
-    let a = bind_ok (field_at s.source text) (λ source. field_at s.line source.1 >>= λ line. field_at s.column line.1 >>= λ column. name_at s.name column.1 >>= λ name. Ok (record { source = source.0; line = line.0; column = column.0; name = name })) o e in
-    let b = bind_ok (field_at s.line a.0.1) (λ line. field_at s.column line.1 >>= λ column. name_at s.name column.1 >>= λ name. Ok (record { source = a.0.0; line = line.0; column = column.0; name = name })) o a.2 in
-    let c = bind_ok (field_at s.column b.0.1) (λ column. name_at s.name column.1 >>= λ name. Ok (record { source = a.0.0; line = b.0.0; column = column.0; name = name })) o b.2 in
-    let d = bind_ok (name_at s.name c.0.1) (λ name. Ok (record { source = a.0.0; line = b.0.0; column = c.0.0; name = name })) o c.2 in
+    let a = bind_ok (field_at s.source text) (λ source. field_at s.line source.1 >>= λ line. field_at s.column line.1 >>= λ column. original_name_at s.name column.1 >>= λ name. Ok (record { source = source.0; line = line.0; column = column.0; name = name })) o e in
+    let b = bind_ok (field_at s.line a.0.1) (λ line. field_at s.column line.1 >>= λ column. original_name_at s.name column.1 >>= λ name. Ok (record { source = a.0.0; line = line.0; column = column.0; name = name })) o a.2 in
+    let c = bind_ok (field_at s.column b.0.1) (λ column. original_name_at s.name column.1 >>= λ name. Ok (record { source = a.0.0; line = b.0.0; column = column.0; name = name })) o b.2 in
+    let d = bind_ok (original_name_at s.name c.0.1) (λ name. Ok (record { source = a.0.0; line = b.0.0; column = c.0.0; name = name })) o c.2 in
     let p = field_taken s.source text a.0.0 a.0.1 a.1 in
     let q = field_taken s.line a.0.1 b.0.0 b.0.1 b.1 in
     let r = field_taken s.column b.0.1 c.0.0 c.0.1 c.1 in

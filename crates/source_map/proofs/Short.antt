@@ -11,15 +11,15 @@ use Rattle.source_map.specs.declared.mapping.Mapping.{Mapping}
 use Rattle.source_map.specs.declared.fields.Fields.{Fields}
 use Rattle.source_map.specs.Vlq.{digit_value, IsVlqNumber, moved_by, IsField}
 use Rattle.source_map.specs.Spelling.{no_fields, after_original, fields_after, IsName, IsOriginalOrNone, IsSegment, AreSegments, SpellsMappings, AscendFrom, FitsOriginal, FitsMapping}
-use Rattle.source_map.specs.Shortest.{digit, short_number, field_difference, short_field, short_name, short_original, short_segment, short_segments, spelling}
+use Rattle.source_map.specs.Shortest.{digit, shortest_digits, field_difference, short_field, short_name, short_original, short_segment, short_segments, spelling}
 use Rattle.source_map.proofs.Steps.{test_false}
 use Rattle.source_map.proofs.Digits.{longer}
 
 digit_is : (n : ℕ) → n < 64 → digit_value (digit n) ≡ Some n
 digit_is n h = grind (arith, nat_tests)
 
-short_is : (more n : ℕ) → n < 2 ^ (5 * suc more) → IsVlqNumber (suc more) n (short_number more n)
-unfolding short_number
+short_is : (more n : ℕ) → n < 2 ^ (5 * suc more) → IsVlqNumber (suc more) n (shortest_digits more n)
+unfolding shortest_digits
 short_is zero n h =
     let below : n < 32 = h in
     let same : n % 32 ≡ n = omega arith in
@@ -32,10 +32,10 @@ short_is (suc more) n h =
           let power : 2 ^ (5 * suc (suc more)) ≡ 32 * 2 ^ (5 * suc more) = ap (λ (x : ℕ). 2 ^ x) k ∙ pow-add 2 5 (5 * suc more) in
           let high : n / 32 < 2 ^ (5 * suc more) = omega arith in
           let one : suc more ≡ suc (suc more) - 1 = omega arith in
-          let rest = subst (λ (x : ℕ). IsVlqNumber x (n / 32) (short_number more (n / 32))) one (short_is more (n / 32) high) in
+          let rest = subst (λ (x : ℕ). IsVlqNumber x (n / 32) (shortest_digits more (n / 32))) one (short_is more (n / 32) high) in
           let whole : n % 32 + 32 * (n / 32) ≡ n = omega arith in
-          let spelt = longer (suc (suc more)) (digit (n % 32 + 32)) (n % 32) (n / 32) (short_number more (n / 32)) (omega arith) (omega arith) (digit_is (n % 32 + 32) (omega arith)) rest in
-          rw (le-ltb n 32 le) (subst (λ (x : ℕ). IsVlqNumber (suc (suc more)) x (digit (n % 32 + 32) ∷ short_number more (n / 32))) whole spelt)
+          let spelt = longer (suc (suc more)) (digit (n % 32 + 32)) (n % 32) (n / 32) (shortest_digits more (n / 32)) (omega arith) (omega arith) (digit_is (n % 32 + 32) (omega arith)) rest in
+          rw (le-ltb n 32 le) (subst (λ (x : ℕ). IsVlqNumber (suc (suc more)) x (digit (n % 32 + 32) ∷ shortest_digits more (n / 32))) whole spelt)
     ]
 
 -- ---- fields

@@ -55,16 +55,16 @@ abbrev pub last_field : ℕ × List ℕ → Result (Option ℕ) MappingsFault
 last_field (field, []) = Ok (Some field)
 last_field (field, c ∷ cs) = Err FieldCount
 
-unfoldable pub name_at : (before : ℕ) → List ℕ → Result (Option ℕ) MappingsFault
-name_at before [] = Ok None
-name_at before (c ∷ cs) = field_at before (c ∷ cs) >>= last_field
+unfoldable pub original_name_at : (before : ℕ) → List ℕ → Result (Option ℕ) MappingsFault
+original_name_at before [] = Ok None
+original_name_at before (c ∷ cs) = field_at before (c ∷ cs) >>= last_field
 
 unfoldable pub original_at : Fields → List ℕ → Result Original MappingsFault
 original_at s text = do
   source ← field_at s.source text
   line ← field_at s.line source.1
   column ← field_at s.column line.1
-  name ← name_at s.name column.1
+  name ← original_name_at s.name column.1
   Ok (record { source = source.0; line = line.0; column = column.0; name = name })
 
 unfoldable pub original_or_none_at : Fields → List ℕ → Result (Option Original) MappingsFault

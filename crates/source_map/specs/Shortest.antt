@@ -11,16 +11,16 @@ abbrev pub digit : ℕ → ℕ
 digit n = if nat_lt n 26 then n + 65 else if nat_lt n 52 then n + 71 else if nat_lt n 62 then n - 4 else if nat_lt n 63 then 43 else 47
 
 -- with at most `more` digits before the last
-unfoldable pub short_number : (more n : ℕ) → List ℕ
-short_number zero n = digit (n % 32) ∷ []
-short_number (suc more) n = if nat_lt n 32 then digit n ∷ [] else digit (n % 32 + 32) ∷ short_number more (n / 32)
+unfoldable pub shortest_digits : (more n : ℕ) → List ℕ
+shortest_digits zero n = digit (n % 32) ∷ []
+shortest_digits (suc more) n = if nat_lt n 32 then digit n ∷ [] else digit (n % 32 + 32) ∷ shortest_digits more (n / 32)
 
 -- the number that moves one field to another; never 1, which also moves a field, down by 2^31
 abbrev pub field_difference : (before field : ℕ) → ℕ
 field_difference before field = if nat_lt field before then 2 * (before - field) + 1 else 2 * (field - before)
 
 abbrev pub short_field : (before field : ℕ) → List ℕ
-short_field before field = short_number 6 (field_difference before field)
+short_field before field = shortest_digits 6 (field_difference before field)
 
 abbrev pub short_name : (before : ℕ) → Option ℕ → List ℕ
 short_name before None = []

@@ -1,7 +1,7 @@
 //! Numbers in the text of mappings (ECMA-426, Source map format specification, base64 VLQ).
 
 ghost use Rattle.std.specs.Prelude.{◌≡◌, ◌<◌, ◌≤◌, ◌*◌, ◌^◌, ◌++◌, ◌∷◌, [], IfOk, OnOk};
-ghost use Rattle.source_map.specs.Shortest.{digit, short_number, short_field};
+ghost use Rattle.source_map.specs.Shortest.{digit, shortest_digits, short_field};
 ghost use Rattle.wasm_numbers.specs.Results.{Gives, some_or};
 ghost use Rattle.source_map.specs.Reading.{number_at, next_at, field_at, column_at, column_after};
 ghost use Rattle.source_map.specs.Vlq.{moved_by};
@@ -116,7 +116,7 @@ fn write_digit(out: &mut Vec<u8>, value: u8) -> Result<(), AllocError>
 /// Appends a number, with at most `more` digits before the last.
 #[tactic(auto, using(crate::proofs::Appending::appending), unfolding(crate::specs::Shortest::short_number))]
 fn write_number(out: &mut Vec<u8>, more: u32, number: u64) -> Result<(), AllocError>
-    ensures { OnOk result (out.new.items ≡ out.old.items ++ short_number more number) }
+    ensures { OnOk result (out.new.items ≡ out.old.items ++ shortest_digits more number) }
 {
     if more == 0 {
         return write_digit(out, (number % 32) as u8);

@@ -4,7 +4,7 @@ ghost use Rattle.std.specs.Prelude.{◌≡◌, ◌==◌, ◌∷◌, ◌<◌, Lis
 ghost use Rattle.std.specs.List.{slice_split};
 ghost use Rattle.source_map.specs.Spelling.{SpellsMappings};
 ghost use Rattle.wasm_numbers.specs.Results.{Gives};
-ghost use Rattle.source_map.specs.Reading.{ReadsOrMemory, name_at, original_at, original_or_none_at, segment_at, comma_parts, mappings_at};
+ghost use Rattle.source_map.specs.Reading.{ReadsOrMemory, original_name_at, original_at, original_or_none_at, segment_at, comma_parts, mappings_at};
 ghost use Rattle.source_map.specs.declared.mapping.Mapping.{Mapping as AMapping};
 
 use crate::fault::{MappingsError, MappingsFault};
@@ -16,7 +16,7 @@ use std::alloc::Global;
 /// The name at the end of a segment, if it has one.
 #[tactic(auto, unfolding(crate::specs::Reading::name_at))]
 fn read_name(before: u32, text: &[u8]) -> Result<Option<u32>, MappingsFault>
-    ensures { Gives (λ x. x) result (name_at before text.now) }
+    ensures { Gives (λ x. x) result (original_name_at before text.now) }
 {
     match text {
         [] => Ok(None),

@@ -43,7 +43,7 @@ module _ {L B M C E : Type 0} (t : Translation L B M C E) where
       through (each (translate_immediate t) is) (λ ks. first.0 ∷ ks) (λ ks. locals_among ks ≡ [])
       (λ ks h. first_local first.0 ks ∙ (no_local first.0 (locals_among ks) (subst IsNoLocal (sym (kind_kept t i first.0 first.1)) none.0) ∙ none_kept is ks h none.1)) js first.2
 
--- ---- deadness
+-- ---- what is unreachable
 
 plain_is : (d unreachable_after : Bool) → (unreachable_after || d) ≡ plain_unreachability d (fate_by unreachable_after)
 plain_is true true = refl

@@ -19,7 +19,7 @@ use crate::place_limit::PlaceLimit;
 use crate::scratch::FlatScratch;
 use crate::used_locals::UsedLocals;
 use std::mem;
-use walrus_ir::{BlockKind, FunctionId, InstrLocId, InstrSeqType, Module, TypeId};
+use walrus_ir::{BlockKind, FunctionId, InstrSeqType, Module, TypeId};
 use walrus_maps::IndicesToIds;
 use walrus_parser::{BodySource, FunctionBody, OpCheck, failure, law_bytes};
 use wasm_body::{ParseError, ParseFailure};
@@ -125,12 +125,12 @@ pub(crate) fn check<V: OpCheck, F>(
 /// # Errors
 ///
 /// Those of `LocalFunction::parse` without a location function.
-pub fn check_flat<V: OpCheck>(
-    module: &Module,
-    indices: &IndicesToIds,
+pub fn check_flat<'a, V: OpCheck>(
+    module: &'a Module,
+    indices: &'a IndicesToIds,
     id: FunctionId,
     ty: TypeId,
-    body: FunctionBody<'_>,
+    body: FunctionBody<'a>,
     validator: V,
     scratch: &mut FlatScratch,
 ) -> Result<(), ParseFailure>
@@ -148,7 +148,7 @@ pub fn check_flat<V: OpCheck>(
         ty,
         ops,
         start,
-        on_instr_pos: None::<&fn(&usize) -> InstrLocId>,
+        on_instr_pos: None::<&()>,
     };
     check(&source, validator, scratch)
 }

@@ -5,7 +5,8 @@ ghost use Rattle.walrus_parser.specs.Ranges.{range_of};
 
 use std::ops::Range;
 
-/// Bytes are below 256.
+/// Bytes are below 256. A check knows this of a slice that is a parameter, but not of one in a
+/// struct that is lent, as `BodySource`.
 #[inline(always)]
 pub fn law_bytes(bytes: &[u8])
     ensures { AreBytes bytes.now }

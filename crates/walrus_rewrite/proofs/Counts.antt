@@ -11,7 +11,7 @@ use Rattle.wasm_body.specs.Translation.{Located}
 use Rattle.wasm_body.specs.Naming.{NamedOperation, Environment, Occurrence}
 use Rattle.wasm_body.specs.Parsing.Accepted.{placed, IsBody}
 use Rattle.wasm_body.specs.FunctionTree.{Head, Instruction, delegates}
-use Rattle.wasm_body.specs.NormalForm.{Typing, typing_of, Fate, Drops, Stays, Diverges, fate, with_fate, instruction, head, construct_type, handler_type, closed_at, legacy_clauses, normal, handler_sequences, name_at, named_body, body_tree}
+use Rattle.wasm_body.specs.NormalForm.{Typing, typing_of, Fate, Drops, Stays, MakesUnreachable, fate, with_fate, instruction, head, construct_type, handler_type, closed_at, legacy_clauses, normal, handler_sequences, name_at, named_body, body_tree}
 use Rattle.wasm_body.specs.TextLaws.{mark_named}
 use Rattle.wasm_body.proofs.Structure.Mapped.{is_named_body}
 use Rattle.walrus_facts.specs.Facts.{instructions, instructions_inside, count}
@@ -35,7 +35,7 @@ first_inside h is ss = length-append (instructions is) (instructions_inside ss)
 single_bound : (f : Fate) (i : Instruction) (r : Items Head Instruction) (k t : ℕ) → items_count r + k ≤ t → items_count (with_fate f i r) + k ≤ suc t
 single_bound Drops i r k t h = omega (arith, h)
 single_bound Stays i r k t h = omega (arith, h, one_more i no_sequences r)
-single_bound Diverges i r k t h = omega (arith, h)
+single_bound MakesUnreachable i r k t h = omega (arith, h)
 
 module _ (m : Typing) where
   abbrev of : Sequence Named → ℕ

@@ -8,7 +8,7 @@ use Rattle.wasm_types.specs.declared.val_type.ValType.TheVariants.{I32, I64, F32
 use Rattle.wasm_operators.specs.declared.types.Opcode.{Opcode}
 use Rattle.wasm_operators.specs.declared.types.Opcode.TheVariants.{Byte, Prefixed}
 use Rattle.wasm_operators.specs.Opcodes.{range_at}
-use Rattle.wasm_typing.specs.Rules.{Rule, by_type, by_point, fixed, of_index, of_indices, of_index_and_number, of_local, of_heap, ref, ref_null, dropped, selected, selected_of, call, call_ref, call_indirect, local_get, local_set, local_tee, global_get, global_set, table_get, table_set, table_size, table_grow, table_fill, table_copy, table_init, elem_drop, accesses_lane, load, store, atomic, memory_size, memory_grow, memory_fill, memory_copy, memory_init, data_drop, null_reference, function_reference, is_null, as_non_null, reference_test, reference_cast, converted, struct_new, struct_new_default, struct_get, struct_set, array_new, array_new_default, array_new_fixed, from_data, from_elements, array_new_from, array_get, array_set, array_fill, array_copy, array_init_from, at_lane, at_lanes}
+use Rattle.wasm_typing.specs.Rules.{Rule, by_type, by_point, fixed, of_index, of_indices, of_index_and_number, of_local, of_heap, ref, ref_null, dropped, selected_type, selected_of, call, call_ref, call_indirect, local_get, local_set, local_tee, global_get, global_set, table_get, table_set, table_size, table_grow, table_fill, table_copy, table_init, elem_drop, accesses_lane, load, store, atomic, memory_size, memory_grow, memory_fill, memory_copy, memory_init, data_drop, null_reference, function_reference, is_null, as_non_null, reference_test, reference_cast, converted, struct_new, struct_new_default, struct_get, struct_set, array_new, array_new_default, array_new_fixed, from_data, from_elements, array_new_from, array_get, array_set, array_fill, array_copy, array_init_from, at_lane, at_lanes}
 
 -- ---- numeric and vector operators: t1* -> t2*
 
@@ -75,7 +75,7 @@ byte_rules =
     (0x14, Some (by_type (of_index call_ref))) ∷
     (0x19, no_rule) ∷  -- return_call_ref, delegate, catch_all
     (0x1a, Some (by_point dropped)) ∷  -- drop
-    (0x1b, Some (by_point selected)) ∷  -- select
+    (0x1b, Some (by_point selected_type)) ∷  -- select
     (0x1c, Some (by_type selected_of)) ∷  -- select t
     (0x1f, no_rule) ∷  -- try_table
     (0x20, Some (by_point local_get)) ∷

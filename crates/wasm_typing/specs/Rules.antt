@@ -72,8 +72,8 @@ abbrev pub dropped : OperandContext → Immediates → Point KnownOperand → Ch
 dropped c is p = pop_any p.unreachable p.operands >>= λ q. Ok (leaving q.below)
 
 -- select : t t i32 -> t, of a number type or vector type t
-abbrev pub selected : OperandContext → Immediates → Point KnownOperand → Checked (Change KnownOperand)
-selected c is p =
+abbrev pub selected_type : OperandContext → Immediates → Point KnownOperand → Checked (Change KnownOperand)
+selected_type c is p =
     typed c (I32 ∷ [] ⟶ []) p >>= λ k. pop_any p.unreachable k.operands >>= λ x. pop_any p.unreachable x.below >>= λ y.
     demand (may_be_number x.operand) >>= λ u. demand (may_be_number y.operand) >>= λ v.
     one_of x.operand y.operand >>= λ z. Ok (leaving (z ∷ y.below))
