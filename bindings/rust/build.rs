@@ -4,8 +4,8 @@
 use std::path::{Path, PathBuf};
 use std::process::Command;
 
-const HOW: &str = "at the top of the repository, `./run-program --quick wrewrite_c` builds it without proofs in minutes, and \
-                   `./run-program --build wrewrite_c` proves all and builds it; or set WREWRITE_LIB to its folder";
+const HOW: &str = "at the top of the repository, `dev/run-program --quick wrewrite_c` builds it without proofs in minutes, and \
+                   `dev/run-program --build wrewrite_c` proves all and builds it; or set WREWRITE_LIB to its folder";
 
 /// Ends with one line.
 fn stop(why: &str) -> ! {

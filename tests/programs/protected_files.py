@@ -131,7 +131,7 @@ def losing(room):
     kit = os.path.dirname(subprocess.run([rt, "doc"], stdout=subprocess.PIPE, text=True, check=True).stdout.strip())
     library = f"{room.programs}/lose_at_close.so"
     words = ["--target=x86_64-unknown-linux-gnu", "--no-default-config", "-shared", "-fPIC", "-nostdlib", "-O1", "-o", library]
-    subprocess.run([f"{kit}/toolchain/bin/clang", *words, f"{TOP}/tests/c/lose_at_close.c"], check=True, timeout=60)
+    subprocess.run([f"{kit}/toolchain/bin/clang", *words, f"{TOP}/tests/programs/lose_at_close.c"], check=True, timeout=60)
     return {"env": {**os.environ, "LD_PRELOAD": library}}
 
 

@@ -190,7 +190,7 @@ def marked_tree(folder):
     shutil.copytree(TOP, top, ignore=shutil.ignore_patterns("out", "out-quick", ".git"))
     os.makedirs(os.path.dirname(f"{top}/{program}"))
     shutil.copy(f"{TOP}/{program}", f"{top}/{program}")
-    script = f"{top}/run-program"
+    script = f"{top}/dev/run-program"
     sources = subprocess.run([script, "--sources", TOGETHER], capture_output=True, check=True, text=True).stdout.strip()
     subprocess.run([script, "--mark", TOGETHER, f"{top}/{program}", sources], check=True)
     return top

@@ -5,7 +5,7 @@
 //! that may fail takes minutes to prove. Index maps, locals, facts, operators and bodies that are
 //! written, and that each call that allocates succeeds if there is memory, are shown by the rows of
 //! `growths`; the output of the program `wbody` by those of `wbody_rows`; deep nesting and long runs
-//! by `programs_test`.
+//! by `tests/programs/run`.
 #![tactic(auto)]
 
 #[cfg(test)]

@@ -1,7 +1,7 @@
 //! Tests of whole modules: what is in them, and what is written of them after a caller's changes; and
 //! of the mappings of source maps. What `wrewrite` writes, and which modules it refuses, is tested by
-//! `programs_test`. A function here owns one large value and lends it to the next: one that owns
-//! several over calls that may fail takes minutes to prove.
+//! `tests/programs/run`. A function here owns one large value and lends it to the next: one that
+//! owns several over calls that may fail takes minutes to prove.
 #![tactic(auto)]
 
 #[cfg(test)]
