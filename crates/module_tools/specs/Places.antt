@@ -2,8 +2,8 @@
 use Rattle.std.specs.Prelude.{◌≡◌, ◌⊎◌, ℕ, List, Option, Some, None}
 use Rattle.std.specs.Option.{option_copied}
 use Rattle.module_tools.specs.declared.ending.Attempt.TheVariants.{Write}
-use Rattle.module_tools.specs.declared.ending.Failure.{Failure}
-use Rattle.module_tools.specs.declared.ending.Failure.TheVariants as failure
+use Rattle.module_tools.specs.declared.ending.ProgramFailure.{ProgramFailure}
+use Rattle.module_tools.specs.declared.ending.ProgramFailure.TheVariants as failure
 use Rattle.module_tools.specs.declared.places.Place.{Place}
 use Rattle.module_tools.specs.declared.program.Task.{Task}
 use Rattle.module_tools.specs.declared.usage_error.UsageError.{UsageError}
@@ -26,7 +26,7 @@ ArePathsOf task (SameFile map other) = (option_copied task.map ≡ Some map.now)
 ArePathsOf task _ = ⊥
 
 -- The map would go where another file of the task is, or it can't be written, or memory ran out.
-abbrev pub IsRefusedTask : Task → Failure → Type 0
+abbrev pub IsRefusedTask : Task → ProgramFailure → Type 0
 IsRefusedTask task (failure.UsageError wrong) = ArePathsOf task wrong
 IsRefusedTask task (failure.Refused _) = ⊥
 IsRefusedTask task (failure.File _ tried _) = tried ≡ Write

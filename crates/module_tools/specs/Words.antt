@@ -1,7 +1,7 @@
 -- What words ask of a program.
 use Rattle.std.specs.Prelude.{◌≡◌, length, [], true, false, nat_lt, None}
-use Rattle.module_tools.specs.declared.ending.Failure.{Failure}
-use Rattle.module_tools.specs.declared.ending.Failure.TheVariants as failure
+use Rattle.module_tools.specs.declared.ending.ProgramFailure.{ProgramFailure}
+use Rattle.module_tools.specs.declared.ending.ProgramFailure.TheVariants as failure
 use Rattle.module_tools.specs.declared.program.Options.{Options}
 use Rattle.module_tools.specs.declared.program.Program.{Program}
 use Rattle.module_tools.specs.declared.program.Request.{Request}
@@ -35,7 +35,7 @@ IsRequestOf program request.Version = Unit {0}
 IsRequestOf program (request.Task task) = IsTaskOf program task
 
 -- The words are refused: they are wrong, or memory ran out.
-abbrev pub IsRefusedRequest : Failure → Type 0
+abbrev pub IsRefusedRequest : ProgramFailure → Type 0
 IsRefusedRequest (failure.UsageError _) = Unit {0}
 IsRefusedRequest (failure.Refused _) = ⊥
 IsRefusedRequest (failure.File _ _ _) = ⊥

@@ -1,7 +1,7 @@
 //! The functions that the words of a program ask for.
 
 use crate::demangling::demangle;
-use crate::ending::{Failure, Refusal};
+use crate::ending::{FileFault, ProgramFailure};
 use crate::files::read_file;
 use crate::names::{Found, FunctionNames};
 use crate::program::{Asked, Task};
@@ -75,25 +75,25 @@ fn add_function<'w>(
     names: &FunctionNames<'_>,
     word: &'w str,
     functions: &mut IdHashSet<FunctionId>,
-) -> Result<(), Failure<'w>> {
+) -> Result<(), ProgramFailure<'w>> {
     match function_of(parsed, names, word) {
         Ok(function) => {
             functions.insert(function)?;
             Ok(())
         }
-        Err(fault) => Err(Failure::UsageError(fault)),
+        Err(fault) => Err(ProgramFailure::UsageError(fault)),
     }
 }
 
-/// The refusal of a file of names, for what is wrong with the name in this line.
-fn line_refusal<'w>(
+/// The fault of a file of names, for what is wrong with the name in this line.
+fn line_fault<'w>(
     alloc: Global,
     path: &'w str,
     number: usize,
     fault: UsageError<'_>,
-) -> Result<Refusal<'w>, AllocError> {
+) -> Result<FileFault<'w>, AllocError> {
     let fault = format!(in alloc; "line {number}: {fault}")?;
-    Ok(Refusal {
+    Ok(FileFault {
         path,
         at: None,
         item: None,
@@ -107,10 +107,10 @@ fn line_failure<'w>(
     path: &'w str,
     number: usize,
     fault: UsageError<'_>,
-) -> Failure<'w> {
-    match line_refusal(alloc, path, number, fault) {
-        Ok(refusal) => Failure::Refused(refusal),
-        Err(_) => Failure::Memory,
+) -> ProgramFailure<'w> {
+    match line_fault(alloc, path, number, fault) {
+        Ok(fault) => ProgramFailure::Refused(fault),
+        Err(_) => ProgramFailure::Memory,
     }
 }
 
@@ -122,7 +122,7 @@ fn add_lines<'w>(
     path: &'w str,
     text: &[u8],
     functions: &mut IdHashSet<FunctionId>,
-) -> Result<(), Failure<'w>> {
+) -> Result<(), ProgramFailure<'w>> {
     let mut number = 0usize;
     for line in text.split(|byte| *byte == b'\n') {
         number = number.saturating_add(1);
@@ -147,7 +147,7 @@ fn add_named_in<'w, R: Files + Input + AllocGlobal>(
     names: &FunctionNames<'_>,
     path: &'w str,
     functions: &mut IdHashSet<FunctionId>,
-) -> Result<(), Failure<'w>> {
+) -> Result<(), ProgramFailure<'w>> {
     match read_file(rt, path) {
         Ok(text) => add_lines(rt.alloc(), parsed, names, path, &text, functions),
         Err(failure) => Err(failure),
@@ -248,16 +248,16 @@ fn add_pattern<'w>(
     names: &FunctionNames<'_>,
     text: &'w str,
     functions: &mut IdHashSet<FunctionId>,
-) -> Result<(), Failure<'w>> {
+) -> Result<(), ProgramFailure<'w>> {
     let regex = match Regex::new(alloc, text) {
         Ok(regex) => regex,
-        Err(regex::Error::OutOfMemory) => return Err(Failure::Memory),
-        Err(error) => return Err(Failure::UsageError(UsageError::BadPattern(text, error))),
+        Err(regex::Error::OutOfMemory) => return Err(ProgramFailure::Memory),
+        Err(error) => return Err(ProgramFailure::UsageError(UsageError::BadPattern(text, error))),
     };
     match add_matches_of(alloc, parsed, names, &regex, functions) {
         Ok(true) => Ok(()),
-        Ok(false) => Err(Failure::UsageError(UsageError::NoMatch(text))),
-        Err(_) => Err(Failure::Memory),
+        Ok(false) => Err(ProgramFailure::UsageError(UsageError::NoMatch(text))),
+        Err(_) => Err(ProgramFailure::Memory),
     }
 }
 
@@ -268,7 +268,7 @@ fn add_asked<'w, R: Files + Input + AllocGlobal>(
     names: &FunctionNames<'_>,
     asked: Asked<'w>,
     functions: &mut IdHashSet<FunctionId>,
-) -> Result<(), Failure<'w>> {
+) -> Result<(), ProgramFailure<'w>> {
     match asked {
         Asked::Function(word) => add_function(parsed, names, word, functions),
         Asked::Pattern(text) => add_pattern(rt.alloc(), parsed, names, text, functions),
@@ -291,7 +291,7 @@ fn add_all<'w, R: Files + Input + AllocGlobal>(
     names: &FunctionNames<'_>,
     all: &[Asked<'w>],
     functions: &mut IdHashSet<FunctionId>,
-) -> Result<(), Failure<'w>> {
+) -> Result<(), ProgramFailure<'w>> {
     for asked in all {
         match add_asked(rt, parsed, names, *asked, functions) {
             Ok(()) => {}
@@ -307,7 +307,7 @@ fn fill_functions<'w, R: Files + Input + AllocGlobal>(
     parsed: &ParsedModule<'_>,
     all: &[Asked<'w>],
     functions: &mut IdHashSet<FunctionId>,
-) -> Result<(), Failure<'w>> {
+) -> Result<(), ProgramFailure<'w>> {
     if all.is_empty() {
         return Ok(());
     }
@@ -325,7 +325,7 @@ pub(crate) fn functions_of<'w, R: Files + Input + AllocGlobal>(
     rt: &R,
     parsed: &ParsedModule<'_>,
     all: &[Asked<'w>],
-) -> Result<IdHashSet<FunctionId>, Failure<'w>> {
+) -> Result<IdHashSet<FunctionId>, ProgramFailure<'w>> {
     let mut functions = IdHashSet::new(rt.alloc());
     match fill_functions(rt, parsed, all, &mut functions) {
         Ok(()) => Ok(functions),

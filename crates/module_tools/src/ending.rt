@@ -88,7 +88,7 @@ impl fmt::Display for Shown<'_> {
 
 /// A fault of what was read from a file: of a module, or of a source map.
 #[derive(Drop)]
-pub struct Refusal<'w> {
+pub struct FileFault<'w> {
     /// The path of the file, as it was given.
     pub path: &'w str,
     /// The place of the fault, a byte offset from the start of the file, if it has one.
@@ -122,7 +122,7 @@ fn not_a_module_text(
     format!(in alloc; "{kind} ({name})")
 }
 
-impl<'w> Refusal<'w> {
+impl<'w> FileFault<'w> {
     /// A fault of the module that was read from this file.
     ///
     /// # Errors
@@ -133,8 +133,8 @@ impl<'w> Refusal<'w> {
         path: &'w str,
         item: Option<Item>,
         error: &ModuleError,
-    ) -> Result<Refusal<'w>, AllocError>
-        ensures { IfOk result (λ refusal. refusal.path.now ≡ path.entry.now) }
+    ) -> Result<FileFault<'w>, AllocError>
+        ensures { IfOk result (λ fault. fault.path.now ≡ path.entry.now) }
     {
         // A module that is too great is so as a whole.
         let at = match error.fault {
@@ -142,7 +142,7 @@ impl<'w> Refusal<'w> {
             _ => Some(error.at),
         };
         match fault_text(alloc, error) {
-            Ok(fault) => Ok(Refusal {
+            Ok(fault) => Ok(FileFault {
                 path,
                 at,
                 item,
@@ -153,18 +153,18 @@ impl<'w> Refusal<'w> {
     }
 }
 
-impl<'w> Refusal<'w> {
+impl<'w> FileFault<'w> {
     /// This file isn't a module, but something else that is known.
     fn of_other(
         alloc: Global,
         path: &'w str,
         kind: NotAModule,
         error: &ModuleError,
-    ) -> Result<Refusal<'w>, AllocError>
-        ensures { IfOk result (λ refusal. refusal.path.now ≡ path.entry.now) }
+    ) -> Result<FileFault<'w>, AllocError>
+        ensures { IfOk result (λ fault. fault.path.now ≡ path.entry.now) }
     {
         match not_a_module_text(alloc, kind, error) {
-            Ok(fault) => Ok(Refusal {
+            Ok(fault) => Ok(FileFault {
                 path,
                 at: Some(error.at),
                 item: None,
@@ -179,11 +179,11 @@ impl<'w> Refusal<'w> {
         alloc: Global,
         path: &'w str,
         fault: SourceMapFault,
-    ) -> Result<Refusal<'w>, AllocError>
-        ensures { IfOk result (λ refusal. refusal.path.now ≡ path.entry.now) }
+    ) -> Result<FileFault<'w>, AllocError>
+        ensures { IfOk result (λ fault. fault.path.now ≡ path.entry.now) }
     {
         match source_map_fault_text(alloc, fault) {
-            Ok(fault) => Ok(Refusal {
+            Ok(fault) => Ok(FileFault {
                 path,
                 at: None,
                 item: None,
@@ -221,7 +221,7 @@ impl fmt::Display for Before<'_> {
 }
 
 /// The file, the place, what the fault is in, its text, and its name.
-impl fmt::Display for Refusal<'_> {
+impl fmt::Display for FileFault<'_> {
     fn fmt<W: fmt::Write>(&self, f: &mut fmt::Formatter<W>) -> fmt::Result {
         let path = Shown(self.path, "standard input");
         let (place, item) = (PlaceBefore(self.at), Before(&self.item));
@@ -232,11 +232,11 @@ impl fmt::Display for Refusal<'_> {
 
 /// Why a program writes no module.
 #[derive(Drop)]
-pub enum Failure<'w> {
+pub enum ProgramFailure<'w> {
     /// The arguments are wrong.
     UsageError(UsageError<'w>),
     /// The module, or its source map, is refused.
-    Refused(Refusal<'w>),
+    Refused(FileFault<'w>),
     /// Something can't be done with a file.
     File {
         path: &'w str,
@@ -247,20 +247,20 @@ pub enum Failure<'w> {
     Memory,
 }
 
-impl<'w> Failure<'w> {
+impl<'w> ProgramFailure<'w> {
     /// The module that was read from this file is refused.
     pub fn refused(
         alloc: Global,
         path: &'w str,
         item: Option<Item>,
         error: &ModuleError,
-    ) -> Failure<'w> {
+    ) -> ProgramFailure<'w> {
         if matches!(error.fault, ModuleFault::Memory) {
-            return Failure::Memory;
+            return ProgramFailure::Memory;
         }
-        match Refusal::new(alloc, path, item, error) {
-            Ok(refusal) => Failure::Refused(refusal),
-            Err(_) => Failure::Memory,
+        match FileFault::new(alloc, path, item, error) {
+            Ok(fault) => ProgramFailure::Refused(fault),
+            Err(_) => ProgramFailure::Memory,
         }
     }
 
@@ -271,47 +271,47 @@ impl<'w> Failure<'w> {
         path: &'w str,
         bytes: &[u8],
         error: &ModuleError,
-    ) -> Failure<'w> {
+    ) -> ProgramFailure<'w> {
         if matches!(error.fault, ModuleFault::Memory) {
-            return Failure::Memory;
+            return ProgramFailure::Memory;
         }
         let Some(kind) = NotAModule::of(bytes) else {
-            return Failure::refused(alloc, path, None, error);
+            return ProgramFailure::refused(alloc, path, None, error);
         };
-        match Refusal::of_other(alloc, path, kind, error) {
-            Ok(refusal) => Failure::Refused(refusal),
-            Err(_) => Failure::Memory,
+        match FileFault::of_other(alloc, path, kind, error) {
+            Ok(fault) => ProgramFailure::Refused(fault),
+            Err(_) => ProgramFailure::Memory,
         }
     }
 
     /// The source map that was read from this file is refused.
-    pub fn source_map(alloc: Global, path: &'w str, error: SourceMapError) -> Failure<'w> {
+    pub fn source_map(alloc: Global, path: &'w str, error: SourceMapError) -> ProgramFailure<'w> {
         let SourceMapError::Fault(fault) = error else {
-            return Failure::Memory;
+            return ProgramFailure::Memory;
         };
-        match Refusal::of_source_map(alloc, path, fault) {
-            Ok(refusal) => Failure::Refused(refusal),
-            Err(_) => Failure::Memory,
+        match FileFault::of_source_map(alloc, path, fault) {
+            Ok(fault) => ProgramFailure::Refused(fault),
+            Err(_) => ProgramFailure::Memory,
         }
     }
 
     /// This can't be done with a file.
-    pub fn file(path: &'w str, tried: Attempt, error: io::Error) -> Failure<'w>
+    pub fn file(path: &'w str, tried: Attempt, error: io::Error) -> ProgramFailure<'w>
         ensures { IsMemoryOr tried path.entry.now result }
     {
         match error.kind() {
-            io::ErrorKind::OutOfMemory => Failure::Memory,
-            _ => Failure::File { path, tried, error },
+            io::ErrorKind::OutOfMemory => ProgramFailure::Memory,
+            _ => ProgramFailure::File { path, tried, error },
         }
     }
 }
 
-impl fmt::Display for Failure<'_> {
+impl fmt::Display for ProgramFailure<'_> {
     fn fmt<W: fmt::Write>(&self, f: &mut fmt::Formatter<W>) -> fmt::Result {
         match self {
-            Failure::UsageError(error) => write!(f, "{error}"),
-            Failure::Refused(error) => write!(f, "{error}"),
-            Failure::File { path, tried, error } => {
+            ProgramFailure::UsageError(error) => write!(f, "{error}"),
+            ProgramFailure::Refused(error) => write!(f, "{error}"),
+            ProgramFailure::File { path, tried, error } => {
                 let stream = match tried {
                     Attempt::Open | Attempt::Read => "standard input",
                     _ => "standard output",
@@ -319,7 +319,7 @@ impl fmt::Display for Failure<'_> {
                 let path = Shown(path, stream);
                 write!(f, "{path}: {tried}: {error}")
             }
-            Failure::Memory => {
+            ProgramFailure::Memory => {
                 let (memory, name) = (ModuleFault::Memory, ModuleFault::Memory.name());
                 write!(f, "{memory} ({name})")
             }
@@ -327,21 +327,21 @@ impl fmt::Display for Failure<'_> {
     }
 }
 
-impl<'w> From<UsageError<'w>> for Failure<'w> {
-    fn from(error: UsageError<'w>) -> Failure<'w> {
-        Failure::UsageError(error)
+impl<'w> From<UsageError<'w>> for ProgramFailure<'w> {
+    fn from(error: UsageError<'w>) -> ProgramFailure<'w> {
+        ProgramFailure::UsageError(error)
     }
 }
 
-impl From<AllocError> for Failure<'_> {
+impl From<AllocError> for ProgramFailure<'_> {
     fn from(_: AllocError) -> Self {
-        Failure::Memory
+        ProgramFailure::Memory
     }
 }
 
-impl<T: Drop> From<AllocFailed<T>> for Failure<'_> {
+impl<T: Drop> From<AllocFailed<T>> for ProgramFailure<'_> {
     fn from(_: AllocFailed<T>) -> Self {
-        Failure::Memory
+        ProgramFailure::Memory
     }
 }
 
@@ -366,7 +366,10 @@ fn number_of_bad_word<R: Env + AllocGlobal>(rt: &R, first: usize) -> Result<usiz
 /// # Errors
 ///
 /// Wrong use where an argument isn't UTF-8, with its number; or that memory ran out.
-pub fn words<R: Env + AllocGlobal>(rt: &R, first: usize) -> Result<Vec<String>, Failure<'static>> {
+pub fn words<R: Env + AllocGlobal>(
+    rt: &R,
+    first: usize,
+) -> Result<Vec<String>, ProgramFailure<'static>> {
     let mut words = Vec::new(rt.alloc());
     match env::args(rt) {
         Ok(args) => {
@@ -377,26 +380,26 @@ pub fn words<R: Env + AllocGlobal>(rt: &R, first: usize) -> Result<Vec<String>, 
         }
         Err(error) if error.kind() == io::ErrorKind::InvalidData => {
             let number = number_of_bad_word(rt, first)?;
-            Err(Failure::UsageError(UsageError::NotUtf8(number)))
+            Err(ProgramFailure::UsageError(UsageError::NotUtf8(number)))
         }
-        Err(_) => Err(Failure::Memory),
+        Err(_) => Err(ProgramFailure::Memory),
     }
 }
 
 /// The status of a program that stops so: 2 for wrong use, else 1.
-fn status(failure: &Failure<'_>) -> u8
+fn status(failure: &ProgramFailure<'_>) -> u8
     ensures { result ≡ status_of failure.now }
 {
     match failure {
-        Failure::UsageError(_) => 2,
-        Failure::Refused(_) => 1,
-        Failure::File { .. } => 1,
-        Failure::Memory => 1,
+        ProgramFailure::UsageError(_) => 2,
+        ProgramFailure::Refused(_) => 1,
+        ProgramFailure::File { .. } => 1,
+        ProgramFailure::Memory => 1,
     }
 }
 
 /// Prints to standard error why no module is written. The status is then 2 for wrong use, else 1.
-pub fn exit_code(rt: &impl Eprint, program: &str, failure: Failure<'_>) -> ExitCode
+pub fn exit_code(rt: &impl Eprint, program: &str, failure: ProgramFailure<'_>) -> ExitCode
     ensures { exit_status result ≡ status_of failure.entry }
 {
     let status = status(&failure);
@@ -416,6 +419,10 @@ pub fn page_code(rt: &impl Eprint, program: &str, printed: io::Result<()>) -> Ex
 {
     match printed {
         Ok(()) => ExitCode::SUCCESS,
-        Err(error) => exit_code(rt, program, Failure::file("-", Attempt::Write, error)),
+        Err(error) => exit_code(
+            rt,
+            program,
+            ProgramFailure::file("-", Attempt::Write, error),
+        ),
     }
 }

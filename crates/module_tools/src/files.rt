@@ -5,7 +5,7 @@ ghost use Rattle.std.specs.Prelude.{◌≡◌, ◌≤◌, false, length, IfOk, I
 ghost use Rattle.module_tools.specs.Endings.{IsMemoryOr};
 ghost use Rattle.module_tools.specs.declared.ending.Attempt.TheVariants as attempt;
 
-use crate::ending::{Attempt, Failure};
+use crate::ending::{Attempt, ProgramFailure};
 use crate::in_place::{check_protection, is_denied, put, write_over};
 use crate::locks::LockFiles;
 use crate::places::resolve;
@@ -20,17 +20,17 @@ fn read_into<'w, R: Files + Input>(
     rt: &R,
     path: &'w str,
     bytes: &mut Vec<u8>,
-) -> Result<(), Failure<'w>> {
+) -> Result<(), ProgramFailure<'w>> {
     let read = match path {
         "-" => rt.reader().read_to_end(bytes),
         path => match fs::open(rt, path) {
             Ok(mut file) => file.read_to_end(bytes),
-            Err(error) => return Err(Failure::file(path, Attempt::Open, error)),
+            Err(error) => return Err(ProgramFailure::file(path, Attempt::Open, error)),
         },
     };
     match read {
         Ok(_) => Ok(()),
-        Err(error) => Err(Failure::file(path, Attempt::Read, error)),
+        Err(error) => Err(ProgramFailure::file(path, Attempt::Read, error)),
     }
 }
 
@@ -42,7 +42,7 @@ fn read_into<'w, R: Files + Input>(
 pub fn read_file<'w, R: Files + Input + AllocGlobal>(
     rt: &R,
     path: &'w str,
-) -> Result<Vec<u8>, Failure<'w>> {
+) -> Result<Vec<u8>, ProgramFailure<'w>> {
     let mut bytes = Vec::new(rt.alloc());
     match read_into(rt, path, &mut bytes) {
         Ok(()) => {
@@ -231,14 +231,18 @@ impl<'w, R: LockFiles + AllocGlobal> Target<'w, R> {
     /// # Errors
     ///
     /// Where it can't be created, or memory runs out. What is there is then as before.
-    pub fn create(rt: &'w R, path: &'w str, is_forced: bool) -> Result<Target<'w, R>, Failure<'w>>
+    pub fn create(
+        rt: &'w R,
+        path: &'w str,
+        is_forced: bool,
+    ) -> Result<Target<'w, R>, ProgramFailure<'w>>
         ensures path { IfOk result (λ target. target.path.now ≡ path.entry.now) }
         ensures fresh { IfOk result (λ target. target.has_failed ≡ false) }
         ensures refused { IfErr result (IsMemoryOr attempt.Create path.entry.now) }
     {
         match Target::try_create(rt, path, is_forced) {
             Ok(target) => Ok(target),
-            Err(error) => Err(Failure::file(path, Attempt::Create, error)),
+            Err(error) => Err(ProgramFailure::file(path, Attempt::Create, error)),
         }
     }
 
@@ -264,7 +268,7 @@ impl<'w, R: LockFiles + AllocGlobal> Target<'w, R> {
     }
 
     /// Closes the file, and checks that all that was written is there.
-    fn close(self) -> Result<Closed<'w, R>, Failure<'w>>
+    fn close(self) -> Result<Closed<'w, R>, ProgramFailure<'w>>
         ensures path { IfOk result (λ closed. closed.path.now ≡ self.entry.path.now) }
         ensures refused { IfErr result (IsMemoryOr attempt.Write self.entry.path.now) }
     {
@@ -277,7 +281,7 @@ impl<'w, R: LockFiles + AllocGlobal> Target<'w, R> {
         } = self;
         match close(rt, store, count) {
             Ok(whole) => Ok(Closed { rt, path, whole }),
-            Err(error) => Err(Failure::file(path, Attempt::Write, error)),
+            Err(error) => Err(ProgramFailure::file(path, Attempt::Write, error)),
         }
     }
 
@@ -302,7 +306,7 @@ impl<'w, R: LockFiles + AllocGlobal> Target<'w, R> {
     ///
     /// Why it isn't written whole, as is handed in; or where what was written isn't there after the
     /// file is closed, or can't be put in its place.
-    pub fn end(self, written: Result<(), Failure<'w>>) -> Result<(), Failure<'w>> {
+    pub fn end(self, written: Result<(), ProgramFailure<'w>>) -> Result<(), ProgramFailure<'w>> {
         if let Err(failure) = written {
             self.discard();
             return Err(failure);
@@ -321,13 +325,13 @@ impl<'w, R: Files> Closed<'w, R> {
     ///
     /// Where that can't be done. The file is then removed, and what is at its place stays; but where
     /// no file can be put there, what was there is lost if it can't be written over whole.
-    fn keep(self) -> Result<(), Failure<'w>>
+    fn keep(self) -> Result<(), ProgramFailure<'w>>
         ensures { IfErr result (IsMemoryOr attempt.Rename self.entry.path.now) }
     {
         let Closed { rt, path, whole } = self;
         match place(rt, whole) {
             Ok(()) => Ok(()),
-            Err(error) => Err(Failure::file(path, Attempt::Rename, error)),
+            Err(error) => Err(ProgramFailure::file(path, Attempt::Rename, error)),
         }
     }
 }

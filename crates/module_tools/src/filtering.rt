@@ -1,6 +1,6 @@
 //! The shortest program of a tool: it reads a module, and prints what the tool makes of it.
 
-use crate::ending::{Attempt, Failure, exit_code, words};
+use crate::ending::{Attempt, ProgramFailure, exit_code, words};
 use crate::files::read_file;
 use crate::running::Tool;
 use std::io;
@@ -36,15 +36,20 @@ fn print_made<'w, R: Print + AllocGlobal, B: BodyWriter + Drop>(
     path: &'w str,
     parsed: &mut ParsedModule<'_>,
     made: Result<RewrittenModule<'_, B>, ModuleError>,
-) -> Result<(), Failure<'w>> {
+) -> Result<(), ProgramFailure<'w>> {
     let module = match made {
         Ok(module) => module,
-        Err(error) => return Err(Failure::refused(rt.alloc(), path, None, &error)),
+        Err(error) => return Err(ProgramFailure::refused(rt.alloc(), path, None, &error)),
     };
     match print_module(rt, parsed, &module) {
         Ok(()) => Ok(()),
-        Err(WriteError::Module(error)) => Err(Failure::refused(rt.alloc(), path, None, &error)),
-        Err(WriteError::Io(error)) => Err(Failure::file("-", Attempt::Write, error)),
+        Err(WriteError::Module(error)) => Err(ProgramFailure::refused(
+            rt.alloc(),
+            path,
+            None,
+            &error,
+        )),
+        Err(WriteError::Io(error)) => Err(ProgramFailure::file("-", Attempt::Write, error)),
     }
 }
 
@@ -54,10 +59,10 @@ fn print_changed<'w, R: Print + AllocGlobal, T: Tool>(
     tool: &T,
     path: &'w str,
     parsed: &mut ParsedModule<'_>,
-) -> Result<(), Failure<'w>> {
+) -> Result<(), ProgramFailure<'w>> {
     let (change, changes) = match tool.changes(rt.alloc(), parsed, IdHashSet::new(rt.alloc())) {
         Ok(found) => found,
-        Err(error) => return Err(Failure::refused(rt.alloc(), path, None, &error)),
+        Err(error) => return Err(ProgramFailure::refused(rt.alloc(), path, None, &error)),
     };
     match change {
         Some(mut change) => {
@@ -77,10 +82,10 @@ fn filter_bytes<'w, R: Print + AllocGlobal, T: Tool>(
     tool: &T,
     path: &'w str,
     bytes: &[u8],
-) -> Result<(), Failure<'w>> {
+) -> Result<(), ProgramFailure<'w>> {
     match ParsedModule::read_in_box(rt.alloc(), bytes) {
         Ok(mut parsed) => print_changed(rt, tool, path, &mut parsed),
-        Err(error) => Err(Failure::refused(rt.alloc(), path, None, &error)),
+        Err(error) => Err(ProgramFailure::refused(rt.alloc(), path, None, &error)),
     }
 }
 
@@ -89,7 +94,7 @@ fn filter_file<'w, R: Files + Input + Print + AllocGlobal, T: Tool>(
     rt: &R,
     tool: &T,
     path: &'w str,
-) -> Result<(), Failure<'w>> {
+) -> Result<(), ProgramFailure<'w>> {
     match read_file(rt, path) {
         Ok(bytes) => filter_bytes(rt, tool, path, &bytes),
         Err(failure) => Err(failure),

@@ -2,6 +2,7 @@
 //! they end.
 #![tactic(auto)]
 
+mod checking;
 mod choosing;
 mod counting;
 mod demangling;
@@ -15,10 +16,12 @@ mod listing;
 mod locks;
 mod names;
 mod not_a_module;
+mod omitting;
 mod options;
 mod places;
 mod program;
 mod progress;
+mod reporting;
 mod running;
 mod snipping;
 mod source_map_places;
@@ -30,7 +33,7 @@ mod warnings;
 mod writing;
 
 pub use counting::{CALLS, CountCalls, call_counter, call_counter_named, count_calls};
-pub use ending::{Attempt, Failure, Item, Refusal, exit_code, page_code, words};
+pub use ending::{Attempt, FileFault, Item, ProgramFailure, exit_code, page_code, words};
 pub use escaped::Escaped;
 pub use files::{Target, read_file};
 pub use filtering::filter;

@@ -1,6 +1,6 @@
 //! The functions of a module as lines.
 
-use crate::ending::{Attempt, Failure};
+use crate::ending::{Attempt, ProgramFailure};
 use crate::escaped::Escaped;
 use crate::names::FunctionNames;
 use std::io::{BufWriter, Write};
@@ -60,10 +60,10 @@ fn print_lines<R: Print + AllocGlobal>(
 pub(crate) fn list_functions<'w, R: Print + AllocGlobal>(
     rt: &R,
     parsed: &ParsedModule<'_>,
-) -> Result<(), Failure<'w>> {
+) -> Result<(), ProgramFailure<'w>> {
     let names = FunctionNames::read(rt.alloc(), parsed)?;
     match print_lines(rt, parsed, &names) {
         Ok(()) => Ok(()),
-        Err(error) => Err(Failure::file("-", Attempt::Write, error)),
+        Err(error) => Err(ProgramFailure::file("-", Attempt::Write, error)),
     }
 }

@@ -5,7 +5,7 @@ ghost use Rattle.module_tools.specs.Places.{IsSamePlace, IsOtherPath, IsRefusedT
 ghost use Rattle.module_tools.specs.declared.ending.Attempt.TheVariants as attempt;
 ghost use Rattle.module_tools.specs.Endings.{IsMemoryOr};
 
-use crate::ending::{Attempt, Failure};
+use crate::ending::{Attempt, ProgramFailure};
 use crate::program::Task;
 use crate::usage_error::UsageError;
 use std::alloc::{AllocError, Global};
@@ -194,7 +194,7 @@ fn path_of_map<'w, R: Files + AllocGlobal>(
 
 /// Checks that standard output is open where a path is `-`: else the next file that is opened gets
 /// its number, and what is written to both.
-pub(crate) fn check_stdout<'w>(rt: &impl Files, path: &'w str) -> Result<(), Failure<'w>>
+pub(crate) fn check_stdout<'w>(rt: &impl Files, path: &'w str) -> Result<(), ProgramFailure<'w>>
     ensures { IfErr result (IsMemoryOr attempt.Write path.entry.now) }
 {
     if path != "-" {
@@ -202,12 +202,16 @@ pub(crate) fn check_stdout<'w>(rt: &impl Files, path: &'w str) -> Result<(), Fai
     }
     match fs::metadata(rt, "/dev/stdout") {
         Ok(_) => Ok(()),
-        Err(error) => Err(Failure::file(path, Attempt::Write, error)),
+        Err(error) => Err(ProgramFailure::file(path, Attempt::Write, error)),
     }
 }
 
 /// Checks that both paths that are written, of which each may be `-`, have what they require.
-fn check_streams<'w>(rt: &impl Files, task: &Task<'w>, map: &'w str) -> Result<(), Failure<'w>>
+fn check_streams<'w>(
+    rt: &impl Files,
+    task: &Task<'w>,
+    map: &'w str,
+) -> Result<(), ProgramFailure<'w>>
     ensures { IfErr result (IsRefusedTask task.now) }
 {
     match check_stdout(rt, map) {
@@ -229,7 +233,7 @@ fn check_streams<'w>(rt: &impl Files, task: &Task<'w>, map: &'w str) -> Result<(
 pub(crate) fn check_files<'w, R: Files + AllocGlobal>(
     rt: &R,
     task: &Task<'w>,
-) -> Result<(), Failure<'w>>
+) -> Result<(), ProgramFailure<'w>>
     ensures free { IsNone task.now.map → IsOk result }
     ensures refused { IfErr result (IsRefusedTask task.now) }
 {
@@ -240,11 +244,11 @@ pub(crate) fn check_files<'w, R: Files + AllocGlobal>(
         && map == "-"
         && output == "-"
     {
-        return Err(Failure::UsageError(UsageError::SameFile(map, output)));
+        return Err(ProgramFailure::UsageError(UsageError::SameFile(map, output)));
     }
     match path_of_map(rt, task, map) {
-        Ok(Some(path)) => Err(Failure::UsageError(UsageError::SameFile(map, path))),
+        Ok(Some(path)) => Err(ProgramFailure::UsageError(UsageError::SameFile(map, path))),
         Ok(None) => check_streams(rt, task, map),
-        Err(_) => Err(Failure::Memory),
+        Err(_) => Err(ProgramFailure::Memory),
     }
 }

@@ -3,7 +3,7 @@
 ghost use Rattle.std.specs.Prelude.{◌≡◌, [], length, nat_lt, true, false, None, IsNone, IsTrue, IfOk, IfErr};
 ghost use Rattle.module_tools.specs.Words.{ChecksAlone, IsTaskOf, IsRequestOf, IsRefusedRequest, WritesNoFile};
 
-use crate::ending::Failure;
+use crate::ending::ProgramFailure;
 use crate::options::{Choice, HelpPage, Page, Switch, Valued, option_named, option_with_letter};
 use crate::usage_error::UsageError;
 use std::alloc::Global;
@@ -148,23 +148,23 @@ fn set_value<'w>(
     option: &mut Option<&'w str>,
     value: &'w str,
     name: &'static str,
-) -> Result<(), Failure<'w>>
+) -> Result<(), ProgramFailure<'w>>
     ensures { IfErr result IsRefusedRequest }
 {
     if option.is_some() {
-        return Err(Failure::UsageError(UsageError::GivenTwice(name)));
+        return Err(ProgramFailure::UsageError(UsageError::GivenTwice(name)));
     }
     *option = Some(value);
     Ok(())
 }
 
 /// Adds to a list.
-fn add<'w, T: Drop>(list: &mut Vec<T>, item: T) -> Result<(), Failure<'w>>
+fn add<'w, T: Drop>(list: &mut Vec<T>, item: T) -> Result<(), ProgramFailure<'w>>
     ensures { IfErr result IsRefusedRequest }
 {
     match list.push(item) {
         Ok(()) => Ok(()),
-        Err(_) => Err(Failure::Memory),
+        Err(_) => Err(ProgramFailure::Memory),
     }
 }
 
@@ -283,7 +283,7 @@ impl<'w> Words<'w> {
     }
 
     /// Takes an option that has no value. It may be given more than once.
-    fn take_switch(&mut self, switch: Switch) -> Result<(), Failure<'w>>
+    fn take_switch(&mut self, switch: Switch) -> Result<(), ProgramFailure<'w>>
         ensures { IfErr result IsRefusedRequest }
     {
         match switch {
@@ -312,7 +312,7 @@ impl<'w> Words<'w> {
     }
 
     /// Gives an option its value.
-    fn set(&mut self, valued: Valued, value: &'w str) -> Result<(), Failure<'w>>
+    fn set(&mut self, valued: Valued, value: &'w str) -> Result<(), ProgramFailure<'w>>
         ensures { IfErr result IsRefusedRequest }
     {
         let name = valued.name();
@@ -333,7 +333,11 @@ impl<'w> Words<'w> {
     }
 
     /// Gives an option its value, if that is known; else it is the next word.
-    fn take_value(&mut self, valued: Valued, value: Option<&'w str>) -> Result<(), Failure<'w>>
+    fn take_value(
+        &mut self,
+        valued: Valued,
+        value: Option<&'w str>,
+    ) -> Result<(), ProgramFailure<'w>>
         ensures { IfErr result IsRefusedRequest }
     {
         let Some(value) = value else {
@@ -342,21 +346,25 @@ impl<'w> Words<'w> {
         };
         self.options.awaits = None;
         if value.is_empty() && valued.is_path() {
-            return Err(Failure::UsageError(UsageError::NoValue(valued.name())));
+            return Err(ProgramFailure::UsageError(UsageError::NoValue(valued.name())));
         }
         self.set(valued, value)
     }
 
     /// Takes an option that is named in full, and returns the page that it requests.
-    fn take_long(&mut self, program: &Program, word: &'w str) -> Result<Option<Page>, Failure<'w>>
+    fn take_long(
+        &mut self,
+        program: &Program,
+        word: &'w str,
+    ) -> Result<Option<Page>, ProgramFailure<'w>>
         ensures { IfErr result IsRefusedRequest }
     {
         let (name, value) = split_option(word);
         let taken = match option_named(program, name) {
-            None => return Err(Failure::UsageError(UsageError::UnknownOption(name))),
+            None => return Err(ProgramFailure::UsageError(UsageError::UnknownOption(name))),
             Some(Choice::Valued(valued)) => self.take_value(valued, value),
             Some(_) if value.is_some() => {
-                return Err(Failure::UsageError(UsageError::UnwantedValue(name)));
+                return Err(ProgramFailure::UsageError(UsageError::UnwantedValue(name)));
             }
             Some(Choice::Switch(switch)) => self.take_switch(switch),
             Some(Choice::Page(page)) => return Ok(Some(page)),
@@ -373,7 +381,7 @@ impl<'w> Words<'w> {
         &mut self,
         program: &Program,
         word: &'w str,
-    ) -> Result<Option<Page>, Failure<'w>>
+    ) -> Result<Option<Page>, ProgramFailure<'w>>
         ensures { IfErr result IsRefusedRequest }
     {
         let mut letters = word.chars();
@@ -383,7 +391,7 @@ impl<'w> Words<'w> {
                 break;
             };
             let taken = match option_with_letter(program, letter) {
-                None => return Err(Failure::UsageError(UsageError::UnknownOption(word))),
+                None => return Err(ProgramFailure::UsageError(UsageError::UnknownOption(word))),
                 Some(Choice::Page(page)) => return Ok(Some(page)),
                 Some(Choice::Switch(switch)) => self.take_switch(switch),
                 Some(Choice::Valued(valued)) => {
@@ -402,7 +410,11 @@ impl<'w> Words<'w> {
     }
 
     /// Takes a word that is no value of an option. One that asks for a page ends the reading.
-    fn take_next(&mut self, program: &Program, word: &'w str) -> Result<Option<Page>, Failure<'w>>
+    fn take_next(
+        &mut self,
+        program: &Program,
+        word: &'w str,
+    ) -> Result<Option<Page>, ProgramFailure<'w>>
         ensures { IfErr result IsRefusedRequest }
     {
         if self.has_ended || word == "-" || !word.starts_with('-') {
@@ -421,7 +433,7 @@ impl<'w> Words<'w> {
     }
 
     /// Takes a word. One that asks for a page ends the reading.
-    fn take(&mut self, program: &Program, word: &'w str) -> Result<Option<Page>, Failure<'w>>
+    fn take(&mut self, program: &Program, word: &'w str) -> Result<Option<Page>, ProgramFailure<'w>>
         ensures { IfErr result IsRefusedRequest }
     {
         let Some(valued) = self.options.awaits else {
@@ -442,7 +454,7 @@ impl<'w> Words<'w> {
     }
 
     /// Takes the words after the files as functions.
-    fn take_functions(&mut self) -> Result<(), Failure<'w>>
+    fn take_functions(&mut self) -> Result<(), ProgramFailure<'w>>
         ensures { IfErr result IsRefusedRequest }
     {
         let files = self.file_count();
@@ -595,12 +607,12 @@ impl<'w> Words<'w> {
     }
 
     /// What the words ask for.
-    fn task(mut self, program: &Program) -> Result<Task<'w>, Failure<'w>>
+    fn task(mut self, program: &Program) -> Result<Task<'w>, ProgramFailure<'w>>
         ensures task { IfOk result (IsTaskOf program.now) }
         ensures refused { IfErr result IsRefusedRequest }
     {
         let Some(input) = self.operands.first().copied() else {
-            return Err(Failure::UsageError(UsageError::NoInput));
+            return Err(ProgramFailure::UsageError(UsageError::NoInput));
         };
         match self.take_functions() {
             Ok(()) => {}
@@ -608,7 +620,7 @@ impl<'w> Words<'w> {
         }
         let lists = self.lists();
         match self.fault(program, lists) {
-            Some(fault) => Err(Failure::UsageError(fault)),
+            Some(fault) => Err(ProgramFailure::UsageError(fault)),
             None => Ok(self.into_task(input, lists)),
         }
     }
@@ -623,7 +635,7 @@ pub fn read_arguments<'w>(
     alloc: Global,
     program: &Program,
     words: &'w [String],
-) -> Result<Request<'w>, Failure<'w>>
+) -> Result<Request<'w>, ProgramFailure<'w>>
     ensures request { IfOk result (IsRequestOf program.now) }
     ensures refused { IfErr result IsRefusedRequest }
 {

@@ -1,6 +1,6 @@
 //! Whether the files of source maps are others than all that are read and written.
 
-use crate::ending::Failure;
+use crate::ending::ProgramFailure;
 use crate::places::{Written, check_stdout, place_of};
 use crate::program::{MapPaths, Task};
 use crate::usage_error::UsageError;
@@ -57,20 +57,23 @@ impl<'w> Two<'w> {
     }
 
     /// Checks that they are two, if both are asked for.
-    fn check<R: Files + AllocGlobal>(self, rt: &R) -> Result<(), Failure<'w>> {
+    fn check<R: Files + AllocGlobal>(self, rt: &R) -> Result<(), ProgramFailure<'w>> {
         let (Some(written), Some(other)) = (self.written, self.other) else {
             return Ok(());
         };
         match is_one_file(rt, written, other, self.are_written) {
             Ok(false) => Ok(()),
-            Ok(true) => Err(Failure::UsageError(UsageError::SameFile(written, other))),
-            Err(_) => Err(Failure::Memory),
+            Ok(true) => Err(ProgramFailure::UsageError(UsageError::SameFile(written, other))),
+            Err(_) => Err(ProgramFailure::Memory),
         }
     }
 }
 
 /// Checks that each two of these are two.
-fn check_all<'w, R: Files + AllocGlobal>(rt: &R, all: &[Two<'w>]) -> Result<(), Failure<'w>> {
+fn check_all<'w, R: Files + AllocGlobal>(
+    rt: &R,
+    all: &[Two<'w>],
+) -> Result<(), ProgramFailure<'w>> {
     for two in all {
         match two.check(rt) {
             Ok(()) => {}
@@ -97,7 +100,7 @@ fn check_streams<'w>(
     rt: &impl Files,
     task: &Task<'w>,
     paths: MapPaths<'w>,
-) -> Result<(), Failure<'w>> {
+) -> Result<(), ProgramFailure<'w>> {
     match check_stdout(rt, paths.output) {
         Ok(()) => {}
         Err(failure) => return Err(failure),
@@ -118,12 +121,12 @@ fn check_streams<'w>(
 pub(crate) fn check_source_maps<'w, R: Files + AllocGlobal>(
     rt: &R,
     task: &Task<'w>,
-) -> Result<(), Failure<'w>> {
+) -> Result<(), ProgramFailure<'w>> {
     let Some(paths) = task.source_map else {
         return Ok(());
     };
     if paths.input == "-" && task.input == "-" {
-        return Err(Failure::UsageError(UsageError::SameFile(paths.input, task.input)));
+        return Err(ProgramFailure::UsageError(UsageError::SameFile(paths.input, task.input)));
     }
     match check_all(rt, &pairs(task, paths)) {
         Ok(()) => check_streams(rt, task, paths),

@@ -1,6 +1,6 @@
 //! The source map of a module that is written: its mappings follow the operators.
 
-use crate::ending::{Attempt, Failure};
+use crate::ending::{Attempt, ProgramFailure};
 use crate::files::read_file;
 use crate::locks::LockFiles;
 use crate::program::Task;
@@ -99,14 +99,14 @@ impl<M: Write> MapSink for MovesAndLines<'_, M> {
 pub(crate) fn read_source_map<'w, R: Files + Input + AllocGlobal>(
     rt: &R,
     path: &'w str,
-) -> Result<SourceMap, Failure<'w>> {
+) -> Result<SourceMap, ProgramFailure<'w>> {
     let bytes = match read_file(rt, path) {
         Ok(bytes) => bytes,
         Err(failure) => return Err(failure),
     };
     match SourceMap::read(rt.alloc(), &bytes) {
         Ok(map) => Ok(map),
-        Err(error) => Err(Failure::source_map(rt.alloc(), path, error)),
+        Err(error) => Err(ProgramFailure::source_map(rt.alloc(), path, error)),
     }
 }
 
@@ -122,14 +122,14 @@ fn write_text<'w, R: LockFiles + Print + AllocGlobal + Drop>(
     task: &Task<'w>,
     path: &'w str,
     text: &[u8],
-) -> Result<(), Failure<'w>> {
+) -> Result<(), ProgramFailure<'w>> {
     let mut target = match create_target(rt, task, path) {
         Ok(target) => target,
         Err(failure) => return Err(failure),
     };
     let written = match target.write_all(text) {
         Ok(()) => Ok(()),
-        Err(error) => Err(Failure::file(path, Attempt::Write, error)),
+        Err(error) => Err(ProgramFailure::file(path, Attempt::Write, error)),
     };
     target.end(written)
 }
@@ -140,12 +140,12 @@ pub(crate) fn write_source_map<'w, R: LockFiles + Print + AllocGlobal + Drop>(
     task: &Task<'w>,
     source: &Option<SourceMap>,
     moves: &Moves,
-) -> Result<(), Failure<'w>> {
+) -> Result<(), ProgramFailure<'w>> {
     let (Some(map), Some(paths)) = (source, task.source_map) else {
         return Ok(());
     };
     match moved_text(rt.alloc(), map, &moves.list) {
         Ok(text) => write_text(rt, task, paths.output, &text),
-        Err(_) => Err(Failure::Memory),
+        Err(_) => Err(ProgramFailure::Memory),
     }
 }

@@ -114,7 +114,7 @@ fn write_digit(out: &mut Vec<u8>, value: u8) -> Result<(), AllocError>
 }
 
 /// Appends a number, with at most `more` digits before the last.
-#[tactic(auto, using(crate::proofs::Appending::appending), unfolding(crate::specs::Shortest::short_number))]
+#[tactic(auto, using(crate::proofs::Appending::appending), unfolding(crate::specs::Shortest::shortest_digits))]
 fn write_number(out: &mut Vec<u8>, more: u32, number: u64) -> Result<(), AllocError>
     ensures { OnOk result (out.new.items ≡ out.old.items ++ shortest_digits more number) }
 {

@@ -10,7 +10,7 @@ use Rattle.wrewrite_c.specs.declared.options.Options.{Options}
 use Rattle.wrewrite_c.specs.declared.outcome.Outcome.{Outcome}
 use Rattle.wrewrite_c.specs.declared.outcome.Named.{Named}
 use Rattle.wrewrite_c.specs.declared.outcome.Named.TheVariants.{One, None as NoneNamed, Several}
-use Rattle.wrewrite_c.specs.declared.outcome.Refusal.{Refusal}
+use Rattle.wrewrite_c.specs.declared.outcome.RefusedModule.{RefusedModule}
 use Rattle.wrewrite_c.specs.declared.outcome.Stop.{Stop}
 use Rattle.wrewrite_c.specs.declared.outcome.Stop.TheVariants.{Refused, NoFunction}
 use Rattle.wrewrite_c.specs.Made.{is_among}
@@ -47,14 +47,14 @@ IsStatusOf fault status = (fault ≡ Memory → status ≡ 4) × (fault ≢ Memo
 abbrev pub IsPlaceOf : ModuleError → (place : ℕ) → Type 0
 IsPlaceOf error place = error.fault ≢ Memory → error.fault ≢ TooGreat → place ≡ error.at
 
-pub record HasRefusal (r : Refusal) (o : Outcome) : Type 0 where
+pub record IsOfRefused (r : RefusedModule) (o : Outcome) : Type 0 where
   pub status : IsStatusOf r.error.fault o.status
   pub place : IsPlaceOf r.error o.place
   pub function : MatchOption r.function (o.function ≡ no_index) (λ index. o.function ≡ index)
 
 -- the outcome for what stopped a call: 2 where a function is named that has no body
 abbrev pub IsStopped : Stop → Outcome → Type 0
-IsStopped (Refused r) o = HasRefusal r o
+IsStopped (Refused r) o = IsOfRefused r o
 IsStopped (NoFunction index) o = (o.status ≡ 2) × (o.function ≡ index)
 
 -- It is the module that is refused, or memory ran out.

@@ -6,7 +6,7 @@ ghost use Rattle.wasm_module.specs.RewrittenCode.{Extends};
 ghost use Rattle.wasm_module.specs.Refusals.{IsRefusedBody};
 ghost use Rattle.wrewrite_c.specs.Outcomes.{IsOfCheck};
 
-use crate::outcome::{Refusal, Stop};
+use crate::outcome::{RefusedModule, Stop};
 use crate::reading::read;
 use std::alloc::Global;
 use wasm_module::{Body, ModuleError, ParsedModule, Scratch};
@@ -40,7 +40,7 @@ fn check_bodies(
             continue;
         }
         if let Some(error) = fault_of(parsed, body, scratch) {
-            return Err(Stop::Refused(Refusal {
+            return Err(Stop::Refused(RefusedModule {
                 error,
                 function: Some(body.func),
             }));

@@ -11,7 +11,7 @@ ghost use Rattle.wrewrite_c.specs.Outcomes.{IsOfModule, IsMissing, IsMissingIn, 
 
 use crate::made::Made;
 use crate::options::Options;
-use crate::outcome::{Refusal, Stop};
+use crate::outcome::{RefusedModule, Stop};
 use crate::reading::read;
 use crate::stripping::strip;
 use crate::warnings::warnings_of;
@@ -43,7 +43,7 @@ fn stop_of(parsed: &ParsedModule<'_>, error: ModuleError) -> Stop
         ModuleFault::ObjectFile => None,
         _ => function_at(parsed, error.at),
     };
-    Stop::Refused(Refusal { error, function })
+    Stop::Refused(RefusedModule { error, function })
 }
 
 /// Writes a module, and its location map where that is wanted.

@@ -1,7 +1,7 @@
 //! How calls end.
 
 ghost use Rattle.std.specs.Prelude.{◌≡◌, MatchOption};
-ghost use Rattle.wrewrite_c.specs.Outcomes.{no_index, HasSizes, IsStatusOf, IsPlaceOf, IsOfNamed, IsStopped, HasRefusal};
+ghost use Rattle.wrewrite_c.specs.Outcomes.{no_index, HasSizes, IsStatusOf, IsPlaceOf, IsOfNamed, IsStopped, IsOfRefused};
 
 use std::fmt;
 use std::io::Write;
@@ -59,7 +59,7 @@ pub struct Outcome {
 
 /// A fault, and the index of the function that it is in, if it is in one.
 #[derive(Clone, Copy)]
-pub(crate) struct Refusal {
+pub(crate) struct RefusedModule {
     pub error: ModuleError,
     pub function: Option<usize>,
 }
@@ -79,14 +79,14 @@ pub(crate) enum Named {
 #[derive(Clone, Copy)]
 pub(crate) enum Stop {
     /// It is refused, or memory ran out.
-    Refused(Refusal),
+    Refused(RefusedModule),
     /// No function with a body has this index.
     NoFunction(usize),
 }
 
 impl Stop {
     /// Memory ran out.
-    pub const MEMORY: Stop = Stop::Refused(Refusal {
+    pub const MEMORY: Stop = Stop::Refused(RefusedModule {
         error: ModuleError {
             fault: ModuleFault::Memory,
             at: 0,
@@ -124,7 +124,7 @@ fn index_of(function: Option<usize>) -> usize
     }
 }
 
-impl Refusal {
+impl RefusedModule {
     /// The status of its outcome.
     fn status(&self) -> u32
         ensures { IsStatusOf self.now.error.fault result }
@@ -217,14 +217,14 @@ impl Outcome {
     }
 
     /// Of a call that met a fault.
-    fn of_refusal(refusal: Refusal) -> Outcome
-        ensures refusal { HasRefusal refusal result }
+    fn of_refused(refused: RefusedModule) -> Outcome
+        ensures refused { IsOfRefused refused result }
         ensures sizes { HasSizes 0 0 result }
     {
-        let status = refusal.status();
-        let place = refusal.place();
-        let function = refusal.index();
-        let text = refusal.text();
+        let status = refused.status();
+        let place = refused.place();
+        let function = refused.index();
+        let text = refused.text();
         Outcome {
             status,
             warnings: 0,
@@ -254,7 +254,7 @@ impl Outcome {
         ensures sizes { HasSizes 0 0 result }
     {
         match stop {
-            Stop::Refused(refusal) => Outcome::of_refusal(refusal),
+            Stop::Refused(refused) => Outcome::of_refused(refused),
             Stop::NoFunction(index) => Outcome::of_missing(index),
         }
     }

@@ -3,7 +3,7 @@
 ghost use Rattle.std.specs.Prelude.{◌≡◌, ℕ, List, IfOk, IfErr};
 ghost use Rattle.wrewrite_c.specs.Outcomes.{IsOfCheck, IsOfModule, LacksFunction};
 
-use crate::outcome::{Refusal, Stop};
+use crate::outcome::{RefusedModule, Stop};
 use std::alloc::Global;
 use wasm_module::ParsedModule;
 
@@ -16,7 +16,7 @@ pub(crate) fn read(alloc: Global, source: &[u8]) -> Result<Box<ParsedModule<'_>>
 {
     match ParsedModule::read_in_box(alloc, source) {
         Ok(parsed) => Ok(parsed),
-        Err(error) => Err(Stop::Refused(Refusal {
+        Err(error) => Err(Stop::Refused(RefusedModule {
             error,
             function: None,
         })),

@@ -15,7 +15,8 @@ mod snipping;
 use counting::Count;
 use measuring::run_passes;
 use module_tools::{
-    BUILD, Failure, LockFiles, Terminals, UsageError, VERSION, exit_code, page_code, run, words,
+    BUILD, LockFiles, ProgramFailure, Terminals, UsageError, VERSION, exit_code, page_code, run,
+    words,
 };
 use naming::{Chosen, asked};
 use rewriting::RewriteAll;
@@ -73,7 +74,7 @@ fn print_page(rt: &(impl Print + Eprint), words: &[String]) -> io::Result<ExitCo
     let printed = match requested_page(words) {
         Ok(Page::Help) => println!(rt; "{HELP}"),
         Ok(Page::Version) => println!(rt; "{NAME} {VERSION} ({BUILD})"),
-        Err(wrong) => return Ok(exit_code(rt, NAME, Failure::UsageError(wrong))),
+        Err(wrong) => return Ok(exit_code(rt, NAME, ProgramFailure::UsageError(wrong))),
     };
     Ok(page_code(rt, NAME, printed))
 }

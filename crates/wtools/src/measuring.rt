@@ -3,7 +3,7 @@
 ghost use Rattle.std.specs.Prelude.{◌≤◌, IfOk};
 ghost use Rattle.std.specs.Process.{exit_status};
 
-use module_tools::{Failure, exit_code, read_file, words};
+use module_tools::{ProgramFailure, exit_code, read_file, words};
 use std::alloc::Global;
 use std::io;
 use std::process::ExitCode;
@@ -245,7 +245,7 @@ fn print_measured<R: Print + Eprint + AllocGlobal>(
             Ok(ExitCode::SUCCESS)
         }
         Err(error) => {
-            let failure = Failure::refused(rt.alloc(), task.path, None, &error);
+            let failure = ProgramFailure::refused(rt.alloc(), task.path, None, &error);
             Ok(exit_code(rt, NAME, failure))
         }
     }
