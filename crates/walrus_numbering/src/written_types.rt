@@ -5,8 +5,8 @@ ghost use Rattle.wasm_body.specs.Translation.{translate_heap, translate_value};
 ghost use Rattle.walrus_numbering.specs.NumberMaps.{numbers_of};
 
 use crate::number_maps::NumberMaps;
-use walrus_ir::{HeapType, InstrSeqType, ValType};
-use wasm_body::{EmitError, with_heap_type};
+use walrus_ir::{HeapType, InstrSeqType, RefType, ValType};
+use wasm_body::EmitError;
 use wasm_operators::{BlockType, RawHeapType, RawValType};
 
 /// A heap type with the number of its type, if it is one of the module.
@@ -25,7 +25,25 @@ pub fn value_type(numbers: &NumberMaps<'_>, ty: ValType) -> Result<RawValType, E
     ensures { result
         ≡ translate_value (numbers_in_32_bits (numbers_of numbers.now)).number_of ty }
 {
-    with_heap_type!(ty, referent => heap_type(numbers, referent))
+    match ty {
+        ValType::I32 => Ok(ValType::I32),
+        ValType::I64 => Ok(ValType::I64),
+        ValType::F32 => Ok(ValType::F32),
+        ValType::F64 => Ok(ValType::F64),
+        ValType::V128 => Ok(ValType::V128),
+        ValType::Ref(
+            RefType {
+                nullable,
+                heap_type: referent,
+            },
+        ) => match heap_type(numbers, referent) {
+            Ok(heap_type) => Ok(ValType::Ref(RefType {
+                nullable,
+                heap_type,
+            })),
+            Err(error) => Err(error),
+        },
+    }
 }
 
 /// The block type of a construct whose sequence has this type.

@@ -11,9 +11,10 @@ use crate::body_context::BodyContext;
 use crate::body_errors::body_error;
 use crate::body_writer::Measured;
 use crate::large_bodies::Counter;
+use crate::missing::with_types;
 use crate::parsed::ParsedModule;
 use std::alloc::Global;
-use walrus_body::{EmitError, LocalFunction, ParseError};
+use walrus_body::{EmitError, LocalFunction};
 use walrus_flat::{ByteSink, FlatScratch, rewrite_flat, rewrite_flat_to};
 use walrus_ir::{Instr, InstrLocId};
 use walrus_rewrite::{RewriteError, append_raw_body_with_map, rewrite_body};
@@ -51,14 +52,6 @@ impl Scratch {
             is_same: self.raw.as_slice() == source.bytes(),
         }
     }
-}
-
-/// Whether a body needs a type that the module doesn't have.
-pub(crate) fn needs_type(error: &ModuleError) -> bool {
-    let ModuleFault::Parse(fault) = error.fault else {
-        return false;
-    };
-    fault == ParseError::TypeMissing || fault == ParseError::EntryTypeMissing
 }
 
 /// The list for location pairs, if they are needed.
@@ -129,16 +122,11 @@ impl<'a> ParsedModule<'a> {
         ensures refused { IfErr result
             (IsNotRewritten self.old body.entry.func (body_at body.entry) self.new) }
     {
-        match self.rewrite_flat_once(body, needs_pairs, scratch) {
-            Ok(()) => Ok(()),
-            Err(error) => {
-                if !needs_type(&error) {
-                    return Err(error);
-                }
-                self.add_missing_types(body)?;
-                self.rewrite_flat_once(body, needs_pairs, scratch)
-            }
-        }
+        with_types!(
+            self,
+            body,
+            self.rewrite_flat_once(body, needs_pairs, scratch)
+        )
     }
 
     /// Rewrites a body as `rewrite` does, without its tree: the same bytes, at less cost.
@@ -268,16 +256,7 @@ impl<'a> ParsedModule<'a> {
         ensures refused { IfErr result
             (IsNotRewritten self.old body.entry.func (body_at body.entry) self.new) }
     {
-        match self.measure_flat_once(body, scratch) {
-            Ok(measured) => Ok(measured),
-            Err(error) => {
-                if !needs_type(&error) {
-                    return Err(error);
-                }
-                self.add_missing_types(body)?;
-                self.measure_flat_once(body, scratch)
-            }
-        }
+        with_types!(self, body, self.measure_flat_once(body, scratch))
     }
 
     /// Rewrites a body by its tree, in the module as it is.
@@ -342,16 +321,11 @@ impl<'a> ParsedModule<'a> {
             (IsNotRewritten self.old body.entry.func (body_at body.entry) self.new) }
         ensures instrs { instrs.new.items ≡ [] }
     {
-        match self.rewrite_once(body, needs_pairs, instrs, scratch) {
-            Ok(function) => Ok(function),
-            Err(error) => {
-                if !needs_type(&error) {
-                    return Err(error);
-                }
-                self.add_missing_types(body)?;
-                self.rewrite_once(body, needs_pairs, instrs, scratch)
-            }
-        }
+        with_types!(
+            self,
+            body,
+            self.rewrite_once(body, needs_pairs, instrs, scratch)
+        )
     }
 
     /// Rewrites a body: its declarations of locals and its operators, as
@@ -458,16 +432,7 @@ impl<'a> ParsedModule<'a> {
             (IsRefusedBody self.old body.entry.func (body_at body.entry) self.new) }
         ensures instrs { instrs.new.items ≡ [] }
     {
-        match self.parse_once(body, instrs) {
-            Ok(function) => Ok(function),
-            Err(error) => {
-                if !needs_type(&error) {
-                    return Err(error);
-                }
-                self.add_missing_types(body)?;
-                self.parse_once(body, instrs)
-            }
-        }
+        with_types!(self, body, self.parse_once(body, instrs))
     }
 
     /// Writes the raw body of a function and its location pairs. The function has to be the one

@@ -19,28 +19,45 @@ use crate::changing::kept_bodies::KeptBodies;
 use crate::custom::Followers;
 use crate::parsed::ParsedModule;
 use crate::rewriting::{RewrittenModule, joined, no_bodies, with_size};
+use std::alloc::Global;
 use walrus_body::LocalFunction;
 use walrus_ir::{Instr, InstrLocId};
 use wasm_sections::{Body, Changes, ModuleError, ModuleFault, OmittedSections};
 
+/// Memory that is lent to the change of one function after the other, and the new body of the last.
+#[derive(Drop)]
+struct ChangeMemory {
+    instrs: Vec<(Instr, InstrLocId)>,
+    scratch: Scratch,
+}
+
+impl ChangeMemory {
+    /// An empty one. It allocates nothing.
+    fn new(alloc: Global) -> ChangeMemory {
+        ChangeMemory {
+            instrs: Vec::new(alloc),
+            scratch: Scratch::new(alloc),
+        }
+    }
+}
+
 impl<'a> ParsedModule<'a> {
     /// Parses a body, changes its function and its locals, and puts the raw body of the changed
-    /// one and its location pairs into the scratch.
+    /// one and its location pairs into the memory.
     fn change_function<C: ChangeFunction>(
         &mut self,
         change: &mut C,
         body: Body<'a>,
-        instrs: &mut Vec<(Instr, InstrLocId)>,
-        scratch: &mut Scratch,
+        memory: &mut ChangeMemory,
     ) -> Result<LocalFunction, ModuleError>
         ensures extends { OnOk result (Extends self.old self.new) }
         ensures changed { (source : Parsed) → Extends source self.old → OnOk result
             (IsChanged (C.changes (C.state change.old) (C.state change.new))
-            source body.entry.func (body_at body.entry) scratch.new.raw.items) }
+            source body.entry.func (body_at body.entry) memory.new.scratch.raw.items) }
     {
-        let mut function = self.parse(body, instrs)?;
+        let mut function = self.parse(body, &mut memory.instrs)?;
         change.change(body.func, &mut function, &mut self.module.locals)?;
-        self.write(&function, body.start(), scratch)?;
+        self.write(&function, body.start(), &mut memory.scratch)?;
         Ok(function)
     }
 
@@ -51,8 +68,7 @@ impl<'a> ParsedModule<'a> {
         change: &mut C,
         body: Body<'a>,
         followers: &mut Followers<'a>,
-        instrs: &mut Vec<(Instr, InstrLocId)>,
-        scratch: &mut Scratch,
+        memory: &mut ChangeMemory,
         kept: &mut KeptBodies<'a>,
     ) -> Result<Measured, ModuleError>
         ensures extends { OnOk result (Extends self.old self.new) }
@@ -61,10 +77,10 @@ impl<'a> ParsedModule<'a> {
             source body.entry kept.old kept.new) }
     {
         let _needed = followers.reach(body.func)?;
-        let function = self.change_function(change, body, instrs, scratch)?;
-        followers.pass(self, body, &function, scratch)?;
-        kept.keep(self.alloc, body, scratch)?;
-        Ok(with_size(scratch.measured(body)))
+        let function = self.change_function(change, body, memory)?;
+        followers.pass(self, body, &function, &memory.scratch)?;
+        kept.keep(self.alloc, body, &memory.scratch)?;
+        Ok(with_size(memory.scratch.measured(body)))
     }
 
     /// Changes the functions of all bodies. Returns the new bodies, and what the contents of the code
@@ -80,12 +96,10 @@ impl<'a> ParsedModule<'a> {
     {
         let count = self.body_count();
         let mut kept = KeptBodies::new(self.alloc, self.imported(), count)?;
-        let mut instrs = Vec::new(self.alloc);
-        let mut scratch = Box::new(self.alloc, Scratch::new(self.alloc))?;
+        let mut memory = Box::new(self.alloc, ChangeMemory::new(self.alloc))?;
         let mut code = no_bodies(count);
         'bodies: for body in self.bodies() {
-            let (instrs, scratch) = (&mut instrs, &mut scratch);
-            let more = self.change_body(change, body, followers, instrs, scratch, &mut kept)?;
+            let more = self.change_body(change, body, followers, &mut memory, &mut kept)?;
             code = joined(code, more);
         }
         if kept.len() != count {

@@ -5,9 +5,10 @@ ghost use Rattle.wasm_sections.specs.CodeSections.{body_at};
 ghost use Rattle.wasm_module.specs.RewrittenCode.{Extends, IsAccepted};
 ghost use Rattle.wasm_module.specs.Refusals.{IsRefusedBody};
 
-use crate::bodies::{Scratch, needs_type};
+use crate::bodies::Scratch;
 use crate::body_context::BodyContext;
 use crate::body_errors::body_error;
+use crate::missing::with_types;
 use crate::parsed::ParsedModule;
 use walrus_flat::check_flat;
 use walrus_rewrite::RewriteError;
@@ -56,15 +57,6 @@ impl<'a> ParsedModule<'a> {
         ensures refused { IfErr result
             (IsRefusedBody self.old body.entry.func (body_at body.entry) self.new) }
     {
-        match self.check_once(body, scratch) {
-            Ok(()) => Ok(()),
-            Err(error) => {
-                if !needs_type(&error) {
-                    return Err(error);
-                }
-                self.add_missing_types(body)?;
-                self.check_once(body, scratch)
-            }
-        }
+        with_types!(self, body, self.check_once(body, scratch))
     }
 }

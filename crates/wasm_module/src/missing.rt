@@ -8,10 +8,37 @@ ghost use Rattle.wasm_module.specs.RewrittenCode.{Extends};
 
 use crate::custom::labels::opened;
 use crate::parsed::ParsedModule;
-use walrus_body::value_type;
+use walrus_body::{ParseError, value_type};
 use walrus_ir::{InstrSeqType, TypeId, ValType};
 use wasm_ops::{BlockType, Operator, Reader};
-use wasm_sections::{Body, ModuleError};
+use wasm_sections::{Body, ModuleError, ModuleFault};
+
+/// Whether a body needs a type that the module doesn't have.
+pub(crate) fn needs_type(error: &ModuleError) -> bool {
+    let ModuleFault::Parse(fault) = error.fault else {
+        return false;
+    };
+    fault == ParseError::TypeMissing || fault == ParseError::EntryTypeMissing
+}
+
+/// What a call for a body returns. If it fails since the module lacks a type that the body needs, the
+/// types are added, and it is called once more.
+macro_rules! with_types {
+    ($parsed:ident, $body:ident, $call:expr) => {
+        match $call {
+            Ok(made) => Ok(made),
+            Err(error) => {
+                if !$crate::missing::needs_type(&error) {
+                    return Err(error);
+                }
+                $parsed.add_missing_types($body)?;
+                $call
+            }
+        }
+    };
+}
+
+pub(crate) use with_types;
 
 impl<'a> ParsedModule<'a> {
     /// The parameters of functions of this type; none if it isn't a function type.

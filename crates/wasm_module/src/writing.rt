@@ -140,48 +140,46 @@ fn put_between<W: Write>(
     Ok(end)
 }
 
+/// A body of the source, and how it is written.
+#[derive(Clone, Copy)]
+struct BodyToWrite<'m, 'a, B> {
+    from: Body<'a>,
+    writer: &'m B,
+}
+
 impl<'a> ParsedModule<'a> {
-    /// Writes a large body of so many bytes in pieces, from this place on.
+    /// Writes a large body in pieces, from this place on. Returns how many bytes were written.
     fn put_in_pieces<B: BodyWriter, T: MapSink, W: Write>(
         &mut self,
-        bodies: &B,
-        body: Body<'a>,
+        body: &BodyToWrite<'_, 'a, B>,
         scratch: &mut Scratch,
         sink: &mut T,
         start: usize,
-        len: usize,
         out: &mut W,
-    ) -> Result<(), WriteError>
+    ) -> Result<usize, WriteError>
         ensures extends { OnOk result (Extends self.old self.new) }
         ensures written { (source : Parsed) → Extends source self.old
-            → OnOk result ((raw : List ℕ)
-            × B.writes bodies.now source body.entry.func (body_at body.entry) raw
+            → IfOk result (λ len. (raw : List ℕ)
+            × B.writes body.now.writer.now source body.now.from.func (body_at body.now.from) raw
             × (len ≡ length raw)
             × Appends (W.contents out.old) (W.contents out.new) raw) }
     {
+        let BodyToWrite { from, writer } = *body;
         let needs_pairs = sink.needs_pairs();
         let mut output = BodyOutput {
             listener: sink,
             out,
-            places: (body.start(), start),
+            places: (from.start(), start),
             len: 0,
             error: None,
         };
-        let written = bodies.write_large_body(self, body, needs_pairs, scratch, &mut output);
-        let BodyOutput {
-            len: count,
-            error,
-            ..
-        } = output;
+        let written = writer.write_large_body(self, from, needs_pairs, scratch, &mut output);
+        let BodyOutput { len, error, .. } = output;
         if let Some(error) = error {
             return Err(WriteError::Io(error));
         }
         match written {
-            Ok(()) if count == len => Ok(()),
-            Ok(()) => Err(WriteError::from(ModuleError {
-                fault: ModuleFault::InconsistentChange,
-                at: body.start(),
-            })),
+            Ok(()) => Ok(len),
             Err(error) => Err(WriteError::from(error)),
         }
     }
@@ -189,8 +187,7 @@ impl<'a> ParsedModule<'a> {
     /// Writes the size of a large body, which is counted first, and the body in pieces.
     fn put_large_body<B: BodyWriter, T: MapSink, W: Write>(
         &mut self,
-        bodies: &B,
-        body: Body<'a>,
+        body: &BodyToWrite<'_, 'a, B>,
         scratch: &mut Scratch,
         sink: &mut T,
         at: usize,
@@ -199,26 +196,31 @@ impl<'a> ParsedModule<'a> {
         ensures extends { OnOk result (Extends self.old self.new) }
         ensures written { (source : Parsed) → Extends source self.old
             → IfOk result (λ end. (raw : List ℕ)
-            × B.writes bodies.now source body.entry.func (body_at body.entry) raw
+            × B.writes body.now.writer.now source body.now.from.func (body_at body.now.from) raw
             × Puts (W.contents out.old) (W.contents out.new) at end (entry raw)) }
     {
-        let measured = bodies.measure_large_body(self, body, scratch)?;
+        let measured = body.writer.measure_large_body(self, body.from, scratch)?;
         let start = put_number(self.alloc, measured.len, at, out)?;
-        let old_start = body.start();
+        let old_start = body.from.start();
         sink.record_body(WrittenBody {
             old_start,
             start,
             pairs: &[],
         })?;
-        self.put_in_pieces(bodies, body, scratch, sink, start, measured.len, out)?;
-        place_after(start, measured.len)
+        let len = self.put_in_pieces(body, scratch, sink, start, out)?;
+        if len != measured.len {
+            return Err(WriteError::from(ModuleError {
+                fault: ModuleFault::InconsistentChange,
+                at: old_start,
+            }));
+        }
+        place_after(start, len)
     }
 
     /// Writes the size of a body, and the body.
     fn put_body<B: BodyWriter, T: MapSink, W: Write>(
         &mut self,
-        bodies: &B,
-        body: Body<'a>,
+        body: &BodyToWrite<'_, 'a, B>,
         scratch: &mut Scratch,
         sink: &mut T,
         at: usize,
@@ -227,17 +229,17 @@ impl<'a> ParsedModule<'a> {
         ensures extends { OnOk result (Extends self.old self.new) }
         ensures written { (source : Parsed) → Extends source self.old
             → IfOk result (λ end. (raw : List ℕ)
-            × B.writes bodies.now source body.entry.func (body_at body.entry) raw
+            × B.writes body.now.writer.now source body.now.from.func (body_at body.now.from) raw
             × Puts (W.contents out.old) (W.contents out.new) at end (entry raw)) }
     {
-        if body.is_large() {
-            return self.put_large_body(bodies, body, scratch, sink, at, out);
+        if body.from.is_large() {
+            return self.put_large_body(body, scratch, sink, at, out);
         }
         let needed = Needed::pairs_if(sink.needs_pairs());
-        bodies.write_body(self, body, needed, scratch)?;
+        body.writer.write_body(self, body.from, needed, scratch)?;
         let raw = scratch.raw.as_slice();
         let start = put_number(self.alloc, raw.len(), at, out)?;
-        let old_start = body.start();
+        let old_start = body.from.start();
         let pairs = scratch.pairs.as_slice();
         sink.record_body(WrittenBody {
             old_start,
@@ -272,10 +274,12 @@ impl<'a> ParsedModule<'a> {
         let (more, added) = rewritten.changes.added_bodies()?;
         let mut end = put_number(self.alloc, count as usize + more as usize, at, out)?;
         'bodies: for _ in 0..count {
-            let Some(body) = source.next() else {
+            let Some(from) = source.next() else {
                 return Err(WriteError::from(section.contents.fault(ModuleFault::BodyCount)));
             };
-            end = self.put_body(&rewritten.bodies, body, &mut scratch, sink, end, out)?;
+            let writer = &rewritten.bodies;
+            let body = BodyToWrite { from, writer };
+            end = self.put_body(&body, &mut scratch, sink, end, out)?;
         }
         source.finish()?;
         put(added, end, out)

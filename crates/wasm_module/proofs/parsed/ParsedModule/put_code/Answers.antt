@@ -27,7 +27,7 @@ bodies-preserved g c =
       extends = extends_then c.args.self.now at.self c.put_body.new.self at.invariant.extends c.in_ok-end-2.ensures.extends;
       so_far = λ source e.
           let w = c.in_ok-end-2.ensures.written source (extends_then source c.args.self.now at.self e at.invariant.extends) in
-          one_more_body (g.B.BodyWriter.writes c.args.rewritten.now.bodies) source c.args.section.now.contents.end c.in_ok-count.source.left.rest.now at.source c.next.new.self c.next.result c.in-Some.body
+          one_more_body (g.B.BodyWriter.writes c.args.rewritten.now.bodies) source c.args.section.now.contents.end c.in_ok-count.source.left.rest.now at.source c.next.new.self c.next.result c.in-Some.from
           at.counter (c.in_ok-count.count + c.in_ok-more.more) (contents c.args.out.now) (contents at.out) (contents c.put_body.new.out) c.args.at at.end c.in_ok-end-2.end w.0
           (at.invariant.so_far source e) c.in-Some.is c.next.ensures.steps w.1 w.2;
     }

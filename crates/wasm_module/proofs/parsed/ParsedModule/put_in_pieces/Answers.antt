@@ -7,5 +7,4 @@ returns-in-Ok-clause-written g c = λ source e.
     let name = made.2.0 in
     let appends = made.2.1 in
     let count = made.2.2 in
-    let same = c.if-count-len.true in
-    (made.0.bytes, made.1, omega (arith, count, same), search rules)
+    (made.0.bytes, made.1, omega (arith, count), search rules)
