@@ -1,14 +1,13 @@
 //! What the body of a function is (WebAssembly core specification 3.0): the bytes that are accepted
-//! as one, the tree that represents it, the text and the bytes of a tree, what a body executes, and
-//! what is written of it operator by operator, without a tree. This crate has definitions and laws,
-//! the errors that the definitions name, and a macro for types whose numbers become others.
+//! as one, the tree that represents it, the text and the bytes of a tree, and what a body executes;
+//! and what is written of a body, operator by operator, without its tree. This crate has definitions
+//! and laws, and the errors that the definitions name.
 #![tactic(auto)]
 
 mod error;
 mod flat_laws;
 mod laws;
 mod names;
-mod types;
 
 pub use error::{EmitError, IndexError, ParseError, ParseFailure};
 pub use flat_laws::law_flat;

@@ -227,7 +227,7 @@ module _ (A B : Type 0) (f : A → B) where
       ∙ straight_moved (bounded_run length t) (bounded_run length t) (from_moved t) (length r) r ls o
 
 -- the run of operators with other values shown
-run_moved : {A B : Type 0} → (f : A → B) (xs : List (Marked A)) (outcomes : List Outcome) (turns : ℕ)
+pub run_moved : {A B : Type 0} → (f : A → B) (xs : List (Marked A)) (outcomes : List Outcome) (turns : ℕ)
     → run (map (map_mark f) xs) outcomes turns ≡ show_run f (run xs outcomes turns)
 run_moved f xs o t = from_moved _ _ f t xs [] o
 

@@ -4,7 +4,7 @@ ghost use Rattle.wasm_types.specs.declared.val_type.ValType.{ValType as ValueTyp
 ghost use Rattle.walrus_ir.specs.Types.{find};
 ghost use Rattle.wasm_operators.specs.declared.types.Space.TheVariants.{Types};
 ghost use Rattle.wasm_operators.specs.Shortest.{short_value};
-ghost use Rattle.wasm_body.specs.Translation.{translate_heap, translate_value};
+ghost use Rattle.wasm_body.specs.Translation.{translate_value};
 ghost use Rattle.walrus_maps.specs.IndexMaps.{number_of, with_next_number};
 ghost use Rattle.wasm_sections.specs.Additions.{AreUnchanged};
 ghost use Rattle.wasm_module.specs.AddedItems.{IsWrittenTypes, IsWrittenFunctionType, AddsFunctionType, HasFunctionType};
@@ -12,36 +12,48 @@ ghost use Rattle.wasm_module.specs.RewrittenCode.{Extends};
 ghost use Rattle.wasm_sections.specs.Sections.{SectionAt, IsModule};
 
 use crate::parsed::ParsedModule;
-use walrus_ir::{HeapType, TypeId, ValType};
-use wasm_body::with_heap_type;
+use walrus_ir::{HeapType, RefType, TypeId, ValType};
 use wasm_encode::write_value_type;
-use wasm_ops::{RawHeapType, RawValType};
+use wasm_ops::RawValType;
 use wasm_sections::{Changes, ModuleError, SectionKind, write_number};
 
 /// The first byte of a function type.
 const FUNCTION: u8 = 0x60;
 
 impl<'a> ParsedModule<'a> {
-    /// A heap type with the index of the type that it names; `TooGreat` if that has none.
-    fn raw_heap_type(&self, ty: HeapType) -> Result<RawHeapType, ModuleError>
-        ensures { IfOk result
-            (λ raw. translate_heap (number_of self.now.spaces.numbers) ty ≡ Ok raw) }
-    {
-        match ty {
-            HeapType::Abstract(ty) => Ok(HeapType::Abstract(ty)),
-            HeapType::Concrete(id) => match self.spaces.numbers.get_type_index(id) {
-                Ok(index) => Ok(HeapType::Concrete(index)),
-                Err(error) => Err(ModuleError::of_index(error, 0)),
-            },
-        }
-    }
-
     /// A value type with the index of the type that it names; `TooGreat` if that has none.
     fn raw_type(&self, ty: ValType) -> Result<RawValType, ModuleError>
         ensures { IfOk result
             (λ raw. translate_value (number_of self.now.spaces.numbers) ty ≡ Ok raw) }
     {
-        with_heap_type!(ty, heap_type => self.raw_heap_type(heap_type))
+        match ty {
+            ValType::I32 => Ok(ValType::I32),
+            ValType::I64 => Ok(ValType::I64),
+            ValType::F32 => Ok(ValType::F32),
+            ValType::F64 => Ok(ValType::F64),
+            ValType::V128 => Ok(ValType::V128),
+            ValType::Ref(
+                RefType {
+                    nullable,
+                    heap_type: HeapType::Abstract(heap),
+                },
+            ) => Ok(ValType::Ref(RefType {
+                nullable,
+                heap_type: HeapType::Abstract(heap),
+            })),
+            ValType::Ref(
+                RefType {
+                    nullable,
+                    heap_type: HeapType::Concrete(id),
+                },
+            ) => match self.spaces.numbers.get_type_index(id) {
+                Ok(index) => Ok(ValType::Ref(RefType {
+                    nullable,
+                    heap_type: HeapType::Concrete(index),
+                })),
+                Err(error) => Err(ModuleError::of_index(error, 0)),
+            },
+        }
     }
 
     /// Appends a value type; `TooGreat` if it names a type without an index.
