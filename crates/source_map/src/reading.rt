@@ -14,7 +14,7 @@ use crate::number::{read_column, read_field};
 use std::alloc::Global;
 
 /// The name at the end of a segment, if it has one.
-#[tactic(auto, unfolding(crate::specs::Reading::name_at))]
+#[tactic(auto, unfolding(crate::specs::Reading::original_name_at))]
 fn read_name(before: u32, text: &[u8]) -> Result<Option<u32>, MappingsFault>
     ensures { Gives (λ x. x) result (original_name_at before text.now) }
 {

@@ -2,7 +2,7 @@
 //! and the new contents of custom sections, before anything is written. (`changing` is that of a
 //! module whose functions are changed.)
 
-ghost use Rattle.std.specs.Prelude.{◌≡◌, List, [], true, false, OnOk, OnErr, IfOk, IfSome, IfNone};
+ghost use Rattle.std.specs.Prelude.{◌≡◌, List, [], not, true, false, OnOk, OnErr, IfOk, IfSome, IfNone};
 ghost use Rattle.wasm_sections.specs.Omissions.{OmitsNothing, OmitsAlso, KeepsAlso, OmitsSame};
 ghost use Rattle.wasm_sections.specs.Sections.{SectionAt, IsModule, Each, section_at};
 ghost use Rattle.wasm_module.specs.RewrittenCode.{Extends};
@@ -182,14 +182,21 @@ impl<'a, B> RewrittenModule<'a, B> {
 
     /// Whether the contents of the code section that is written are others than the source's, so that
     /// what says where code is among them (as debug information does) is out of date.
-    pub fn changes_code(&self) -> bool {
+    pub fn changes_code(&self) -> bool
+        ensures { result ≡ not self.now.code.is_same }
+    {
         !self.code.is_same
     }
 
     /// Whether operators may be at other places of the file than in the source, so that what says
     /// where they are (as a source map does) is out of date. It is true also where another section is
     /// given new contents or is left out.
-    pub fn moves_code(&self) -> bool {
+    pub fn moves_code(&self) -> bool
+        ensures same { result ≡ false → self.now.code.is_same ≡ true }
+        ensures in_place { result ≡ false → self.now.code.is_in_place ≡ true }
+        ensures none_given { result ≡ false → self.now.changes.given.items ≡ [] }
+        ensures none_omitted { result ≡ false → OmitsNothing self.now.omitted }
+    {
         self.changes_code()
             || !self.code.is_in_place
             || !self.changes.given.is_empty()

@@ -31,13 +31,16 @@ abbrev pub texts_of : List (Bor (List ℕ)) → List (List ℕ)
 texts_of [] = []
 texts_of (n ∷ ns) = n.now ∷ texts_of ns
 
--- Whether a section with this name is left out: not where it is kept by its name; else if all are, or those with this name, or
--- if it has what is left out.
+-- Whether sections with this name are chosen: all are, or those with this name, or those with debug information or with the place
+-- of a source map, if its name says that it contains this.
+abbrev pub is_chosen : OmittedSections → (name : List ℕ) → Bool
+is_chosen o name =
+    o.is_all || (has_name (texts_of o.named.items) name
+    || ((o.is_debug && names_debug name) || (o.is_source_map_url && names_source_map name)))
+
+-- Whether a section with this name is left out: it is chosen, and not kept by its name.
 abbrev pub omits_name : OmittedSections → (name : List ℕ) → Bool
-omits_name o name =
-    not (has_name (texts_of o.kept.items) name)
-    && (o.is_all || (has_name (texts_of o.named.items) name
-    || ((o.is_debug && names_debug name) || (o.is_source_map_url && names_source_map name))))
+omits_name o name = not (has_name (texts_of o.kept.items) name) && is_chosen o name
 
 -- No section is left out.
 abbrev pub OmitsNothing : OmittedSections → Type 0

@@ -1,8 +1,8 @@
 //! Which custom sections are left out of a module that is written, by their names.
 
-ghost use Rattle.std.specs.Prelude.{◌≡◌, eqb, false, OnOk, OnErr};
+ghost use Rattle.std.specs.Prelude.{◌≡◌, ℕ, List, eqb, true, false, OnOk, OnErr};
 ghost use Rattle.std.specs.List.{starts_with};
-ghost use Rattle.wasm_sections.specs.Omissions.{texts_of, has_name, omits_name, OmitsNothing, OmitsAlso, KeepsAlso, OmitsSame, names_debug, names_object, names_source_map};
+ghost use Rattle.wasm_sections.specs.Omissions.{texts_of, has_name, is_chosen, omits_name, OmitsNothing, OmitsAlso, KeepsAlso, OmitsSame, names_debug, names_object, names_source_map};
 
 use std::alloc::{AllocError, Global};
 
@@ -100,9 +100,11 @@ impl<'a> OmittedSections<'a> {
         self.is_source_map_url && names_source_map(name)
     }
 
-    /// Whether some section may be left out: false only if none is.
+    /// Whether sections with some name are chosen, so that they are left out if they aren't kept; none is
+    /// left out otherwise.
     pub fn may_omit(&self) -> bool
-        ensures { result ≡ false → OmitsNothing self.now }
+        ensures none { result ≡ false → OmitsNothing self.now }
+        ensures some { result ≡ true → (name : List ℕ) × (is_chosen self.now name ≡ true) }
     {
         self.is_all || self.is_debug || self.is_source_map_url || !self.named.is_empty()
     }
