@@ -152,7 +152,7 @@ module _ (old : Writer) (x : Listed) (location : ℕ) where
         goes h mid.«open» (ap flat_state_of (same_open h) ∙ ((λ i. flat_state (mode_of (live i)) (opens_of old.«open»)) ∙ ap (λ d. flat_state (mode_if d) (opens_of old.«open»)) (sym alive)))
 
     -- or code is unreachable
-    pub cuts : WritesCommon old mid (meaning x) location true → makes_unreachable x ≡ true → WritesAtOnce old (record mid { «open» = record mid.«open» { next = next.Unreachable } }) x location true
-    cuts h unreachable =
+    pub ends_reachable : WritesCommon old mid (meaning x) location true → makes_unreachable x ≡ true → WritesAtOnce old (record mid { «open» = record mid.«open» { next = next.Unreachable } }) x location true
+    ends_reachable h unreachable =
         goes h (record mid.«open» { next = next.Unreachable })
         ((λ i. flat_state (mode_of next.Unreachable) (opens_of (same_open h i))) ∙ ap (λ d. flat_state (mode_if d) (opens_of old.«open»)) (sym unreachable))

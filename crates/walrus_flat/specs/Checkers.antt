@@ -157,7 +157,7 @@ pub record NamesLocal (old new : Checker) (index : ℕ) : Type 0 where
 abbrev pub RefusesLocal : Checker → ℕ → ParseError → Type 0
 RefusesLocal old index e = (e ≡ Memory) ⊎ (with_fault Index ((env_of_checker old).local_of index) ≡ Err e)
 
--- An operator by itself is checked; what follows it is unreachable if it cuts.
+-- An operator by itself is checked; what follows it is unreachable if this is so of it or was before.
 pub record TakesOperator (old new : Checker) (o : RawOperation) (unreachable_after : Bool) : Type 0 where
   pub parts : IsOk (parts_in old o)
   pub is : new ≡ record old { lists = new.lists; unreachable = unreachable_after || old.unreachable }

@@ -7,8 +7,17 @@ ghost use Rattle.walrus_flat.specs.UsedLocals.{is_found};
 use walrus_ir::{FunctionId, LocalId};
 use walrus_maps::IndicesToIds;
 
-/// The ids of the old indices that a function's body names. A function that lends another part of
-/// what holds them reads `ids` first, since the check of its loans needs to see their type.
+/// Reads the ids of what holds them. A function that lends another part of it does so first: the
+/// check of loans knows only types that the function reads.
+macro_rules! show_ids {
+    ($holder:ident) => {
+        let _ids = $holder.indices.ids;
+    };
+}
+
+pub(crate) use show_ids;
+
+/// The ids of the old indices that a function's body names.
 #[derive(Clone, Copy)]
 pub(crate) struct BodyIndices<'a> {
     pub ids: &'a IndicesToIds,

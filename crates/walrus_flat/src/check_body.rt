@@ -7,6 +7,7 @@ ghost use Rattle.walrus_flat.specs.Controls.{control_listed};
 ghost use Rattle.walrus_flat.specs.Checked.{env_of_checker};
 ghost use Rattle.walrus_flat.specs.CheckedBody.{BeginsBody, setting_at, ChecksOperators, ChecksNextAtOnce, RefusesTaking, IsValidated};
 
+use crate::body_indices::show_ids;
 use crate::checker::Checker;
 use crate::control::Control;
 use crate::cursor::Cursor;
@@ -173,7 +174,7 @@ pub(crate) fn check_operators<V: OpCheck>(
     ensures { ChecksOperators (setting_at (env_of_checker checker.old) reader.old.place V.check
         (V.state validator)) limit.has_limit reader.old.rest checker.old checker.new result }
 {
-    let _ids = checker.indices.ids;
+    show_ids!(checker);
     while !reader.eof() {
         let at = reader.original_position();
         match check_at_once(checker, reader, at, limit, &mut validator) {

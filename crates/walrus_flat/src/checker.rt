@@ -13,7 +13,7 @@ ghost use Rattle.wasm_ops.specs.CommonOperators.{common_listed};
 ghost use Rattle.walrus_flat.specs.Controls.{control_listed};
 ghost use Rattle.walrus_ir.specs.declared.val_type.InstrSeqType.TheVariants.{Simple as SimpleType};
 
-use crate::body_indices::BodyIndices;
+use crate::body_indices::{BodyIndices, show_ids};
 use crate::checking::Checking;
 use crate::control::Control;
 use crate::open_sequence::OpenSequence;
@@ -253,7 +253,7 @@ impl Checker<'_> {
             (BeginsConstruct self.old self.new (meaning operator.now) kind ty) }
         ensures err { IfErr result (RefusesConstruct self.old (meaning operator.now) ty) }
     {
-        let _ids = self.indices.ids;
+        show_ids!(self);
         match self.check_opener(operator) {
             Ok(()) => {}
             Err(error) => return Err(error),
@@ -345,7 +345,7 @@ impl Checker<'_> {
         ensures ok { OnOk result (PartsTry self.old self.new tag) }
         ensures err { IfErr result (RefusesClause self.old tag) }
     {
-        let _ids = self.indices.ids;
+        show_ids!(self);
         let top = match self.close() {
             Some(top) if has_clauses(top.kind) => top,
             _ => return Err(ParseError::CatchOutsideTry),
@@ -370,7 +370,7 @@ impl Checker<'_> {
         ensures ok { OnOk result (ClosesTry self.old self.new (meaning operator.now)) }
         ensures err { IfErr result (RefusesDelegate self.old (meaning operator.now)) }
     {
-        let _ids = self.indices.ids;
+        show_ids!(self);
         match self.innermost() {
             Some(top) if has_delegate(top.kind) => {}
             _ => return Err(ParseError::DelegateOutsideTry),
@@ -475,7 +475,7 @@ impl Checker<'_> {
         ensures done { OnTrue result (OpensSequence self.old self.new kind (SimpleType None)) }
         ensures unchanged { OnFalse result (StaysSame self.old self.new) }
     {
-        let _ids = self.indices.ids;
+        show_ids!(self);
         if self.open.len() == self.open.capacity() {
             return false;
         }
@@ -494,7 +494,7 @@ impl Checker<'_> {
         ensures done { OnTrue result (ClosesInner self.old self.new) }
         ensures unchanged { OnFalse result (StaysSame self.old self.new) }
     {
-        let _ids = self.indices.ids;
+        show_ids!(self);
         if self.open.len() < 2 {
             return false;
         }

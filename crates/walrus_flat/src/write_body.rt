@@ -7,6 +7,7 @@ ghost use Rattle.walrus_flat.specs.declared.sequences.Next.TheVariants.{Live as 
 ghost use Rattle.walrus_flat.specs.Writers.{env_at, numbers_of_writer};
 ghost use Rattle.walrus_flat.specs.WrittenBody.{again, IsAcceptedBody, WritesOperators, WritesNextAtOnce, WritesSome};
 
+use crate::body_indices::show_ids;
 use crate::byte_sink::{ByteSink, pass_to};
 use crate::cursor::Cursor;
 use crate::writer::Writer;
@@ -38,7 +39,7 @@ fn write_control(writer: &mut Writer<'_>, reader: &mut Cursor<'_>, location: Ins
 fn write_at_once(writer: &mut Writer<'_>, reader: &mut Cursor<'_>, location: InstrLocId) -> bool
     ensures { WritesNextAtOnce reader.old reader.new writer.old writer.new location result }
 {
-    let _ids = writer.indices.ids;
+    show_ids!(writer);
     // This is tested before the operator is read, so that each kind of operator has a way of its own
     // from there.
     if !writer.is_live() {

@@ -5,7 +5,7 @@ ghost use Rattle.walrus_ir.specs.declared.val_type.InstrSeqType.TheVariants.{Sim
 ghost use Rattle.wasm_operators.specs.Meaning.{meaning};
 ghost use Rattle.wasm_encode.specs.Writable.{IsWritable};
 ghost use Rattle.wasm_body.specs.declared.error.EmitError.TheVariants.{Memory};
-ghost use Rattle.wasm_body.specs.Flat.{Kept as KeptOpen, Live as LiveMode, Unreachable as DeadMode, innermost, around, mode_of_else, flat_state};
+ghost use Rattle.wasm_body.specs.Flat.{Kept as KeptOpen, Live as LiveMode, Unreachable as UnreachableMode, innermost, around, mode_of_else, flat_state};
 ghost use Rattle.walrus_parser.specs.OperatorKinds.{makes_unreachable};
 ghost use Rattle.walrus_flat.specs.declared.sequences.Next.TheVariants.{Live as LiveNext};
 ghost use Rattle.std.specs.Bool.{OnTrue, OnFalse};
@@ -22,7 +22,7 @@ ghost use Rattle.wasm_operators.specs.Shortest.{short_number, short_bits};
 ghost use Rattle.walrus_emit_state.specs.TreeWriting.Drafts.{with_bytes};
 ghost use Rattle.walrus_flat.specs.Writers.{IsOpenerByte, IsTypeByte, IsShortOpener};
 
-use crate::body_indices::BodyIndices;
+use crate::body_indices::{BodyIndices, show_ids};
 use crate::checker::plain_byte;
 use crate::control::Control;
 use crate::local_numbers::LocalNumbers;
@@ -129,7 +129,7 @@ impl Writer<'_> {
         }) }
         ensures err { IfErr result (λ e. e ≡ Memory) }
     {
-        let _ids = self.indices.ids;
+        show_ids!(self);
         match self.open.waiting() {
             Some(location) => match self.put_byte(0x05, location) {
                 Ok(()) => {
@@ -268,7 +268,7 @@ impl Writer<'_> {
             (meaning operator.now) (SimpleType None) location (flat_state_of self.old.open)
             (flat_state (mode_if (makes_unreachable operator.now)) (opens_of self.old.open)) result }
     {
-        let _ids = self.indices.ids;
+        show_ids!(self);
         if self.open.is_unreachable() {
             return Ok(());
         }
@@ -332,7 +332,7 @@ impl Writer<'_> {
             (flat_state_of self.old.open) (flat_state LiveMode (KeptOpen (needs_one is_if
             ((numbers_of_writer self.old).balanced ty)) ∷ opens_of self.old.open)) result }
     {
-        let _ids = self.indices.ids;
+        show_ids!(self);
         let needs_else = self.needs_else(is_if, &ty);
         match self.write_block(operator, ty, location) {
             Ok(()) => {}
@@ -354,7 +354,7 @@ impl Writer<'_> {
         ensures { OpensUnless (is_unreachable_next self.old.open.next) self.old self.new
             (meaning operator.now) ty is_if location result }
     {
-        let _ids = self.indices.ids;
+        show_ids!(self);
         if self.open.is_unreachable() {
             return self.open.enter(Written::Dropped);
         }
@@ -386,7 +386,7 @@ impl Writer<'_> {
             location)) }
         ensures err { IfErr result (λ e. e ≡ Memory) }
     {
-        let _ids = self.indices.ids;
+        show_ids!(self);
         if self.open.ends_dropped() {
             return Ok(());
         }
@@ -416,7 +416,7 @@ impl Writer<'_> {
             (meaning operator.now) (SimpleType None) location (flat_state_of self.old.open)
             (flat_state LiveMode (opens_of self.old.open)) result }
     {
-        let _ids = self.indices.ids;
+        show_ids!(self);
         if self.open.ends_dropped() {
             return Ok(());
         }
@@ -434,10 +434,10 @@ impl Writer<'_> {
         requires { IsWritable (meaning operator.now) }
         ensures { WritesUnless (ends_dropped (flat_state_of self.old.open)) self.old self.new
             (meaning operator.now) (SimpleType None) default_location
-            (flat_state DeadMode (around (opens_of self.old.open)))
+            (flat_state UnreachableMode (around (opens_of self.old.open)))
             (flat_state LiveMode (around (opens_of self.old.open))) result }
     {
-        let _ids = self.indices.ids;
+        show_ids!(self);
         if self.open.ends_dropped() {
             self.open.leave();
             return Ok(());
@@ -477,7 +477,7 @@ impl Writer<'_> {
             location)) }
         ensures err { IfErr result (λ e. e ≡ Memory) }
     {
-        let _ids = self.indices.ids;
+        show_ids!(self);
         if self.open.ends_dropped() {
             self.open.leave();
             return Ok(());
@@ -677,7 +677,7 @@ impl Writer<'_> {
         ensures done { OnTrue result (OpensEmpty self.old self.new byte location) }
         ensures unchanged { OnFalse result (self.new ≡ self.old) }
     {
-        let _ids = self.indices.ids;
+        show_ids!(self);
         if !self.open.has_room() {
             return false;
         }
@@ -695,7 +695,7 @@ impl Writer<'_> {
         ensures done { OnTrue result (ClosesShort self.old self.new location) }
         ensures unchanged { OnFalse result (self.new ≡ self.old) }
     {
-        let _ids = self.indices.ids;
+        show_ids!(self);
         if self.open.needs_else() {
             return false;
         }

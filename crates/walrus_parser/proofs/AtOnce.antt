@@ -26,7 +26,7 @@ some_changed change (f ∷ fs) some = (let z : 0 < length (change f ∷ fs) = om
 
 module _ (old : BodyParser) (o : Listed) (i : Instr) (location : ℕ) (unreachable_there : Bool) (kind : is_instruction o ≡ true) (unreachable_after : unreachable_there ≡ makes_unreachable o) (placed : placed_in old (meaning o) ≡ Ok (operation_of i))
     (plain : (slots_in i ≡ []) × (clauses_of_try i ≡ [])) where
-  -- The instruction is in the innermost frame, which is unreachable if it cuts.
+  -- The instruction is in the innermost frame, which may be unreachable after it.
   pub taken_at_once : (new : OpenTrees) → (0 < length old.context.frames) × (new ≡ record old.context { frames = changed_at 0 (with_appended (i, location) unreachable_there) old.context.frames }) →
       TakesAtOnce old (record old { context = new }) (meaning o) location true
   taken_at_once new changes =

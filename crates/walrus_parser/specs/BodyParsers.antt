@@ -76,7 +76,7 @@ pub record IsSameBody (old new : OpenTrees) : Type 0 where
   pub env : env_of new ≡ env_of old
   pub entry : new.builder.entry ≡ old.builder.entry
 
--- one more instruction; what follows it is dropped if it cuts
+-- one more instruction; what follows it may be unreachable
 abbrev pub with_appended : LocatedInstr → (unreachable_after : Bool) → OpenFrame → OpenFrame
 with_appended x unreachable_after f = cond unreachable_after (marked_unreachable (with_instr x f)) (with_instr x f)
 

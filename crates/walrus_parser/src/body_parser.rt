@@ -237,7 +237,7 @@ impl BodyParser<'_> {
         }
     }
 
-    /// Appends an instruction to the innermost frame. If it cuts, what follows in the frame is
+    /// Appends an instruction to the innermost frame. What follows it there may be unreachable: then it is
     /// dropped.
     #[inline(always)]
     fn append_instr(

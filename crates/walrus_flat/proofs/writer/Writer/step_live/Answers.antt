@@ -2,7 +2,7 @@ use Rattle.std.proofs.Common.{sym, subst, ◌∙◌}
 use Rattle.wasm_ops.specs.CommonOperators.{common_listed}
 use Rattle.wasm_operators.specs.Meaning.{meaning}
 use Rattle.walrus_flat.specs.Writers.{WritesCommon}
-use Rattle.walrus_flat.proofs.WriterAtOnce.{stays, cuts}
+use Rattle.walrus_flat.proofs.WriterAtOnce.{stays, ends_reachable}
 use Rattle.walrus_flat.proofs.writer.Writer.step_live.Goals as goal
 
 pub returns-then-not-write_common : goal.returns-then-not-write_common
@@ -14,7 +14,7 @@ pub returns-then-is_unreachable_after_common : goal.returns-then-is_unreachable_
 returns-then-is_unreachable_after_common c =
     let done = c.write_common in
     let o = common_listed c.args.common in
-    cuts c.args.self.now o c.args.location c.requires done.new.self (subst (WritesCommon c.args.self.now done.new.self (meaning o) c.args.location) c.if-not-write_common.false done.ensures)
+    ends_reachable c.args.self.now o c.args.location c.requires done.new.self (subst (WritesCommon c.args.self.now done.new.self (meaning o) c.args.location) c.if-not-write_common.false done.ensures)
     (sym c.is_unreachable_after_common.ensures ∙ c.if-is_unreachable_after_common.true)
 
 pub returns-else-is_unreachable_after_common : goal.returns-else-is_unreachable_after_common
