@@ -127,7 +127,7 @@ struct wrewrite_outcome wrewrite_raw_snip(const uint8_t *source, size_t source_s
 struct wrewrite_outcome wrewrite_raw_check(const uint8_t *source, size_t source_size, size_t first);
 struct wrewrite_outcome wrewrite_raw_find(const uint8_t *source, size_t source_size, const uint8_t *name, size_t name_size);
 
-/* Rewrites each function of a module: in the shortest spellings, without `nop`, without code that can't be reached after a branch,
+/* Rewrites each function of a module: in the shortest encodings, without `nop`, without code that can't be reached after a branch,
  * and without locals that nothing uses. What is written is usually smaller than the source, but need not be. Where `options` is null
  * all are off. */
 static inline struct wrewrite_outcome wrewrite_rewrite(const uint8_t *source, size_t source_size, const struct wrewrite_options *options,

@@ -152,7 +152,7 @@ fn made(source: &[u8], options: Options, call: impl Fn(&[u32], &mut [u8], &mut [
     })
 }
 
-/// Rewrites each function of a module: in the shortest spellings, without `nop`, without code that can't be reached after a branch,
+/// Rewrites each function of a module: in the shortest encodings, without `nop`, without code that can't be reached after a branch,
 /// and without locals that nothing uses.
 ///
 /// # Errors

@@ -4,7 +4,7 @@
 use crate::program::Program;
 use std::fmt;
 
-/// A page that is printed, in the place of a task.
+/// A page that is printed instead of doing a task.
 #[derive(Clone, Copy)]
 pub(crate) enum Page {
     Help,
@@ -156,7 +156,7 @@ const ROWS: [Row; COUNT] = [
         choice: Choice::Valued(Valued::Output),
         takers: Takers::All,
         help: "
-  -o, --output FILE    write the module to FILE, in the place of OUT.wasm",
+  -o, --output FILE    write the module to FILE, instead of OUT.wasm",
     },
     Row {
         letter: None,

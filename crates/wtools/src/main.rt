@@ -36,7 +36,7 @@ Three programs in one, which read a WebAssembly module and write one, and a benc
 Under the name of one of them, as that of a link or a copy, it runs as that one, and
 PROGRAM is left out.
 
-  wrewrite       rewrites each function, in the shortest spellings
+  wrewrite       rewrites each function, in the shortest encodings
   wsnip          leaves nothing but `unreachable` of functions that are named
   wcount         lets each function count its calls
   wbench         passes over the bodies of a module, to measure what a pass costs

@@ -11,7 +11,7 @@ pub const PROGRAM: Program = Program {
     about: "usage: wrewrite [OPTION].. IN.wasm [OUT.wasm]
        wrewrite [OPTION].. --check IN.wasm
 
-Rewrites each function of a WebAssembly module: in the shortest spellings,
+Rewrites each function of a WebAssembly module: in the shortest encodings,
 without `nop`, without what can't be reached after a branch, and without unused
 locals. Names of locals and of labels, and branch hints, follow the code. A
 path of `-` is standard input or output, and without OUT.wasm the module goes
