@@ -1,0 +1,6 @@
+-- operators inserted into a body, and the runs of what has them; and a body that is metered
+pub mod Insertion
+-- lists with whole probes, which stay valid
+pub mod InsertedValidity
+-- the tree of a body with inserted operators
+pub mod InsertedTrees
