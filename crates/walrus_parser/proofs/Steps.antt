@@ -64,18 +64,18 @@ module _ (env : Environment) (old : ParseState) (ls : List (Layer Occurrence)) (
   pub steps_alone : (new : ParseState) (f : OpenFrame) (fs : List OpenFrame) (named : NamedOperation) (action : Action) (i : Instr) (unreachable_there : Bool) → old.frames ≡ f ∷ fs → named_in env (frames_of ls) o ≡ Ok named → control_of named ≡ Does action → MakesUnreachableAs action unreachable_there →
       slots_in i ≡ [] → clauses_of_try i ≡ [] → with_targets (slots old.frames) (operation_of i) ≡ kept_operation named →
       new ≡ record old { frames = taken (i, location) unreachable_there f ∷ fs } → Advances env new ls s o place location
-  steps_alone new f fs named action i unreachable_there frames is control unreachable_after alone no_clauses retargeted is_new = record {
+  steps_alone new f fs named action i unreachable_there frames is control is_unreachable alone no_clauses retargeted is_new = record {
     named = named;
     is_named = is;
     keeps = subst (λ q. KeepsProgress env q (further_within (control_of named) (at named) ls s)) (sym is_new)
         (keeps_as (record old { frames = taken (i, location) unreachable_there f ∷ fs }) named (Does action) control
-        (holds_takes env old.arena ls s (Single (at named) action Empty) (length old.arena) (length old.arena) f fs old.ifs (i, location) unreachable_there (omega arith) (unreachable_as (fate action) unreachable_there unreachable_after)
+        (holds_takes env old.arena ls s (Single (at named) action Empty) (length old.arena) (length old.arena) f fs old.ifs (i, location) unreachable_there (omega arith) (unreachable_as (fate action) unreachable_there is_unreachable)
         (record {
           items = item (i, location) no_sequences no_items;
           are_items = are_items (subst (λ ps. AreSequences old.arena ps no_sequences) (sym alone) are_no_sequences) are_no_items;
           rise = (length old.arena, (let n : length old.arena ≤ length old.arena = omega arith in n), (let n : length old.arena ≤ length old.arena = omega arith in n));
           is_normal = (λ k. item (record { op = subst (λ gs. with_targets (slots gs) (operation_of i) ≡ kept_operation named) frames retargeted k; clauses = no_clauses k; location = location }) no_sequences no_items)
-              ∙ sym (kept_as (fate action) unreachable_there (instruction (name_at (at named)) []) unreachable_after);
+              ∙ sym (kept_as (fate action) unreachable_there (instruction (name_at (at named)) []) is_unreachable);
         })
         (subst (λ gs. Holds env old.arena ls s (length old.arena) gs old.ifs) frames keeps)));
   }

@@ -25,7 +25,15 @@ pub struct BodySource<'a, F> {
 
 impl<F> Clone for BodySource<'_, F> {
     fn clone(&self) -> Result<Self, AllocError> {
-        Ok(*self)
+        Ok(BodySource {
+            module: self.module,
+            indices: self.indices,
+            function: self.function,
+            ty: self.ty,
+            ops: self.ops,
+            start: self.start,
+            on_instr_pos: self.on_instr_pos,
+        })
     }
 }
 
