@@ -189,7 +189,9 @@ fn write_checked<F: Fn(&usize) -> InstrLocId, S: ByteSink>(
         Err(fault) => return Err(fault),
     };
     let begun = Draft::of_lists(bytes, pairs, has_map);
-    match write(*source, *target, &numbers, begun, scratch, sink) {
+    // A copy, which is lent no longer than the numbers are.
+    let source = BodySource { ..*source };
+    match write(source, *target, &numbers, begun, scratch, sink) {
         Ok(written) => Ok(written),
         Err(fault) => Err(fault),
     }

@@ -12,11 +12,12 @@ begun_with : List ℕ → Bool → List Pair → Drafted
 begun_with bytes has_map pairs = record { base = 0; has_map = has_map; output = record { bytes = bytes; pairs = pairs } }
 
 pub returns-in-Ok-write-clause-ok : goal.returns-in-Ok-write-clause-ok
+unfolding begun_with
 returns-in-Ok-write-clause-ok g c =
     let a = c.args in
     let s = a.source.now in
     let declared = c.begin_body.new.bytes.items in
-    let no_pairs = c.make_room_for.ensures.pairs ∙ (c.into_lists.ensures.pairs ∙ c.requires.no_pairs) in
+    let no_pairs = c.make_room_for.ensures.pairs ∙ (c.into_lists-bytes.ensures.pairs ∙ c.requires.no_pairs) in
     let begun : c.of_lists-begun.result ≡ begun_draft declared a.draft.has_map =
     c.of_lists-begun.ensures ∙ (ap (λ (b : Bool). begun_with declared b c.make_room_for.new.pairs.items) c.has_map-has_map.ensures ∙ ap (begun_with declared a.draft.has_map) no_pairs) in
     of_whole g.S.ByteSink.takes a.sink.now c.write.new.sink c.in-Ok-write.written
