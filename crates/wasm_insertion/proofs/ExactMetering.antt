@@ -1,6 +1,6 @@
--- Each run of a metered body is charged exactly: at each charge, and where it returns, what was charged is what was used. Exceptions that are
--- caught are left out, so of an exception nothing is needed but that it is caught or escapes. A run returns where its operators end, and not
--- because the count of operators of a turn runs out: from each place fewer operators are left than there were (`Nested`).
+-- Each run of a metered body is charged exactly: at each charge, and where it returns, what was charged is what was used. Nothing is said after
+-- an exception is caught, so that an exception is either caught or escapes. A run returns where its operators end, and not because the count of
+-- operators of a turn runs out: after each step fewer operators are left (`Nested`).
 use Rattle.std.proofs.Common.{◌≡◌, ℕ, zero, suc, ◌+◌, ◌-◌, ◌≤◌, List, [], ◌∷◌, length, Bool, true, false, cond, Option, Some, None, refl, sym, ap, ◌∙◌, subst, arith}
 use Rattle.wasm_body.specs.Control.{Action, Nop, Plain, Branch, ConditionalBranch, TableBranch, Return, Unreachable, Throw, ThrowRef, Rethrow, TailCall, Construct, Block, Loop, TryTable, If, Try, Control, Does, Opens, Else, Catch, CatchAll, End, Delegate, Marked, with_control}
 use Rattle.wasm_body.specs.SourceTree.{body_text}

@@ -6,14 +6,20 @@ use Rattle.wasm_types.specs.declared.val_type.ValType.TheVariants.{I32}
 use Rattle.walrus_ir.specs.Types.{same_type}
 use Rattle.wasm_operators.specs.declared.types.Opcode.{Opcode}
 use Rattle.wasm_operators.specs.declared.types.Opcode.TheVariants.{Byte, Prefixed}
-use Rattle.wasm_body.specs.Control.{Plain, Branch, ConditionalBranch}
+use Rattle.walrus_ir.specs.Tree.{no_items, item, no_sequences, sequence}
+use Rattle.wasm_body.specs.Control.{role_of, Plain, Branch, ConditionalBranch}
 use Rattle.wasm_body.specs.SourceTree.{Sequence, Empty, Single, Wrapped, IfThen, IfElse, TryCatch, CatchesAll, OfBlock, OfLoop, Body, body_text}
 use Rattle.wasm_body.specs.Machine.{Outcome, Go, Trap, Raise, Way, Event, Executed, Taken, Ending, Returned, Trapped, Run, run}
-use Rattle.wasm_body.specs.Translation.{at_location}
+use Rattle.wasm_body.specs.Translation.{Located, at_location}
+use Rattle.wasm_body.specs.Naming.{NamedOperation}
+use Rattle.wasm_body.specs.FunctionTree.{Head, Instruction}
+use Rattle.wasm_body.specs.NormalForm.{instruction}
 use Rattle.wasm_body.specs.Validity.{Operand, Known, Point, Change, OperandRules}
-use Rattle.wasm_body.proofs.Examples.Operators.{drop, const}
+use Rattle.wasm_body.proofs.Examples.Operators.{block, br, call, drop, const}
+use Rattle.wasm_body.proofs.Examples.Modules.{nothing}
 use Rattle.wasm_insertion.specs.Insertion.{Origin, Own, Added, Inserted, empty, insert, single, wrapped, added_else, erased, NeverStops, FollowsSource, alike_ended, executes, executes_with, catches, goes_on, stops, metered_body}
 use Rattle.wasm_insertion.specs.InsertedValidity.{IsProbe}
+use Rattle.wasm_insertion.specs.EditedTrees.{never_goes_on, EditedItems, no_item, added_item, going_item, last_item, no_sequence, edited_sequence}
 
 abbrev body : {A : Type 0} → Sequence A → A → Body A
 body s e = record { sequence = s; close = e }
@@ -122,6 +128,26 @@ metered_run : run (body_text (metered_body (λ a. 10) (body looping 9))) (Go ∷
     ≡ ran (Executed (Added 10) ∷ Executed (Own 0) ∷ Executed (Added 20) ∷ Executed (Own 1) ∷ Executed (Own 2) ∷ Executed (Added 20) ∷ Executed (Own 1)
     ∷ Executed (Own 2) ∷ Executed (Added 10) ∷ Executed (Own 3) ∷ []) Trapped
 metered_run = refl
+
+-- ---- a call is inserted into a tree: before a branch, and at the end of the sequence around the branch's
+
+abbrev called : Located NamedOperation
+called = at_location (call 7) 0
+
+abbrev branched : Instruction
+branched = instruction (at_location (br 0) 5) []
+
+abbrev opened : Instruction
+opened = instruction (at_location (block nothing) 4) []
+
+edited_tree : (h : Head) → EditedItems (item opened (sequence h (item branched no_sequences no_items) no_sequences) no_items)
+    (item opened (sequence h (item (instruction called []) no_sequences (item branched no_sequences no_items)) no_sequences)
+    (item (instruction called []) no_sequences no_items))
+edited_tree h = going_item refl (edited_sequence (added_item called refl refl (last_item refl)) no_sequence) (added_item called refl refl no_item)
+
+-- nothing can be inserted after the branch
+branch_is_last : never_goes_on (role_of branched.op.opcode) ≡ true
+branch_is_last = refl
 
 -- ---- a constant that is dropped is a probe under rules for constants and `drop`, and a `drop` alone isn't
 

@@ -216,7 +216,7 @@ module _ (A P : Type 0) (asks : A → Bool) where
       says i.sequence (with_control b.close End ∷ []) (with_control c.close End ∷ [])
       (λ x. subst (λ z. Says (with_control z End ∷ [])) i.close (x.0, tt)) g
 
--- ---- one run follows the other, whoever's operators the second has
+-- ---- one run follows the other, where the second shows for each operator whether it is added, too
 
 data Along {A P : Type 0} (asks : A → Bool) (Stop : List Outcome → Run (Origin A P) → Type 0)
     : List Outcome → Run (Origin A P) → List Outcome → Run (Origin A P) → Type 0 where
@@ -367,7 +367,7 @@ module _ (A P : Type 0) (asks : A → Bool) where
     goes_on = source_goes_on;
   }
 
--- ---- from runs that show whose each operator is to the source's run
+-- ---- from such runs to the source's run
 
 abbrev of_events : {A : Type 0} → List (Event A) → Ending → Run A
 of_events es e = record { events = es; ending = e }

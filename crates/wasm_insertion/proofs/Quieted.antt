@@ -16,7 +16,7 @@ abbrev pub quiet : Bool → Control → Control
 quiet b (Does action) = Does (quiet_action b action)
 quiet b c = c
 
--- The run of a list of operators with these outcomes, as far as a relation on runs is asked.
+-- The runs from one place, one for each list of outcomes.
 abbrev pub Runs : Type 0 → Type 0
 Runs B = List Outcome → Run B
 

@@ -1,5 +1,7 @@
 //! The laws of inserting, each stated as the contract of a function that does nothing.
 ghost use Rattle.wasm_insertion.specs.Insertion.{InsertedRuns, SameOrStops, SourceRuns, NamedInsertedRuns, NamedSourceRuns, MeteredIsPaid, MeteredIsExact, MeteredIsInserted};
+ghost use Rattle.wasm_insertion.specs.EditedTrees.{EditedTrees};
+ghost use Rattle.wasm_insertion.specs.InsertedTexts.{InsertedTexts};
 ghost use Rattle.wasm_insertion.specs.InsertedTrees.{InsertedNormalForms};
 ghost use Rattle.wasm_insertion.specs.InsertedValidity.{ProbedStaysValid, ProbedIsInserted};
 
@@ -40,7 +42,24 @@ pub fn law_inserted_valid<T>()
 {}
 
 /// The normal form of a body with inserted operators is the source's, with instructions inserted. If
-/// the operators are typed it has a text, which executes alike with them.
-pub fn law_inserted_trees()
-    ensures { InsertedNormalForms }
+/// the operators are typed it has a text, which executes alike with them. And the other way round: a
+/// tree that is the normal form of a typed body, with instructions of plain operators inserted, is the
+/// normal form of a typed body with inserted operators, but for the locations of the ends of
+/// sequences. The instructions may be before any other and at the end of any sequence, but not after
+/// one that never goes on. What is written for such a tree runs as the source with the inserted
+/// operators between its events, as `law_inserted` says, and is valid where the operators of this body
+/// are. `T` is what is known of an operand.
+pub fn law_inserted_trees<T>()
+    ensures normal_forms { InsertedNormalForms }
+    ensures edited { EditedTrees T }
+{}
+
+/// What is written for a body with inserted operators is the text of its normal form. Each run of it
+/// is a run of the source with the inserted operators between its events, as `law_inserted` says, and
+/// for each run of the source there is one in which no inserted operator stops. Each event has the
+/// location of its operator, the source's or an inserted one, and so do the pairs that are written.
+/// The text is valid where the operators are, and where the source is if these are the source's with
+/// probes. `T` is what is known of an operand.
+pub fn law_inserted_texts<T>()
+    ensures { InsertedTexts T }
 {}
