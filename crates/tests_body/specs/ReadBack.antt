@@ -8,16 +8,10 @@ use Rattle.wasm_body.specs.Naming.{Environment, Occurrence}
 use Rattle.wasm_body.specs.NormalForm.{body_tree}
 use Rattle.wasm_body.specs.Bytes.{Numbers, tree_bytes}
 use Rattle.wasm_body.specs.Parsing.Accepted.{Setting, Accepted, FirstFault}
-use Rattle.walrus_maps.specs.Environments.{environment_of}
 use Rattle.walrus_parser.specs.Bodies.{IsFunction}
 use Rattle.walrus_parser.specs.Settings.{given_with}
 use Rattle.walrus_rewrite.specs.declared.error.RewriteError.{RewriteError}
 use Rattle.walrus_rewrite.specs.declared.error.RewriteError.TheVariants.{Parse, Walk, Emit}
-use Rattle.tests_body.specs.declared.read_back.Reading.{Reading}
-
--- the environment of the function whose body they are
-abbrev pub environment_in : Reading → Environment
-environment_in r = environment_of r.«module».now r.indices.now r.id r.ty
 
 -- The setting in which operators at place 0 are read: with a location function, and with a validator that accepts every
 -- operator.

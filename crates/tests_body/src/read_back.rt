@@ -16,7 +16,7 @@ ghost use Rattle.walrus_body.specs.EmittedInstructions.{IsNotEmitted};
 ghost use Rattle.walrus_numbering.specs.NumberMaps.{numbers_by};
 ghost use Rattle.walrus_rewrite.specs.declared.error.RewriteError.{RewriteError as Refusal};
 ghost use Rattle.walrus_rewrite.specs.Errors.{IsOutOfMemory};
-ghost use Rattle.tests_body.specs.ReadBack.{environment_in, reading_by, IsReadAs, IsWrittenAs, HasBytes, HasFault, IsFirstFault, IsRefusedAs};
+ghost use Rattle.tests_body.specs.ReadBack.{reading_by, IsReadAs, IsWrittenAs, HasBytes, HasFault, IsFirstFault, IsRefusedAs};
 
 use std::alloc::{AllocError, Global};
 use walrus_body::{
@@ -26,29 +26,27 @@ use walrus_ir::{FunctionId, IdHashMap, InstrLocId, LocalId, Module, ModuleTypes,
 use walrus_run::{RewriteError, law_accepted_again, law_inverse_undoes};
 use wasm_encode::FunctionEncoder;
 
-/// What operators are read as: the body of this function, which has this type.
-#[derive(Clone, Copy)]
-pub struct Reading<'a> {
-    pub module: &'a Module,
-    pub indices: &'a IndicesToIds,
-    pub id: FunctionId,
-    pub ty: TypeId,
-}
-
-/// Reads operators at place 0.
-pub fn read(alloc: Global, reading: &Reading<'_>, ops: &[u8]) -> Result<LocalFunction, ParseFailure>
-    requires begins { reading.now.«module».now.code_section_offset ≡ 0 }
-    ensures accepted { IfOk result (λ made. IsReadAs (environment_in reading.now)
+/// Reads operators at place 0 as the body of a function of this type.
+pub fn read(
+    alloc: Global,
+    module: &Module,
+    indices: &IndicesToIds,
+    id: FunctionId,
+    ty: TypeId,
+    ops: &[u8],
+) -> Result<LocalFunction, ParseFailure>
+    requires begins { «module».now.code_section_offset ≡ 0 }
+    ensures accepted { IfOk result (λ made. IsReadAs (environment_of «module».now indices.now id ty)
         ops.now made.builder) }
     // A refusal is for the first fault.
     ensures refused { IfErr result (λ f. (f.error ≡ parse.Memory)
-        ⊎ IsFirstFault (environment_in reading.now) ops.now f) }
+        ⊎ IsFirstFault (environment_of «module».now indices.now id ty) ops.now f) }
     // Unless memory runs out, each accepted body is returned and each first fault is reported.
     ensures each_body { (locate : ℕ → ℕ) (b : Body Occurrence)
-        → Accepted (reading_by (environment_in reading.now) locate) ops.now b
+        → Accepted (reading_by (environment_of «module».now indices.now id ty) locate) ops.now b
         → IfErr result (λ f. f.error ≡ parse.Memory) }
     ensures each_fault { (locate : ℕ → ℕ) (f : Failure)
-        → FirstFault (reading_by (environment_in reading.now) locate) ops.now f
+        → FirstFault (reading_by (environment_of «module».now indices.now id ty) locate) ops.now f
         → IsErr result × IfErr result (λ e. (e.error ≡ parse.Memory) ⊎ (e ≡ f)) }
 {
     let nowhere = |_: &usize| InstrLocId::default();
@@ -59,10 +57,10 @@ pub fn read(alloc: Global, reading: &Reading<'_>, ops: &[u8]) -> Result<LocalFun
     };
     let mut instrs = Vec::new(alloc);
     LocalFunction::parse(
-        reading.module,
-        reading.indices,
-        reading.id,
-        reading.ty,
+        module,
+        indices,
+        id,
+        ty,
         Vec::new(alloc),
         body,
         Some(&nowhere),
@@ -116,31 +114,33 @@ pub fn written(
 /// Reads operators and writes them. Returns the bytes.
 pub fn rewritten(
     alloc: Global,
-    reading: &Reading<'_>,
+    module: &Module,
+    indices: &IndicesToIds,
+    id: FunctionId,
+    ty: TypeId,
     ops: &[u8],
     out: &IdsToIndices,
     locals: &IdHashMap<LocalId, u32>,
 ) -> Result<Vec<u8>, RewriteError>
-    requires begins { reading.now.«module».now.code_section_offset ≡ 0 }
+    requires begins { «module».now.code_section_offset ≡ 0 }
     ensures written { IfOk result (λ bytes. IsWrittenAs
-        (environment_in reading.now) (numbers_by reading.now.«module».now.types out.now locals.now.entries)
+        (environment_of «module».now indices.now id ty) (numbers_by «module».now.types out.now locals.now.entries)
         ops.now bytes.items) }
     // A refusal is for the first fault of reading, or else of writing.
     ensures refused { IfErr result (λ e. IsOutOfMemory e
-        ⊎ IsRefusedAs (environment_in reading.now)
-        (numbers_by reading.now.«module».now.types out.now locals.now.entries) ops.now e) }
+        ⊎ IsRefusedAs (environment_of «module».now indices.now id ty)
+        (numbers_by «module».now.types out.now locals.now.entries) ops.now e) }
     // Unless memory runs out, the operators of an accepted body that has bytes are written with
     // these bytes, and each fault is reported.
-    ensures each_body { (bytes : List ℕ) → HasBytes (environment_in reading.now)
-        (numbers_by reading.now.«module».now.types out.now locals.now.entries) ops.now bytes
+    ensures each_body { (bytes : List ℕ) → HasBytes (environment_of «module».now indices.now id ty)
+        (numbers_by «module».now.types out.now locals.now.entries) ops.now bytes
         → IfErr result IsOutOfMemory × IfOk result (λ made. made.items ≡ bytes) }
-    ensures each_fault { (e : Refusal) → HasFault (environment_in reading.now)
-        (numbers_by reading.now.«module».now.types out.now locals.now.entries) ops.now e
+    ensures each_fault { (e : Refusal) → HasFault (environment_of «module».now indices.now id ty)
+        (numbers_by «module».now.types out.now locals.now.entries) ops.now e
         → IsErr result × IfErr result (λ r. IsOutOfMemory r ⊎ (r ≡ e)) }
 {
-    let types = &reading.module.types;
-    match read(alloc, reading, ops) {
-        Ok(function) => match written(alloc, &function, types, out, locals) {
+    match read(alloc, module, indices, id, ty, ops) {
+        Ok(function) => match written(alloc, &function, &module.types, out, locals) {
             Ok(bytes) => Ok(bytes),
             Err(fault) => Err(RewriteError::Emit(fault)),
         },
@@ -152,18 +152,20 @@ pub fn rewritten(
 /// writes them again. Returns the bytes of both, which are the same.
 pub fn rewritten_twice(
     alloc: Global,
-    reading: &Reading<'_>,
+    module: &Module,
+    indices: &IndicesToIds,
     again: &IndicesToIds,
+    id: FunctionId,
+    ty: TypeId,
     ops: &[u8],
     out: &IdsToIndices,
     locals: &IdHashMap<LocalId, u32>,
 ) -> Result<(Vec<u8>, Vec<u8>), RewriteError>
-    requires begins { reading.now.«module».now.code_section_offset ≡ 0 }
-    requires undone { IsInverse (numbers_by reading.now.«module».now.types out.now locals.now.entries)
-        (environment_of reading.now.«module».now
-        again.now reading.now.id reading.now.ty) }
+    requires begins { «module».now.code_section_offset ≡ 0 }
+    requires undone { IsInverse (numbers_by «module».now.types out.now locals.now.entries)
+        (environment_of «module».now again.now id ty) }
     ensures written { IfOk result (λ both. IsWrittenAs
-        (environment_in reading.now) (numbers_by reading.now.«module».now.types out.now locals.now.entries)
+        (environment_of «module».now indices.now id ty) (numbers_by «module».now.types out.now locals.now.entries)
         ops.now both.0.items) }
     // The written bytes are read again and written unchanged.
     ensures unchanged { IfOk result (λ both. both.1.items ≡ both.0.items) }
@@ -171,27 +173,21 @@ pub fn rewritten_twice(
     // Unless memory runs out, the operators of an accepted body that has bytes are written twice,
     // and each fault is reported.
     ensures refused { IfErr result (λ e. IsOutOfMemory e
-        ⊎ IsRefusedAs (environment_in reading.now)
-        (numbers_by reading.now.«module».now.types out.now locals.now.entries) ops.now e) }
-    ensures each_body { (bytes : List ℕ) → HasBytes (environment_in reading.now)
-        (numbers_by reading.now.«module».now.types out.now locals.now.entries) ops.now bytes → IfErr result IsOutOfMemory }
-    ensures each_fault { (e : Refusal) → HasFault (environment_in reading.now)
-        (numbers_by reading.now.«module».now.types out.now locals.now.entries) ops.now e
+        ⊎ IsRefusedAs (environment_of «module».now indices.now id ty)
+        (numbers_by «module».now.types out.now locals.now.entries) ops.now e) }
+    ensures each_body { (bytes : List ℕ) → HasBytes (environment_of «module».now indices.now id ty)
+        (numbers_by «module».now.types out.now locals.now.entries) ops.now bytes → IfErr result IsOutOfMemory }
+    ensures each_fault { (e : Refusal) → HasFault (environment_of «module».now indices.now id ty)
+        (numbers_by «module».now.types out.now locals.now.entries) ops.now e
         → IsErr result × IfErr result (λ r. IsOutOfMemory r ⊎ (r ≡ e)) }
 {
     law_inverse_undoes();
     law_accepted_again::<(), ()>();
-    let first = match rewritten(alloc, reading, ops, out, locals) {
+    let first = match rewritten(alloc, module, indices, id, ty, ops, out, locals) {
         Ok(bytes) => bytes,
         Err(fault) => return Err(fault),
     };
-    let back = Reading {
-        module: reading.module,
-        indices: again,
-        id: reading.id,
-        ty: reading.ty,
-    };
-    match rewritten(alloc, &back, &first, out, locals) {
+    match rewritten(alloc, module, again, id, ty, &first, out, locals) {
         Ok(second) => Ok((first, second)),
         Err(fault) => Err(fault),
     }

@@ -2,7 +2,7 @@
 //! unchanged.
 ghost use Rattle.std.specs.Prelude.{◌≡◌};
 
-use crate::read_back::{Reading, rewritten_twice};
+use crate::read_back::rewritten_twice;
 use std::alloc::Global;
 use std::test::Fail;
 use walrus_body::{IdsToIndices, IndicesToIds};
@@ -20,14 +20,7 @@ fn twice_over(
     let (ids, out) = (IndicesToIds::new(alloc), IdsToIndices::new(alloc));
     let locals = IdHashMap::new(alloc);
     let (id, ty) = (FunctionId::new(0), TypeId::new(1));
-    let indices = &ids;
-    let reading = Reading {
-        module,
-        indices,
-        id,
-        ty,
-    };
-    rewritten_twice(alloc, &reading, &ids, ops, &out, &locals)
+    rewritten_twice(alloc, module, &ids, &ids, id, ty, ops, &out, &locals)
 }
 
 // The same with the demo module.

@@ -1,6 +1,8 @@
 //! Bodies of a module that are only checked.
 
-ghost use Rattle.std.specs.Prelude.{OnOk, IfErr};
+ghost use Rattle.std.specs.Prelude.{◌≤◌, ◌<◌, ◌+◌, ◌^◌, length, None, OnOk, IfErr};
+ghost use Rattle.walrus_parser.specs.Bodies.{body_setting, body_operators};
+ghost use Rattle.walrus_flat.specs.FlatChecks.{ChecksFlat};
 ghost use Rattle.wasm_sections.specs.CodeSections.{body_at};
 ghost use Rattle.wasm_module.specs.RewrittenCode.{Extends, IsAccepted};
 ghost use Rattle.wasm_module.specs.Refusals.{IsRefusedBody};
@@ -10,9 +12,30 @@ use crate::body_context::BodyContext;
 use crate::body_errors::body_error;
 use crate::missing::with_types;
 use crate::parsed::ParsedModule;
-use walrus_flat::check_flat;
+use walrus_body::{FunctionBody, IndicesToIds, OpCheck, ParseFailure};
+use walrus_flat::{FlatScratch, check_flat};
+use walrus_ir::{FunctionId, Module, TypeId};
 use walrus_rewrite::RewriteError;
 use wasm_sections::{Body, LocalsBelow, ModuleError};
+
+/// `check_flat` of a body that is lent for longer than the module: a method's check of loans doesn't
+/// cover that call, and covers this one.
+fn check_lent<V: OpCheck>(
+    module: &Module,
+    indices: &IndicesToIds,
+    id: FunctionId,
+    ty: TypeId,
+    body: FunctionBody<'_>,
+    validator: V,
+    scratch: &mut FlatScratch,
+) -> Result<(), ParseFailure>
+    requires ops { body.ops ≤ length body.bytes.now }
+    requires fits { body.start + length body.bytes.now < 2 ^ 64 }
+    ensures { ChecksFlat (body_setting «module».now indices.now id ty body.entry V.check
+        (V.state validator) None) (body_operators body.entry) result }
+{
+    check_flat(module, indices, id, ty, body, validator, scratch)
+}
 
 impl<'a> ParsedModule<'a> {
     fn check_once(&mut self, body: Body<'a>, scratch: &mut Scratch) -> Result<(), ModuleError>
@@ -29,7 +52,7 @@ impl<'a> ParsedModule<'a> {
             ..
         } = self.enter(body)?;
         let lists = self.spaces.local_lists();
-        let checked = check_flat(
+        let checked = check_lent(
             &self.module,
             &self.spaces.indices,
             lists,
