@@ -10,7 +10,7 @@ from snipping_and_counting import FIB, FIB_COUNTED, IMPORT
 
 FUNCTION = {"wrewrite": [], "wcount": [], "wsnip": ["0"]}
 
-# Functions with names as Rust's compiler writes them, with the hash of one function, and what they stand for.
+# Functions with names as Rust's compiler writes them, with the hash of one function; a comment has the demangled name of a mangled one.
 RUST = (
     b"_ZN4core9panicking5panic17h0123456789abcdefE",  # core::panicking::panic
     b"_ZN4core3fmt5write17h0123456789abcdefE",  # core::fmt::write
