@@ -1,5 +1,7 @@
 """Each mapping of a source map follows its operator, and all else of the map is carried over; which maps are refused, and which
 words about them are wrong use."""
+import json
+
 from modules import DEBUG, GOOD, GOOD_WRITTEN, custom, module, sized
 from runs import DATA, case, holds, same, stored
 from source_map_texts import GOOD_MOVED, GOOD_ROWS, mappings, rows_of, source_map, vlq
@@ -53,8 +55,26 @@ def _(room):
     members = b'"names":["f"],"x_google_ignoreList":[0],"mappings":"uB","sourcesContent":["int a;\\n\\u00e9",null],"sources":["a.c",null],"sourceRoot":"/r","file":"in","version":3,"a":{"b":1.5}'
     room.put("in.map", b"{" + members + b"}")
     room.works("wrewrite", *MAPS, "in", "out")
-    want = '{"version":3,"file":"in","sourceRoot":"/r","sources":["a.c",null],"sourcesContent":["int a;\\n\u00e9",null],"names":["f"],"mappings":"uB","a":{"b":1.5},"x_google_ignoreList":[0]}'
+    want = '{"version":3,"file":"in","sourceRoot":"/r","sources":["a.c",null],"sourcesContent":["int a;\\n\u00e9",null],"names":["f"],"mappings":"uB","x_google_ignoreList":[0],"a":{"b":1.5}}'
     same(want.encode(), room.get("out.map"))
+
+
+@case("members of other names are carried over in their order, with the text of each number, as another reader of JSON says")
+def _(room):
+    def pairs(text):
+        return json.loads(text, object_pairs_hook=lambda found: found, parse_int=str, parse_float=str)
+
+    room.put("in")
+    text = rb''' { "z" : [ 1.50, 1e2, -0, 123456789012345678901234567890, { "b" : 1, "a" : { } } ], "mappings" : "uB", "version" : 3,
+        "names" : [ ], "a" : "\ud83d\ude00\/\u0000\"", "z" : 2, "debugId" : null, "version" : 3, "names" : [ true ] } '''
+    room.put("in.map", text)
+    room.works("wrewrite", *MAPS, "in", "out")
+    was = pairs(text)
+    # of a name of the specification, the last member counts, as for Python
+    want = [(name, value) for name, value in (*was[-2:], ("mappings", "uB"))]
+    want += [(name, value) for name, value in was if name in ("z", "a", "debugId")]
+    same(want, pairs(room.get("out.map")))
+    same(dict(json.loads(text)), json.loads(room.get("out.map")))
 
 
 @case("--source-map with wsnip and wcount")

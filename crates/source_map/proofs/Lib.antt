@@ -12,5 +12,8 @@ pub mod Short
 -- loops: over segments, and over moves
 pub mod Loops
 pub mod Moves
--- text that is appended to a text
-pub mod Longer
+-- the JSON text of a source map
+pub mod Views
+pub mod Pieces
+pub mod Plain
+pub mod ReadBack

@@ -9,5 +9,9 @@ pub mod Shortest
 pub mod Moving
 -- which JSON texts are source maps
 pub mod SourceMaps
--- the JSON text that is written
+-- why a text is refused
+pub mod Errors
+pub mod Refusals
+-- the JSON text that is written, and its tokens
 pub mod WrittenSourceMaps
+pub mod Tokens

@@ -1,47 +1,62 @@
--- The JSON text of a source map with other mappings: an object of members, with no space.
-use Rattle.std.specs.Prelude.{◌≡◌, ℕ, List, [], ◌∷◌, ◌++◌, length, nat_lt, if◌then◌else◌, Option, Some, None, codes}
-use Rattle.serde_json.specs.Data.{Data}
-use Rattle.serde_json.specs.Find.{get}
-use Rattle.serde_json.specs.Written.{IsInOrder}
-use Rattle.source_map.specs.declared.mapping.Mapping.{Mapping}
-use Rattle.source_map.specs.Shortest.{spelling}
+-- The JSON text of a source map with other mappings: which members it has, and in which order.
+use Rattle.std.specs.Prelude.{◌≡◌, ℕ, List, [], ◌∷◌, ◌++◌, Bool, ◌||◌, false, if◌then◌else◌, Option, Some, None, IsUtf8, codes}
+use Rattle.std.specs.Str.{bytes_eq}
+use Rattle.json.specs.Json.{Json, string, object, Members, no_members, member}
+use Rattle.json.specs.Find.{get_member}
+use Rattle.json.specs.Print.{print, escape}
+use Rattle.json.specs.Tree.{json_tokens}
+use Rattle.source_map.specs.declared.json_text.source_map.SourceMap.{SourceMap}
+use Rattle.source_map.specs.Spelling.{SpellsMappings}
+use Rattle.source_map.specs.SourceMaps.{IsSourceMap}
 
--- a text in which nothing has to be escaped, as JSON
-abbrev pub in_quotes : List ℕ → List ℕ
-in_quotes text = 34 ∷ (text ++ 34 ∷ [])
-
--- a comma, unless only the brace that opens the object is before it
-abbrev pub comma_after : (before : List ℕ) → List ℕ
-comma_after before = if nat_lt 1 (length before) then 44 ∷ [] else []
-
--- these members, and one more
-abbrev pub with_member : (before name value : List ℕ) → List ℕ
-with_member before name value = before ++ (comma_after before ++ (in_quotes name ++ 58 ∷ value))
-
--- A member is put after others, with a text of its value that has each item and member once and in order; none if there is no
--- value.
-pub data IsPut (name : List ℕ) (found : Option Data) (before after : List ℕ) : Type 0 where
-  absent : found ≡ None → after ≡ before → IsPut name found before after
-  present : (d : Data) (value : List ℕ) → found ≡ Some d → IsInOrder value d → after ≡ with_member before name value → IsPut name found before after
-
--- the members of these names that the value has, in this order
-abbrev pub ArePut : Data → (names : List (List ℕ)) → (before after : List ℕ) → Type 0
-ArePut d [] before after = after ≡ before
-ArePut d (name ∷ names) before after = (next : List ℕ) × IsPut name (get name d) before next × ArePut d names next after
-
--- the order of the members before the mappings
+-- the names that come before the mappings, in their order
 abbrev pub order : List (List ℕ)
 order = codes "version" ∷ codes "file" ∷ codes "sourceRoot" ∷ codes "sources" ∷ codes "sourcesContent" ∷ codes "names" ∷ []
 
--- Something may be appended to the text.
-pub record IsLonger (before after : List ℕ) : Type 0 where
-  pub more : List ℕ
-  pub after_is : after ≡ before ++ more
+abbrev pub is_one_of : List (List ℕ) → List ℕ → Bool
+is_one_of [] name = false
+is_one_of (n ∷ names) name = bytes_eq name n || is_one_of names name
 
--- The text has the members of the value that are in the order, with their values, then these mappings, and then others.
-pub record IsTextWith (d : Data) (ms : List Mapping) (text : List ℕ) : Type 0 where
-  pub ordered : List ℕ
-  pub are_ordered : ArePut d order (123 ∷ []) ordered
-  pub all : List ℕ
-  pub are_longer : IsLonger (with_member ordered (codes "mappings") (in_quotes (spelling ms))) all
-  pub text_is : text ≡ all ++ 125 ∷ []
+-- the name has a place in the order
+abbrev pub is_ordered : List ℕ → Bool
+is_ordered name = is_one_of order name || bytes_eq name (codes "mappings")
+
+-- a member of this name before others, if it has a value
+abbrev pub put_before : (name : List ℕ) → Option Json → Members → Members
+put_before name None more = more
+put_before name (Some value) more = member name value more
+
+-- the members of these names, in the order of the names, before others
+abbrev pub ordered : (names : List (List ℕ)) → Members → (more : Members) → Members
+ordered [] _ more = more
+ordered (name ∷ names) members more = put_before name (get_member name members) (ordered names members more)
+
+-- the members whose names have no place in the order, in the order that they have
+abbrev pub others : Members → Members
+others no_members = no_members
+others (member name value members) = if is_ordered name then others members else member name value (others members)
+
+-- The members with another text of mappings: those that the specification names in its order, then all others.
+abbrev pub with_mappings : Members → (mappings : List ℕ) → Members
+with_mappings members mappings = ordered order members (member (codes "mappings") (string mappings) (others members))
+
+-- the JSON text of an object, with no space
+abbrev pub object_text : Members → List ℕ
+object_text members = print (json_tokens (object members))
+
+-- What a source map keeps of a text that it was read from: its mappings, and what is before and after their text in the texts that
+-- are written.
+pub record IsReadFrom (source : List ℕ) (members : Members) (map : SourceMap) : Type 0 where
+  pub mappings : List ℕ
+  pub is_source_map : IsSourceMap source members mappings
+  pub spells : SpellsMappings map.mappings.items mappings
+  pub front_is_utf8 : IsUtf8 map.front.items
+  pub back_is_utf8 : IsUtf8 map.back.items
+  pub parts : (text : List ℕ) → escape text ≡ text → map.front.items ++ (text ++ map.back.items) ≡ object_text (with_mappings members text)
+
+-- The text is that of an object with the members of the source, and with these mappings; and it reads back as a source map with
+-- these members and mappings.
+pub record IsTextWith (members : Members) (mappings : List ℕ) (text : List ℕ) : Type 0 where
+  pub text_is : text ≡ object_text (with_mappings members mappings)
+  pub is_utf8 : IsUtf8 text
+  pub reads_back : IsSourceMap text (with_mappings members mappings) mappings

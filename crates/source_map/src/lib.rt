@@ -7,7 +7,7 @@
 mod digit;
 mod fault;
 mod fields;
-mod json;
+mod json_text;
 mod law;
 mod mapping;
 mod moving;
@@ -16,7 +16,7 @@ mod reading;
 mod writing;
 
 pub use fault::{MappingsError, MappingsFault};
-pub use json::{SourceMap, SourceMapError, SourceMapFault, SourceMapFaultName};
+pub use json_text::{SourceMap, SourceMapError, SourceMapFault, SourceMapFaultName};
 pub use law::{law_one_reading, law_spelt};
 pub use mapping::{Mapping, Original};
 pub use moving::{Move, moved};

@@ -43,6 +43,24 @@ fn write_segment(out: &mut Vec<u8>, fields: Fields, mapping: Mapping) -> Result<
     write_original(out, fields, mapping.original)
 }
 
+/// Appends the text of `mappings`: each number with as few digits as possible.
+pub(crate) fn write_mappings(out: &mut Vec<u8>, mappings: &[Mapping]) -> Result<(), AllocError>
+    ensures { OnOk result (out.new.items ≡ out.old.items ++ spelling mappings.now) }
+{
+    let [first, others @ ..] = mappings else {
+        return Ok(());
+    };
+    let mut fields = Fields::start();
+    write_segment(out, fields, *first)?;
+    fields = fields.after(*first);
+    for mapping in others {
+        out.push(b',')?;
+        write_segment(out, fields, *mapping)?;
+        fields = fields.after(*mapping);
+    }
+    Ok(())
+}
+
 /// The text of `mappings`: each number with as few digits as possible. If the mappings are sorted
 /// by their generated columns, it is read back as the same mappings.
 ///
@@ -53,16 +71,6 @@ pub fn encode(alloc: Global, mappings: &[Mapping]) -> Result<Vec<u8>, AllocError
     ensures { IfOk result (λ text. text.items ≡ spelling mappings.now) }
 {
     let mut out = Vec::new(alloc);
-    let [first, others @ ..] = mappings else {
-        return Ok(out);
-    };
-    let mut fields = Fields::start();
-    write_segment(&mut out, fields, *first)?;
-    fields = fields.after(*first);
-    for mapping in others {
-        out.push(b',')?;
-        write_segment(&mut out, fields, *mapping)?;
-        fields = fields.after(*mapping);
-    }
+    write_mappings(&mut out, mappings)?;
     Ok(out)
 }
