@@ -145,7 +145,7 @@ def _(room):
 def _(room):
     with open(f"{TOP}/docs/PROGRAMS.md", encoding="utf-8") as file:
         rows = dict(re.findall(r"^\| `(\w+)` \| ([^|]*) \|", file.read(), re.M))
-    sources = ("wasm_sections/src/fault.rt", "wasm_body/src/error.rt", "wasm_numbers/src/fault.rt", "source_map/src/fault.rt", "source_map/src/json/fault.rt")
+    sources = ("wasm_sections/src/fault.rt", "wasm_body/src/error.rt", "wasm_numbers/src/fault.rt", "source_map/src/fault.rt", "source_map/src/json_text/fault.rt")
     for source in sources:
         with open(f"{TOP}/crates/{source}", encoding="utf-8") as file:
             found = re.findall(r'#\[error\("([^"]*)"[^\]]*\)\]\s*([A-Z]\w*)', file.read())

@@ -96,6 +96,21 @@ def _(room):
     runs_alike(room, "in", "out", SEEDS)
 
 
+@case("wgc, wloops, wtrace: a body that names what is added is refused as by wrewrite")
+def _(room):
+    # a global and a type that the module doesn't have, in a body with a loop; and a call through a type that it doesn't have
+    table = section(4, vector([b"\x70\0\0"]))
+    for body, place, says in (
+        (b"\x03\x40\x0b\x23\0\x1a", 0x1A, "index `0` is out of bounds for globals (OutOfRange)"),
+        (b"\x41\7\x41\7\x11\1\0", 0x21, "index `1` is out of bounds for types (OutOfRange)"),
+    ):
+        declared, code = functions([body])
+        room.put("in", PREAMBLE + TYPES + declared + (table if body[0] == 0x41 else b"") + code)
+        room.refuses("wrewrite", "in", "out", says=f"in: {place:#x}: function 0: {says}")
+        for program in ("wgc", "wloops", "wtrace"):
+            same((1, b"", f"{program}: in: {place:#x}: {says}\n"), room.run(program, "in"))
+
+
 @case("wgc, wloops, wtrace: a body that is refused, and words that are wrong")
 def _(room):
     # The second body is reached, and the first isn't: both are looked at, in order.

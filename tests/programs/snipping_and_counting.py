@@ -13,6 +13,14 @@ SECOND_SNIPPED = module([b"", TRAP, b""], exported=exports([(b"out", 2)]), after
 THIRD_SNIPPED = module([b"", b"", TRAP], exported=exports([(b"out", 2)]), after=names([(0, b"first"), (1, b"second")]))
 
 
+@case("what a program adds isn't the source's: a body that names it is refused")
+def _(room):
+    # `global.get 0, drop` in a module without globals
+    room.put("in", module([b"\x23\0\x1a"]))
+    for program, more in (("wrewrite", []), ("wsnip", ["0"]), ("wcount", [])):
+        room.refuses(program, "in", "out", *more, says="in: 0x17: function 0: index `0` is out of bounds for globals (OutOfRange)")
+
+
 @case("wsnip by index, by name, by export")
 def _(room):
     room.put("in", NAMED)

@@ -1,7 +1,8 @@
 -- what the tools change of a sequence
 pub mod Sequences
--- what they make of functions
+-- what they make of functions, and the global in which calls are counted
 pub mod FunctionChanges
+pub mod Counters
 -- how programs end
 pub mod Endings
 -- which paths lead to one file

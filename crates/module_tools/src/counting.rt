@@ -1,6 +1,14 @@
 //! Functions that count their calls.
 
-ghost use Rattle.std.specs.Prelude.{IfOk};
+ghost use Rattle.std.specs.Prelude.{◌≡◌, codes, List, IfOk};
+ghost use Rattle.wasm_operators.specs.declared.types.Space.TheVariants.{Globals};
+ghost use Rattle.wasm_sections.specs.declared.changes.Changes.{Changes as NewSections};
+ghost use Rattle.wasm_sections.specs.Additions.{AddsItem};
+ghost use Rattle.wasm_sections.specs.DefinedItems.{DefinesGlobal};
+ghost use Rattle.wasm_sections.specs.Omissions.{OmitsNothing};
+ghost use Rattle.wasm_sections.specs.Sections.{SectionAt, IsModule};
+ghost use Rattle.wasm_module.specs.AddedItems.{AddsExport, ChangesNumbersAlone};
+ghost use Rattle.module_tools.specs.Counters.{counter_bytes, HasCounter};
 ghost use Rattle.wasm_module.specs.declared.parsed.ParsedModule.{ParsedModule as Parsed};
 ghost use Rattle.wasm_module.specs.KeptCode.{AreKeptAs};
 ghost use Rattle.wasm_module.specs.RewrittenCode.{Extends, IsChanged, keeps_locals};
@@ -58,7 +66,9 @@ impl ChangeFunction for CountCalls {
 pub fn call_counter(
     alloc: Global,
     parsed: &mut ParsedModule<'_>,
-) -> Result<(CountCalls, Changes), ModuleError> {
+) -> Result<(CountCalls, Changes), ModuleError>
+    ensures { IfOk result (λ x. HasCounter parsed.old parsed.new x.1 (codes "calls") x.0.0) }
+{
     call_counter_named(alloc, parsed, CALLS)
 }
 
@@ -71,7 +81,9 @@ pub fn call_counter_named(
     alloc: Global,
     parsed: &mut ParsedModule<'_>,
     name: &str,
-) -> Result<(CountCalls, Changes), ModuleError> {
+) -> Result<(CountCalls, Changes), ModuleError>
+    ensures { IfOk result (λ x. HasCounter parsed.old parsed.new x.1 name.now x.0.0) }
+{
     let mut changes = Changes::new(alloc);
     match add_counter(parsed, &mut changes, name) {
         Ok(global) => Ok((CountCalls(global), changes)),
@@ -84,7 +96,13 @@ fn add_counter(
     parsed: &mut ParsedModule<'_>,
     changes: &mut Changes,
     name: &str,
-) -> Result<GlobalId, ModuleError> {
+) -> Result<GlobalId, ModuleError>
+    ensures kept { ChangesNumbersAlone Globals parsed.old parsed.new }
+    ensures defined { IfOk result (λ id. DefinesGlobal id parsed.old.spaces parsed.new.spaces) }
+    ensures adds { (all : List SectionAt) → IsModule parsed.old.bytes.now all → IfOk result
+        (λ id. (between : NewSections) × AddsItem all changes.old between 6 counter_bytes
+        × AddsExport all between changes.new name.now Globals id) }
+{
     let global = match parsed.add_global(changes, &COUNTER) {
         Ok(global) => global,
         Err(error) => return Err(error),
@@ -107,8 +125,10 @@ pub fn count_calls<'a>(
     parsed: &mut ParsedModule<'a>,
 ) -> Result<RewrittenModule<'a, KeptBodies<'a>>, ModuleError>
     ensures { IfOk result (λ made. (source : Parsed) × (counter : Counter)
+        × HasCounter parsed.old source made.changes (codes "calls") counter.0
         × Extends source parsed.new
-        × AreKeptAs (IsChanged (keeps_locals (CountsCalls counter.0))) source made.bodies) }
+        × AreKeptAs (IsChanged (keeps_locals (CountsCalls counter.0))) source made.bodies
+        × OmitsNothing made.omitted) }
 {
     match call_counter(alloc, parsed) {
         Ok((mut counter, changes)) => parsed.change_all(&mut counter, changes),

@@ -6,7 +6,7 @@ use Rattle.wasm_operators.specs.Shortest.{short_number}
 use Rattle.wasm_sections.specs.declared.changes.Changes.{Changes}
 use Rattle.wasm_sections.specs.declared.sections.Section.{Section}
 use Rattle.wasm_sections.specs.Additions.{SetsContents, AddsItem, contents_with}
-use Rattle.wasm_module.specs.AddedItems.{AddsData, has_data_count}
+use Rattle.wasm_module.specs.AddedItems.{AddsData, HasSegments, has_data_count}
 use Rattle.wasm_sections.specs.Sections.{SectionAt, first_with, section_at}
 use Rattle.wasm_sections.specs.GivenContents.{contents_in}
 
@@ -16,7 +16,7 @@ one_count text m n xs ys p q = ap (λ (x : ℕ × List ℕ). x.0) (ok_is (m, xs)
 -- A segment is added, and the data count is set to one more than the number that was read before.
 pub counted :
     (all : List SectionAt) (old middle new : Changes) (count : ℕ) (segment : List ℕ) → AddsItem all old middle 11 segment →
-    ((following : List ℕ) × (u32 (contents_with all old 11) ≡ Ok (count, following))) → SetsContents middle new 12 (short_number (count + 1)) →
+    HasSegments all old count → SetsContents middle new 12 (short_number (count + 1)) →
     AddsData all old new true segment
 counted all old middle new count segment a c s =
     let same : a.has_one_more.count ≡ count =
@@ -28,6 +28,7 @@ counted all old middle new count segment a c s =
       given = s.others 11 other ∙ a.sets.given;
       counts = s.given ∙ ap (λ (n : ℕ). Some (short_number (n + 1))) (sym same);
       others = λ id p q. s.others id q ∙ a.sets.others id p;
+      imports = s.imports ∙ a.sets.imports;
     }
 
 -- A segment is added, and nothing else.
@@ -40,6 +41,7 @@ uncounted all old new segment a =
       given = a.sets.given;
       counts = a.sets.others 12 other;
       others = λ id p q. a.sets.others id p;
+      imports = a.sets.imports;
     }
 
 some_of : (o : Option Section) → is_some (option_map section_at o) ≡ is_some o

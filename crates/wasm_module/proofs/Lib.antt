@@ -15,3 +15,10 @@ pub mod DataLemmas
 pub mod TypeLemmas
 -- a module that is written from bodies that are kept
 pub mod WriterLemmas
+-- the items of a module that is read, one more at a time
+pub mod ReadingLemmas
+pub mod TypeSectionLemmas
+pub mod ReadStepLemmas
+pub mod SectionsReadLemmas
+-- the sections that the bytes of a module are
+pub mod ModuleLawLemmas

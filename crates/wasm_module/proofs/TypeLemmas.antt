@@ -13,12 +13,14 @@ use Rattle.wasm_operators.specs.Shortest.{short_number, short_value}
 use Rattle.wasm_body.specs.Translation.{translate_value}
 use Rattle.wasm_body.proofs.Translation.Steps.{length-each}
 use Rattle.walrus_maps.specs.declared.ids_to_indices.IdsToIndices.{IdsToIndices}
-use Rattle.walrus_maps.specs.IndexMaps.{number_of, with_next_number}
+use Rattle.walrus_maps.specs.IndexMaps.{number_of}
 use Rattle.wasm_body.specs.declared.error.IndexError.{IndexError}
 use Rattle.wasm_operators.specs.declared.types.Space.TheVariants.{Types}
 use Rattle.wasm_sections.specs.declared.changes.Changes.{Changes}
 use Rattle.wasm_module.specs.declared.parsed.ParsedModule.{ParsedModule}
-use Rattle.wasm_module.specs.AddedItems.{IsWrittenTypes, IsWrittenFunctionType, AddsFunctionType, HasFunctionType}
+use Rattle.wasm_sections.specs.declared.spaces.Spaces.{Spaces}
+use Rattle.wasm_sections.specs.DefinedItems.{DefinesType}
+use Rattle.wasm_module.specs.AddedItems.{IsWrittenTypes, IsWrittenFunctionType, AddsFunctionType, HasFunctionType, ChangesTypesAndSpaces}
 use Rattle.wasm_module.specs.RewrittenCode.{Extends}
 use Rattle.wasm_sections.specs.Sections.{SectionAt}
 use Rattle.wasm_sections.proofs.LocalLemmas.{each_more}
@@ -80,31 +82,43 @@ not_ok {A} {E} r x e h = let f : false ≡ true = sym (ap (λ (s : Result A E). 
 
 pub is_found :
     (all : List SectionAt) (source now : ParsedModule) (changes : Changes) (ps rs : List (ValType ℕ)) (id index : ℕ) → find now.module.types ps rs ≡ Some id →
-    Extends source now → number_of now.spaces.numbers Types id ≡ Ok index → HasFunctionType all source now changes changes ps rs id
-is_found all source now changes ps rs id index first e n =
+    Extends source now → ChangesTypesAndSpaces source now → now.spaces ≡ source.spaces → number_of now.spaces.numbers Types id ≡ Ok index →
+    HasFunctionType all source now changes changes ps rs id
+is_found all source now changes ps rs id index first e kept spaces n =
     let before = ap (λ (m : IdsToIndices). number_of m Types id) (sym e.spaces.numbers) ∙ n in
     record {
       is_first = first;
       more = e.types.0;
       types = e.types.1;
-      had = λ h. (refl, e.spaces.numbers);
+      kept = kept;
+      had = λ h. (refl, spaces);
       adds = λ h. absurd (not_err (number_of source.spaces.numbers Types id) index before h);
     }
 
+-- types that are added, and then numbers
+pub both_kept :
+    (source middle now : ParsedModule) → ChangesTypesAndSpaces source middle → now ≡ record middle { spaces = now.spaces } → ChangesTypesAndSpaces source now
+both_kept source middle now p q =
+    let types : now.module.types ≡ middle.module.types = ap (λ (m : ParsedModule). m.module.types) q in
+    q ∙ ap (λ (m : ParsedModule). record m { spaces = now.spaces }) p
+    ∙ ap (λ (ts : List ModuleType). record source { «module» = record source.module { types = ts }; spaces = now.spaces }) (sym types)
+
 pub is_added :
     (all : List SectionAt) (source middle now : ParsedModule) (old new : Changes) (ps rs : List (ValType ℕ)) (id : ℕ) (error : IndexError) →
-    find middle.module.types ps rs ≡ Some id → Extends source middle → number_of middle.spaces.numbers Types id ≡ Err error →
-    now.module.types ≡ middle.module.types → AddsFunctionType all middle old new ps rs → now.spaces.numbers ≡ with_next_number Types id middle.spaces.numbers →
-    HasFunctionType all source now old new ps rs id
-is_added all source middle now old new ps rs id error first e n types a numbers =
+    find middle.module.types ps rs ≡ Some id → Extends source middle → ChangesTypesAndSpaces source middle → middle.spaces ≡ source.spaces →
+    number_of middle.spaces.numbers Types id ≡ Err error → now ≡ record middle { spaces = now.spaces } → AddsFunctionType all middle old new ps rs →
+    DefinesType id middle.spaces now.spaces → HasFunctionType all source now old new ps rs id
+is_added all source middle now old new ps rs id error first e kept spaces n after a defines =
     let before = ap (λ (m : IdsToIndices). number_of m Types id) (sym e.spaces.numbers) ∙ n in
+    let types : now.module.types ≡ middle.module.types = ap (λ (m : ParsedModule). m.module.types) after in
     record {
       is_first = ap (λ (ts : List ModuleType). find ts ps rs) types ∙ first;
       more = e.types.0;
       types = types ∙ e.types.1;
+      kept = both_kept source middle now kept after;
       had = λ h. absurd (not_ok (number_of source.spaces.numbers Types id) error before h);
       adds = λ h. (
         (a.0, subst (λ (m : IdsToIndices). IsWrittenFunctionType m ps rs a.0) e.spaces.numbers a.1, a.2),
-        numbers ∙ ap (λ (m : IdsToIndices). with_next_number Types id m) e.spaces.numbers,
+        subst (λ (s : Spaces). DefinesType id s now.spaces) spaces defines,
       );
     }

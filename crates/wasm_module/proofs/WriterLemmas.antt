@@ -191,6 +191,10 @@ module _ {State : Type 0} (changes : FunctionChange State) (source : ParsedModul
 
 -- ---- of a result
 
+pub if_pair : {A E : Type 0} (P Q : A → Type 0) (r : Result A E) → IfOk r P → IfOk r Q → IfOk r (λ x. P x × Q x)
+if_pair P Q (Ok x) p q = (p, q)
+if_pair P Q (Err e) p q = tt
+
 pub if_both : {A E X : Type 0} {P Q : A → Type 0} (r : Result A E) → OnOk r X → IfOk r P → ((a : A) → X → P a → Q a) → IfOk r Q
 if_both (Ok a) x p f = f a x p
 if_both (Err e) x p f = tt

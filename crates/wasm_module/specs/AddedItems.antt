@@ -4,6 +4,7 @@ use Rattle.std.specs.Prelude.{◌≡◌, ◌≢◌, ◌+◌, ◌||◌, ℕ, ℤ,
 use Rattle.std.specs.List.{flat_map}
 use Rattle.wasm_types.specs.declared.val_type.ValType.{ValType}
 use Rattle.walrus_ir.specs.declared.value.Value.TheVariants.{I32}
+use Rattle.wasm_numbers.specs.Numbers.{u32}
 use Rattle.wasm_numbers.specs.Results.{each}
 use Rattle.walrus_ir.specs.Types.{ModuleType, find}
 use Rattle.wasm_operators.specs.declared.types.Space.{Space}
@@ -11,15 +12,23 @@ use Rattle.wasm_operators.specs.declared.types.Space.TheVariants.{Types}
 use Rattle.wasm_operators.specs.Shortest.{short_number, short_value}
 use Rattle.wasm_body.specs.Translation.{translate_value}
 use Rattle.walrus_maps.specs.declared.ids_to_indices.IdsToIndices.{IdsToIndices}
-use Rattle.walrus_maps.specs.IndexMaps.{number_of, with_next_number}
+use Rattle.walrus_maps.specs.IndexMaps.{number_of}
 use Rattle.wasm_sections.specs.declared.changes.Changes.{Changes}
 use Rattle.wasm_module.specs.declared.parsed.ParsedModule.{ParsedModule}
+use Rattle.wasm_sections.specs.DefinedItems.{ChangesNumbersOf, DefinesType}
 use Rattle.wasm_sections.specs.Additions.{HasOneMore, AddsItem, contents_with}
 use Rattle.wasm_sections.specs.CodeSections.{entry}
 use Rattle.wasm_sections.specs.Constants.{constant_of}
 use Rattle.wasm_sections.specs.Sections.{SectionAt, first_with}
 use Rattle.wasm_sections.specs.Views.{IsExportKind}
 use Rattle.wasm_sections.specs.GivenContents.{contents_in}
+
+-- ---- what an addition leaves of the module
+
+-- Nothing of the module changes but the numbers of this index space, by which items are written, and the counts.
+pub record ChangesNumbersAlone (space : Space) (old new : ParsedModule) : Type 0 where
+  pub kept : new ≡ record old { spaces = new.spaces }
+  pub numbers : ChangesNumbersOf space old.spaces new.spaces
 
 -- ---- exports (binary format, export section)
 
@@ -50,16 +59,21 @@ abbrev pub AddsFunctionType : (all : List SectionAt) → ParsedModule → (old n
 AddsFunctionType all source old new parameters results =
     (item : List ℕ) × IsWrittenFunctionType source.spaces.numbers parameters results item × AddsItem all old new 1 item
 
+-- Types are added after the module's own, at most, and nothing else of it changes but its spaces.
+abbrev pub ChangesTypesAndSpaces : (old new : ParsedModule) → Type 0
+ChangesTypesAndSpaces old new = new ≡ record old { «module» = record old.module { types = new.module.types }; spaces = new.spaces }
+
 -- The first function type with these parameters and results has this id. If it had an index before, nothing else has changed;
 -- otherwise it is added, and has the next index.
 pub record HasFunctionType (all : List SectionAt) (source now : ParsedModule) (old new : Changes) (parameters results : List (ValType ℕ)) (id : ℕ) : Type 0 where
   pub is_first : find now.module.types parameters results ≡ Some id
   pub more : List ModuleType
   pub types : now.module.types ≡ source.module.types ++ more
-  pub had : IsOk (number_of source.spaces.numbers Types id) → (new ≡ old) × (now.spaces.numbers ≡ source.spaces.numbers)
+  pub kept : ChangesTypesAndSpaces source now
+  pub had : IsOk (number_of source.spaces.numbers Types id) → (new ≡ old) × (now.spaces ≡ source.spaces)
   pub adds :
       IsErr (number_of source.spaces.numbers Types id) → AddsFunctionType all source old new parameters results
-      × (now.spaces.numbers ≡ with_next_number Types id source.spaces.numbers)
+      × DefinesType id source.spaces now.spaces
 
 -- ---- data segments (binary format, data section, data count section)
 
@@ -80,6 +94,10 @@ CountsData true count old new = new ≡ Some (short_number count)
 abbrev pub has_data_count : (all : List SectionAt) → Changes → Bool
 has_data_count all changes = is_some (contents_in changes.given.items 12) || is_some (first_with 12 all)
 
+-- how many data segments the module of these sections has, with these changes
+abbrev pub HasSegments : (all : List SectionAt) → Changes → (count : ℕ) → Type 0
+HasSegments all changes count = (following : List ℕ) × (u32 (contents_with all changes 11) ≡ Ok (count, following))
+
 -- A data segment is added after the others.
 pub record AddsData (all : List SectionAt) (old new : Changes) (is_counted : Bool) (segment : List ℕ) : Type 0 where
   pub contents : List ℕ
@@ -87,3 +105,4 @@ pub record AddsData (all : List SectionAt) (old new : Changes) (is_counted : Boo
   pub given : contents_in new.given.items 11 ≡ Some contents
   pub counts : CountsData is_counted (has_one_more.count + 1) (contents_in old.given.items 12) (contents_in new.given.items 12)
   pub others : (other : ℕ) → other ≢ 11 → other ≢ 12 → contents_in new.given.items other ≡ contents_in old.given.items other
+  pub imports : new.imports ≡ old.imports

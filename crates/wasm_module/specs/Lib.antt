@@ -15,3 +15,6 @@ pub mod AddedItems
 pub mod AddedFunctions
 -- bodies that are kept from the first pass to the second, as they were changed
 pub mod KeptCode
+-- what a module that was read consists of, and the steps in which it is read; and what this tells of the bytes
+pub mod ReadModules
+pub mod ReadFrom

@@ -3,7 +3,8 @@ ghost use Rattle.std.specs.Prelude.{◌≡◌, ◌+◌, ◌-◌, ◌++◌, ℕ, 
 ghost use Rattle.wasm_operators.specs.declared.types.Space.TheVariants.{Funcs, Tables, Memories, Globals, Tags};
 ghost use Rattle.wasm_sections.specs.Additions.{AreUnchanged, AddsItem, contents_with, source_contents};
 ghost use Rattle.wasm_sections.specs.Constants.{global_of};
-ghost use Rattle.wasm_module.specs.AddedItems.{export_of, AddsExport};
+ghost use Rattle.wasm_sections.specs.DefinedItems.{DefinesGlobal};
+ghost use Rattle.wasm_module.specs.AddedItems.{export_of, AddsExport, ChangesNumbersAlone};
 ghost use Rattle.wasm_module.specs.ImportedFunctions.{IsWrittenFunction};
 ghost use Rattle.wasm_sections.specs.Sections.{SectionAt, IsModule, first_with, section_id};
 
@@ -98,7 +99,8 @@ impl<'a> ParsedModule<'a> {
         }
     }
 
-    /// Adds a global after all others. Its bytes are its type and a constant expression.
+    /// Adds a global after all others. Its bytes are its type and a constant expression. Changes of
+    /// functions may name it by its id; no body of the source can, since it has no index there.
     ///
     /// # Errors
     ///
@@ -112,6 +114,8 @@ impl<'a> ParsedModule<'a> {
         ensures ok { (all : List SectionAt) → IsModule self.old.bytes.now all
             → OnOk result (AddsItem all changes.old changes.new 6 global.now) }
         ensures err { OnErr result (AreUnchanged changes.old changes.new) }
+        ensures defined { IfOk result (λ id. DefinesGlobal id self.old.spaces self.new.spaces) }
+        ensures kept { ChangesNumbersAlone Globals self.old self.new }
     {
         let mut input = Input::new(global);
         match input.global() {
@@ -138,6 +142,8 @@ impl<'a> ParsedModule<'a> {
         ensures ok { (all : List SectionAt) → IsModule self.old.bytes.now all
             → OnOk result (AddsItem all changes.old changes.new 6 (global_of value is_mutable)) }
         ensures err { OnErr result (AreUnchanged changes.old changes.new) }
+        ensures defined { IfOk result (λ id. DefinesGlobal id self.old.spaces self.new.spaces) }
+        ensures kept { ChangesNumbersAlone Globals self.old self.new }
     {
         let mut global = Vec::new(self.alloc);
         match write_global(&mut global, value, is_mutable) {
@@ -155,12 +161,13 @@ impl<'a> ParsedModule<'a> {
         ensures ok { (all : List SectionAt) → IsModule self.old.bytes.now all
             → OnOk result (AddsItem all changes.old changes.new 6 global.now) }
         ensures err { OnErr result (AreUnchanged changes.old changes.new) }
+        ensures defined { IfOk result (λ id. DefinesGlobal id self.old.spaces self.new.spaces) }
+        ensures kept { ChangesNumbersAlone Globals self.old self.new }
     {
-        let id = GlobalId::new(self.spaces.globals());
-        match self.spaces.add_global() {
-            Ok(()) => {}
+        let id = match self.spaces.define_global() {
+            Ok(id) => id,
             Err(error) => return Err(ModuleError::of_index(error, 0)),
-        }
+        };
         match self.add_item(changes, SectionKind::Global, global) {
             Ok(()) => Ok(id),
             Err(error) => Err(error),

@@ -270,6 +270,9 @@ impl<'a> ParsedModule<'a> {
         ensures extends { Extends self.old self.new }
         ensures rewritten { OnOk result
             (IsRewritten self.old body.entry.func (body_at body.entry) scratch.new.raw.items) }
+        // The function that is returned is the parsed one.
+        ensures parsed { IfOk result
+            (IsParsed self.old body.entry.func (body_at body.entry) self.new) }
         ensures refused { IfErr result
             (IsNotRewritten self.old body.entry.func (body_at body.entry) self.new) }
         ensures instrs { instrs.new.items ≡ [] }
@@ -317,6 +320,9 @@ impl<'a> ParsedModule<'a> {
         ensures extends { Extends self.old self.new }
         ensures rewritten { OnOk result
             (IsRewritten self.old body.entry.func (body_at body.entry) scratch.new.raw.items) }
+        // The function that is returned is the parsed one.
+        ensures parsed { IfOk result
+            (IsParsed self.old body.entry.func (body_at body.entry) self.new) }
         ensures refused { IfErr result
             (IsNotRewritten self.old body.entry.func (body_at body.entry) self.new) }
         ensures instrs { instrs.new.items ≡ [] }
@@ -347,6 +353,9 @@ impl<'a> ParsedModule<'a> {
         ensures extends { Extends self.old self.new }
         ensures rewritten { OnOk result
             (IsRewritten self.old body.entry.func (body_at body.entry) scratch.new.raw.items) }
+        // The function that is returned is the parsed one.
+        ensures parsed { IfOk result
+            (IsParsed self.old body.entry.func (body_at body.entry) self.new) }
         ensures refused { IfErr result
             (IsNotRewritten self.old body.entry.func (body_at body.entry) self.new) }
         ensures instrs { instrs.new.items ≡ [] }
@@ -368,6 +377,9 @@ impl<'a> ParsedModule<'a> {
         ensures extends { Extends self.old self.new }
         ensures rewritten { OnOk result
             (IsRewritten self.old body.entry.func (body_at body.entry) scratch.new.raw.items) }
+        // The function that is returned is the parsed one.
+        ensures parsed { IfOk result
+            (IsParsed self.old body.entry.func (body_at body.entry) self.new) }
         ensures refused { IfErr result
             (IsNotRewritten self.old body.entry.func (body_at body.entry) self.new) }
         ensures instrs { instrs.new.items ≡ [] }

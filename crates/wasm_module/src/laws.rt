@@ -1,10 +1,13 @@
-//! The law of bodies that are kept, stated as the contract of a function that does nothing.
+//! Laws of modules that are read and of bodies that are kept, each stated as the contract of a function
+//! that does nothing.
 
-ghost use Rattle.std.specs.Prelude.{ℕ, List};
+ghost use Rattle.std.specs.Prelude.{◌≡◌, ℕ, List, Ok};
 ghost use Rattle.wasm_module.specs.declared.changing.kept_bodies.KeptBodies.{KeptBodies as Kept};
 ghost use Rattle.wasm_module.specs.declared.parsed.ParsedModule.{ParsedModule as Parsed};
 ghost use Rattle.wasm_module.specs.KeptCode.{IsKept, AreKept, IsChangedCode};
 ghost use Rattle.wasm_module.specs.RewrittenCode.{Extends};
+ghost use Rattle.wasm_module.specs.ReadModules.{HasOneSpelling};
+ghost use Rattle.wasm_sections.specs.Components.{Components, module_of};
 ghost use Rattle.wasm_sections.specs.Sections.{SectionAt};
 ghost use Rattle.wasm_module.specs.WrittenModules.{IsWrittenCode};
 
@@ -18,4 +21,9 @@ pub fn law_changed_code<C: ChangeFunction>()
         (code : List ℕ) → Extends source now → AreKept C.changes source before kept after
         → IsWrittenCode (IsKept kept) now s code
         → IsChangedCode C.changes source before s code after }
+{}
+
+/// Bytes that spell a module are one list of sections, and no other.
+pub fn law_module(bytes: &[u8])
+    ensures { (m : Components) → module_of bytes.now ≡ Ok m → HasOneSpelling bytes.now }
 {}

@@ -1,13 +1,11 @@
 -- The bytes that a reader leaves are the last of those that it was given.
-use Rattle.std.proofs.Common.{◌≡◌, ℕ, zero, suc, Bool, List, [], ◌∷◌, ◌++◌, length, take, drop, ◌-◌, Result, Ok, Err, refl, sym, ap, ◌∙◌, append_assoc, inl, inr, arith, length-append}
+use Rattle.std.proofs.Common.{◌≡◌, ℕ, zero, suc, Bool, List, [], ◌∷◌, ◌++◌, length, take, drop, ◌-◌, Result, Ok, refl, sym, ap, ◌∙◌, append_assoc, inl, inr, arith, length-append}
 use Rattle.std.proofs.Math.Seq.{take-append_seam}
 use Rattle.wasm_numbers.specs.Results.{◌>>=◌}
-use Rattle.wasm_types.specs.declared.val_type.ValType.{ValType}
 use Rattle.wasm_numbers.proofs.ResultLemmas.{bind_ok}
 use Rattle.wasm_numbers.specs.declared.fault.ReadFault.{ReadFault}
 use Rattle.wasm_numbers.specs.Reading.{Reader, then_read, made, many, starts, switch}
 use Rattle.wasm_numbers.specs.Numbers.{Encoding, integer, byte, u32, unsigned, signed}
-use Rattle.wasm_operators.specs.Rows.{first_some}
 use Rattle.wasm_operators.specs.Types.{heap_at, value_at, nullable_at, is_listed, listed, abstract_heap, concrete_heap, heap_type, reference, value_type}
 use Rattle.wasm_numbers.proofs.Agreement.{ok_is, chosen}
 use Rattle.wasm_sections.specs.Declarations.{group, groups}

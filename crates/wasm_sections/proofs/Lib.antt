@@ -1,6 +1,10 @@
 -- reading takes bytes from the front, so that the bytes that are left are an end of those before
 pub mod NumberLemmas
 pub mod Leaving
+-- parts of a module, one after the other, and repeated
+pub mod PartLemmas
+pub mod RepeatedLemmas
+pub mod ConstantLemmas
 -- declarations of locals, group by group; indices of locals, one more at a time
 pub mod LocalLemmas
 pub mod LaneLocals
@@ -14,3 +18,9 @@ pub mod AdditionLemmas
 -- sections in which the indices of functions are others, item by item; and the indices of functions
 pub mod MovedLemmas
 pub mod RenumberingLemmas
+-- numbers where an item is added to a module that was read
+pub mod DefinedLemmas
+-- the types of a section, item by item
+pub mod TypeReadingLemmas
+-- examples that fix the definitions of a module and of its parts: modules and parts by hand, computed
+pub mod Examples

@@ -13,7 +13,7 @@ use Rattle.wasm_numbers.specs.Reading.{Reader, many}
 use Rattle.wasm_numbers.proofs.Agreement.{ok_is}
 use Rattle.walrus_maps.specs.declared.indices_to_ids.IndicesToIds.{IndicesToIds}
 use Rattle.wasm_sections.proofs.Leaving.{groups_leave, dropped}
-use Rattle.wasm_sections.specs.Declarations.{group, groups, named_group, expanded, HaveLocals, HasNoLocals, max_locals, parameters_of_type, DeclaresGroup, HasNoGroup}
+use Rattle.wasm_sections.specs.Declarations.{group, named_group, expanded, HaveLocals, HasNoLocals, max_locals, parameters_of_type, DeclaresGroup, HasNoGroup}
 
 -- ---- one more after others
 

@@ -1,5 +1,5 @@
 -- Sections in which the indices of functions are others: one more item after others; one more operator of a constant expression.
-use Rattle.std.proofs.Common.{◌≡◌, Bool, true, false, ℕ, zero, suc, ◌+◌, ◌-◌, List, [], ◌∷◌, ◌++◌, length, take, Result, Ok, Err, OnOk, refl, sym, ap, subst, ◌∙◌, append_assoc, add-one, arith}
+use Rattle.std.proofs.Common.{◌≡◌, Bool, ℕ, zero, suc, ◌+◌, ◌-◌, ◌%◌, ◌==◌, nat_le, List, [], ◌∷◌, ◌++◌, length, take, Result, Ok, OnOk, refl, sym, ap, subst, ◌∙◌, append_assoc, add-one, arith}
 use Rattle.std.proofs.lemmas.List.{append-nil}
 use Rattle.std.proofs.Math.Seq.{take-append_seam}
 use Rattle.wasm_numbers.specs.Numbers.{u32}
@@ -9,10 +9,15 @@ use Rattle.wasm_operators.specs.Spelling.{Spells}
 use Rattle.wasm_sections.specs.declared.globals.GlobalType.{GlobalType}
 use Rattle.wasm_sections.specs.declared.sections.SectionKind.{SectionKind}
 use Rattle.wasm_sections.specs.declared.sections.SectionKind.TheVariants as section
-use Rattle.wasm_sections.specs.MovedFunctions.{AreMoved, AreCounted, MovesInstruction, MovesConstant, last, before, MovesGlobal, MovesContents, AreMovedContents}
-use Rattle.wasm_sections.specs.Views.{BeginsMutability, BeginsGlobalType}
-use Rattle.wasm_sections.proofs.Leaving.{value_type_leaves}
+use Rattle.wasm_sections.specs.MovedFunctions.{AreMoved, AreCounted, MovesInstruction, MovesConstant, last, before, MovesConstantIf, MovesGlobal, MovesTable, MovesElement, MovesSegment, CopiesPart, MovesContents, AreMovedContents}
+use Rattle.wasm_sections.specs.Format.{global_type_part, table_front_part, element_flags_part, element_type_part}
+use Rattle.wasm_sections.specs.Parts.{Part}
+use Rattle.wasm_sections.proofs.PartLemmas.{EndFollows, element_type_anywhere}
 use Rattle.wasm_sections.proofs.NumberLemmas.{before_last}
+
+-- these bytes, and then those
+then_those : (old mid new first others : List ℕ) → mid ≡ old ++ first → new ≡ mid ++ others → new ≡ old ++ (first ++ others)
+then_those old mid new first others e f = f ∙ ap (λ (l : List ℕ). l ++ others) e ∙ append_assoc old first others
 
 -- ---- items
 
@@ -40,7 +45,7 @@ pub one_moved :
     SoFar Moves count text left old out → Moves left following first → new ≡ out ++ first → SoFar Moves (count + 1) text following old new
 one_moved Moves count text left following old out new first s m e =
     let more = one_more Moves count text left following s.0 first s.1 m in
-    let is : new ≡ old ++ (s.0 ++ first) = e ∙ ap (λ (l : List ℕ). l ++ first) s.2 ∙ append_assoc old s.0 first in
+    let is = then_those old out new s.0 first s.2 e in
     (s.0 ++ first, subst (λ (n : ℕ). AreMoved Moves n text following (s.0 ++ first)) (sym (add-one count)) more, is)
 
 pub all_moved :
@@ -49,7 +54,7 @@ pub all_moved :
     (written : List ℕ) × AreCounted Moves text left written × (new ≡ old ++ written)
 all_moved Moves counter count text items left old out new all n e s =
     let moved = subst (λ (k : ℕ). AreMoved Moves k items left s.0) all s.1 in
-    let is : new ≡ old ++ (short_number count ++ s.0) = s.2 ∙ ap (λ (l : List ℕ). l ++ s.0) e ∙ append_assoc old (short_number count) s.0 in
+    let is = then_those old out new (short_number count) s.0 e s.2 in
     (short_number count ++ s.0, record { count = count; items = items; others = s.0; count_is = n; are_moved = moved; written_is = refl }, is)
 
 -- ---- constant expressions
@@ -78,7 +83,7 @@ pub one_operator :
     (imported added : ℕ) (text left after old out new first : List ℕ) → ConstantSoFar imported added text left old out →
     MovesInstruction imported added left after first → new ≡ out ++ first → ConstantSoFar imported added text after old new
 one_operator imported added text left after old out new first s m e =
-    let is : new ≡ old ++ (s.0 ++ first) = e ∙ ap (λ (l : List ℕ). l ++ first) s.2 ∙ append_assoc old s.0 first in (
+    let is = then_those old out new s.0 first s.2 e in (
       s.0 ++ first,
       λ following others rest.
           subst (λ (l : List ℕ). MovesConstant imported added text following l) (sym (append_assoc s.0 first others))
@@ -91,41 +96,27 @@ pub last_operator :
     left ≡ 0x0b ∷ following → first ≡ 0x0b ∷ [] → new ≡ out ++ first →
     (written : List ℕ) × MovesConstant imported added text following written × (new ≡ old ++ written)
 last_operator imported added text left following old out new first s is_end is_byte e =
-    let is : new ≡ old ++ (s.0 ++ first) = e ∙ ap (λ (l : List ℕ). l ++ first) s.2 ∙ append_assoc old s.0 first in
+    let is = then_those old out new s.0 first s.2 e in
     (s.0 ++ first, s.1 following first (last is_end is_byte), is)
-
--- the bytes of a global's type come before its constant expression
-mutability_byte : (text rest : List ℕ) (is_mutable : Bool) → BeginsMutability text is_mutable rest → (byte : ℕ) × (text ≡ byte ∷ rest)
-mutability_byte text rest false e = (0, e)
-mutability_byte text rest true e = (1, e)
-
-pub type_front : (text rest : List ℕ) (type : GlobalType) → BeginsGlobalType text type rest → text ≡ take (length text - length rest) text ++ rest
-type_front text rest type t =
-    let v = value_type_leaves text type.value t.after_value t.value_is in
-    let m = mutability_byte t.after_value rest type.is_mutable t.mutability_is in
-    let parts : text ≡ (v.0 ++ m.0 ∷ []) ++ rest = v.1 ∙ ap (λ (l : List ℕ). v.0 ++ l) m.1 ∙ sym (append_assoc v.0 (m.0 ∷ []) rest) in
-    sym (before_last text (v.0 ++ m.0 ∷ []) rest parts)
 
 -- ---- sections by kind
 
-nothing : {A E : Type 0} (r : Result A E) → OnOk r (Unit {0})
-nothing (Ok x) = tt
-nothing (Err e) = tt
+-- what one kind's contents are, those of an equal kind are
+pub contents_of_kind :
+    {A E : Type 0} (r : Result A E) (imported added : ℕ) (k j : SectionKind) (text following old new : List ℕ) → j ≡ k →
+    OnOk r (MovesContents imported added k text following old new) → OnOk r (MovesContents imported added j text following old new)
+contents_of_kind r imported added k j text following old new e m =
+    subst (λ (i : SectionKind). OnOk r (MovesContents imported added i text following old new)) (sym e) m
 
-pub other_contents :
+pub segment_contents :
     {A E : Type 0} (r : Result A E) (imported added : ℕ) (k : SectionKind) (text following old new : List ℕ) →
-    (k ≡ section.Start → ⊥) → (k ≡ section.Export → ⊥) → (k ≡ section.Global → ⊥) →
-    OnOk r (MovesContents imported added k text following old new)
-other_contents r imported added section.Start text following old new s e g = absurd (s refl)
-other_contents r imported added section.Export text following old new s e g = absurd (e refl)
-other_contents r imported added section.Global text following old new s e g = absurd (g refl)
-other_contents r imported added _ text following old new s e g = nothing r
-
-pub table_contents :
-    {A E : Type 0} (r : Result A E) (imported added : ℕ) (k : SectionKind) (text following old new : List ℕ) →
-    k ≡ section.Table → OnOk r (MovesContents imported added k text following old new)
-table_contents r imported added k text following old new e =
-    subst (λ (j : SectionKind). OnOk r (MovesContents imported added j text following old new)) (sym e) (nothing r)
+    (k ≡ section.Start → ⊥) → (k ≡ section.Export → ⊥) → (k ≡ section.Global → ⊥) → (k ≡ section.Table → ⊥) →
+    OnOk r (MovesContents imported added section.Element text following old new) → OnOk r (MovesContents imported added k text following old new)
+segment_contents r imported added section.Start text following old new s e g t m = absurd (s refl)
+segment_contents r imported added section.Export text following old new s e g t m = absurd (e refl)
+segment_contents r imported added section.Global text following old new s e g t m = absurd (g refl)
+segment_contents r imported added section.Table text following old new s e g t m = absurd (t refl)
+segment_contents r imported added _ text following old new s e g t m = m
 
 pub whole_contents :
     (imported added : ℕ) (k : SectionKind) (contents text left old new : List ℕ) → text ≡ contents → left ≡ [] → old ≡ [] →
@@ -135,23 +126,88 @@ whole_contents imported added k contents text left old new e f g m =
     let second : MovesContents imported added k contents [] old new = subst (λ (l : List ℕ). MovesContents imported added k contents l old new) f first in
     subst (λ (l : List ℕ). MovesContents imported added k contents [] l new) g second
 
+-- ---- parts that are copied
+
+pub part_copied :
+    {A : Type 0} (part : Part A) → EndFollows part → (end : ℕ) (x : A) (text following old new copied : List ℕ) → part end text ≡ Ok (x, following) →
+    copied ≡ take (length text - length following) text → new ≡ old ++ copied → CopiesPart part x end text following old new
+part_copied part follows end x text following old new copied e is f =
+    let front = follows end text x following e in (
+      take (length text - length following) text,
+      e,
+      sym (before_last text front.0 following front.1),
+      f ∙ ap (λ (l : List ℕ). old ++ l) is,
+    )
+
 pub global_moved :
-    (imported added : ℕ) (text initial following front written old mid new : List ℕ) (type : GlobalType) →
-    BeginsGlobalType text type initial → text ≡ front ++ initial → mid ≡ old ++ front →
-    MovesConstant imported added initial following written → new ≡ mid ++ written →
+    (imported added end : ℕ) (text initial following written old mid new : List ℕ) (type : GlobalType) →
+    CopiesPart global_type_part type end text initial old mid → MovesConstant imported added initial following written → new ≡ mid ++ written →
     (all : List ℕ) × MovesGlobal imported added text following all × (new ≡ old ++ all)
-global_moved imported added text initial following front written old mid new type t p e m f =
-    let is : new ≡ old ++ (front ++ written) = f ∙ ap (λ (l : List ℕ). l ++ written) e ∙ append_assoc old front written in (
-      front ++ written,
+global_moved imported added end text initial following written old mid new type c m f = (
+  c.0 ++ written,
+  record {
+    end = end;
+    type = type;
+    initial = initial;
+    front = c.0;
+    others = written;
+    type_is = c.1;
+    parts = c.2;
+    constant = m;
+    written_is = refl;
+  },
+  then_those old mid new c.0 written c.3 f,
+)
+
+pub table_moved :
+    (imported added end : ℕ) (has_initial : Bool) (text initial following written old mid new : List ℕ) →
+    CopiesPart table_front_part has_initial end text initial old mid → MovesConstantIf imported added has_initial initial following written →
+    new ≡ mid ++ written → (all : List ℕ) × MovesTable imported added text following all × (new ≡ old ++ all)
+table_moved imported added end has_initial text initial following written old mid new c m f = (
+  c.0 ++ written,
+  record {
+    end = end;
+    has_initial = has_initial;
+    initial = initial;
+    front = c.0;
+    others = written;
+    front_is = c.1;
+    parts = c.2;
+    initial_is = m;
+    written_is = refl;
+  },
+  then_those old mid new c.0 written c.3 f,
+)
+
+pub segment_moved :
+    (imported added end later flags : ℕ) (text after_flags after_offset after_type following offset elements : List ℕ)
+    (old first second third new : List ℕ) →
+    CopiesPart element_flags_part flags end text after_flags old first →
+    MovesConstantIf imported added ((flags % 2) == 0) after_flags after_offset offset → second ≡ first ++ offset →
+    CopiesPart (element_type_part flags) tt later after_offset after_type second third →
+    AreCounted (MovesElement imported added (nat_le 4 flags)) after_type following elements → new ≡ third ++ elements →
+    (all : List ℕ) × MovesSegment imported added text following all × (new ≡ old ++ all)
+segment_moved
+    imported added end later flags text after_flags after_offset after_type following offset elements old first second third new c m e d n f = (
+      c.0 ++ (offset ++ (d.0 ++ elements)),
       record {
-        type = type;
-        initial = initial;
-        front = front;
-        others = written;
-        type_is = t;
-        parts = p;
-        constant = m;
+        end = end;
+        flags = flags;
+        front = c.0;
+        after_flags = after_flags;
+        offset = offset;
+        after_offset = after_offset;
+        type = d.0;
+        after_type = after_type;
+        elements = elements;
+        flags_are = c.1;
+        front_is = c.2;
+        offset_is = m;
+        type_are = element_type_anywhere flags later end after_offset tt after_type d.1;
+        type_is = d.2;
+        elements_are = n;
         written_is = refl;
       },
-      is,
+      then_those old first new c.0 (offset ++ (d.0 ++ elements)) c.3
+          (then_those first second new offset (d.0 ++ elements) e (then_those second third new d.0 elements d.3 f)),
     )

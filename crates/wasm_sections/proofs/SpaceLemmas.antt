@@ -46,7 +46,7 @@ next_local m more n h e =
     let found : list_of (insert m.locals 0 list) 0 ≡ list = ap (λ (o : Option (List ℕ)). unwrap_or o []) (get-insert nat_cmp_total m.locals 0 list 0) in
     ap (λ (x : IndicesToIds). locals_in x 0) e ∙ found ∙ ap (λ (l : List ℕ). l ++ n ∷ []) h ∙ sym (ap first_numbers (add-one n))
 
-first_numbers_length : (n : ℕ) → length (first_numbers n) ≡ n
+pub first_numbers_length : (n : ℕ) → length (first_numbers n) ≡ n
 first_numbers_length zero = refl
 first_numbers_length (suc n) = let all = length-append (first_numbers n) (n ∷ []) in let front = first_numbers_length n in omega arith
 
@@ -60,7 +60,7 @@ first_number (suc n) i d h =
       | inl same ↦ ap (λ (k : ℕ). get_or (first_numbers n ++ n ∷ []) k d) (same ∙ sym len) ∙ get_or-append_seam (first_numbers n) n [] d ∙ sym same
     ]
 
-number_in : (l : List ℕ) (n i : ℕ) → l ≡ first_numbers n → i < n → slice_get l i ≡ Some i
+pub number_in : (l : List ℕ) (n i : ℕ) → l ≡ first_numbers n → i < n → slice_get l i ≡ Some i
 number_in l n i e h =
     let len = first_numbers_length n in
     ap (λ (l : List ℕ). slice_get l i) e ∙ slice_get-get_or (first_numbers n) i 0 (omega arith) ∙ ap (λ (k : ℕ). Some k) (first_number n i 0 h)

@@ -1,10 +1,11 @@
 -- The code section (WebAssembly core specification 3.0, binary format, code section): the number of bodies, and each body
 -- after its size.
-use Rattle.std.specs.Prelude.{◌≡◌, ◌+◌, ◌-◌, ℕ, List, [], ◌∷◌, ◌++◌, length, Option, Some, None, Ok}
+use Rattle.std.specs.Prelude.{◌≡◌, ◌⊎◌, ◌+◌, ◌-◌, ◌^◌, ℕ, IsErr, List, [], ◌∷◌, ◌++◌, length, Option, Some, None, Ok}
 use Rattle.wasm_numbers.specs.Numbers.{u32}
 use Rattle.wasm_operators.specs.Shortest.{short_number}
 use Rattle.wasm_sections.specs.declared.code.Bodies.{Bodies}
 use Rattle.wasm_sections.specs.declared.code.Body.{Body}
+use Rattle.wasm_sections.specs.Parts.{bytes_part}
 
 -- ---- as it is written: with the shortest encoding of each size
 
@@ -49,9 +50,10 @@ place_of b = b.input.end - length b.input.rest.now
 abbrev pub body_at : Body → BodyAt
 body_at b = record { start = place_of b; bytes = body_bytes b }
 
--- A body is taken from those that are left: its function is the next.
+-- A body is taken from those that are left: its function is the next. None only where no size and so many bytes are at the front;
+-- or if the next function has the last index that there is.
 abbrev pub TakesBody : Bodies → Option Body → Bodies → Type 0
-TakesBody s None t = Unit {0}
+TakesBody s None t = (s.next ≡ 2 ^ 64 - 1) ⊎ IsErr (bytes_part s.left.end s.left.rest.now)
 TakesBody s (Some b) t =
     (b.func ≡ s.next) × (t.next ≡ s.next + 1) × (t.left.end ≡ s.left.end) × (b.input.end ≡ s.left.end - length t.left.rest.now)
     × (u32 s.left.rest.now ≡ Ok (length (body_bytes b), body_bytes b ++ t.left.rest.now))

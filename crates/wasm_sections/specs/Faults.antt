@@ -16,6 +16,15 @@ index_fault index.TooMany = fault.Index index.TooMany
 index_fault index.Memory = fault.Memory
 index_fault (index.LocalOutOfRange f i) = fault.LocalOutOfRange
 
+-- of an index that a section contains
+abbrev pub section_index_fault : IndexError → ModuleFault
+section_index_fault (index.OutOfRange s i) = fault.IndexOutOfRange s i
+section_index_fault (index.NoLocals f) = fault.LocalOutOfRange
+section_index_fault (index.Unnumbered s) = fault.TooGreat
+section_index_fault index.TooMany = fault.TooGreat
+section_index_fault index.Memory = fault.Memory
+section_index_fault (index.LocalOutOfRange f i) = fault.LocalOutOfRange
+
 -- of a function that can't be walked over
 abbrev pub walk_fault : WalkError → ModuleFault
 walk_fault walk.UnknownSequence = fault.Emit emit.UnknownSequence

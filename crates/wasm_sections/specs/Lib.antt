@@ -7,6 +7,13 @@ pub mod Faults
 pub mod Sections
 pub mod Views
 pub mod CodeSections
+-- how the parts of a module are read, as functions of the bytes: ways to combine parts, the parts of sections, and a whole module
+pub mod Parts
+pub mod Format
+pub mod Components
+-- parts of a type section, and how many types it has; one more item of an index space
+pub mod TypeParts
+pub mod NextItems
 -- custom sections that are left out, by their names
 pub mod Omissions
 -- contents that are given for sections, and items that are added after those of a section; constants that are written
@@ -16,4 +23,6 @@ pub mod Constants
 -- the index spaces of a module, of which only the locals change; the contents of sections in which indices of functions are others,
 -- and the written indices of functions
 pub mod OtherLocals
+-- items that are added to a module that was read
+pub mod DefinedItems
 pub mod MovedFunctions

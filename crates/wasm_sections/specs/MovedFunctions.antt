@@ -1,7 +1,7 @@
 -- Sections in which the indices of functions are others, since functions are imported (WebAssembly core specification 3.0,
 -- binary format, modules). Numbers of items, sizes of names, and indices are written in their shortest encodings; everything else
 -- is the same.
-use Rattle.std.specs.Prelude.{◌≡◌, ◌≢◌, ◌+◌, ◌-◌, ◌<◌, ◌≤◌, ℕ, zero, suc, Bool, true, false, List, [], ◌∷◌, ◌++◌, length, get_or, ◌==◌, nat_lt, if◌then◌else◌, Some, Ok}
+use Rattle.std.specs.Prelude.{◌≡◌, ◌≢◌, ◌+◌, ◌-◌, ◌<◌, ◌≤◌, ◌%◌, ℕ, zero, suc, Bool, true, false, List, [], ◌∷◌, ◌++◌, length, get_or, ◌==◌, nat_lt, nat_le, if◌then◌else◌, Some, Ok}
 use Rattle.std.specs.Ordering.{nat_cmp}
 use Rattle.std.specs.FinMap.{FinMap, get, len}
 use Rattle.wasm_numbers.specs.Numbers.{u32}
@@ -15,11 +15,17 @@ use Rattle.wasm_sections.specs.declared.globals.GlobalType.{GlobalType}
 use Rattle.wasm_sections.specs.declared.sections.SectionKind.{SectionKind}
 use Rattle.wasm_sections.specs.declared.sections.SectionKind.TheVariants as section
 use Rattle.wasm_sections.specs.CodeSections.{entry}
-use Rattle.wasm_sections.specs.Views.{BeginsGlobalType}
+use Rattle.wasm_sections.specs.Parts.{Part}
+use Rattle.wasm_sections.specs.Format.{global_type_part, table_front_part, element_flags_part, element_type_part}
 
 -- the new index of a function: the first ones keep theirs, and all others come after those that are added
 abbrev pub moved_function : (imported added index : ℕ) → ℕ
 moved_function imported added index = if nat_lt index imported then index else index + added
+
+-- The text begins with this part, which is written as it is.
+abbrev pub CopiesPart : {A : Type 0} → Part A → (x : A) → (end : ℕ) → (text following old new : List ℕ) → Type 0
+CopiesPart part x end text following old new =
+    (front : List ℕ) × (part end text ≡ Ok (x, following)) × (text ≡ front ++ following) × (new ≡ old ++ front)
 
 -- ---- items, one after the other
 
@@ -84,21 +90,68 @@ abbrev pub MovesOperator : (imported added : ℕ) → (is_last : Bool) → (text
 MovesOperator imported added true text following written = (text ≡ 0x0b ∷ following) × (written ≡ 0x0b ∷ [])
 MovesOperator imported added false text following written = MovesInstruction imported added text following written
 
--- The text begins with a global: its type, which is written as it is, and a constant expression.
+-- The text begins with a constant expression if one is there.
+abbrev pub MovesConstantIf : (imported added : ℕ) → (is_there : Bool) → (text following written : List ℕ) → Type 0
+MovesConstantIf imported added true text following written = MovesConstant imported added text following written
+MovesConstantIf imported added false text following written = (text ≡ following) × (written ≡ [])
+
+-- The text, wherever it ends, begins with a global: its type, which is written as it is, and a constant expression.
 pub record MovesGlobal (imported added : ℕ) (text following written : List ℕ) : Type 0 where
+  pub end : ℕ
   pub type : GlobalType
   pub initial : List ℕ
   pub front : List ℕ
   pub others : List ℕ
-  pub type_is : BeginsGlobalType text type initial
+  pub type_is : global_type_part end text ≡ Ok (type, initial)
   pub parts : text ≡ front ++ initial
   pub constant : MovesConstant imported added initial following others
   pub written_is : written ≡ front ++ others
 
+-- The text, wherever it ends, begins with a table: what comes before its initial value, which is written as it is, and the initial
+-- value, if it has one.
+pub record MovesTable (imported added : ℕ) (text following written : List ℕ) : Type 0 where
+  pub end : ℕ
+  pub has_initial : Bool
+  pub initial : List ℕ
+  pub front : List ℕ
+  pub others : List ℕ
+  pub front_is : table_front_part end text ≡ Ok (has_initial, initial)
+  pub parts : text ≡ front ++ initial
+  pub initial_is : MovesConstantIf imported added has_initial initial following others
+  pub written_is : written ≡ front ++ others
+
+-- ---- element segments
+
+-- The text begins with an element: with an expression, or with the index of a function.
+abbrev pub MovesElement : (imported added : ℕ) → (are_expressions : Bool) → (text following written : List ℕ) → Type 0
+MovesElement imported added true text following written = MovesConstant imported added text following written
+MovesElement imported added false text following written = MovesIndex imported added text following written
+
+-- The text, wherever it ends, begins with an element segment: its flags and the index of its table, which are written as they are; its
+-- offset, where bit 0 of the flags is clear; the kind or the type of its elements, which is written as it is; and its elements, which
+-- are expressions from flag 4 on.
+pub record MovesSegment (imported added : ℕ) (text following written : List ℕ) : Type 0 where
+  pub end : ℕ
+  pub flags : ℕ
+  pub front : List ℕ
+  pub after_flags : List ℕ
+  pub offset : List ℕ
+  pub after_offset : List ℕ
+  pub type : List ℕ
+  pub after_type : List ℕ
+  pub elements : List ℕ
+  pub flags_are : element_flags_part end text ≡ Ok (flags, after_flags)
+  pub front_is : text ≡ front ++ after_flags
+  pub offset_is : MovesConstantIf imported added ((flags % 2) == 0) after_flags after_offset offset
+  pub type_are : element_type_part flags end after_offset ≡ Ok (tt, after_type)
+  pub type_is : after_offset ≡ type ++ after_type
+  pub elements_are : AreCounted (MovesElement imported added (nat_le 4 flags)) after_type following elements
+  pub written_is : written ≡ front ++ (offset ++ (type ++ elements))
+
 -- ---- sections
 
 -- The text begins with the contents of a section of this kind, these bytes follow them, and what is written for them is appended
--- to `old`. The contents are the index of the start function, exports, or globals; nothing is said of tables and element segments.
+-- to `old`. The contents are the index of the start function, exports, globals, tables, or, of any other kind, element segments.
 abbrev pub MovesContents : (imported added : ℕ) → SectionKind → (text following old new : List ℕ) → Type 0
 MovesContents imported added section.Start text following old new =
     (written : List ℕ) × MovesIndex imported added text following written × (new ≡ old ++ written)
@@ -106,7 +159,10 @@ MovesContents imported added section.Export text following old new =
     (written : List ℕ) × AreCounted (MovesExport imported added) text following written × (new ≡ old ++ written)
 MovesContents imported added section.Global text following old new =
     (written : List ℕ) × AreCounted (MovesGlobal imported added) text following written × (new ≡ old ++ written)
-MovesContents imported added _ text following old new = Unit {0}
+MovesContents imported added section.Table text following old new =
+    (written : List ℕ) × AreCounted (MovesTable imported added) text following written × (new ≡ old ++ written)
+MovesContents imported added _ text following old new =
+    (written : List ℕ) × AreCounted (MovesSegment imported added) text following written × (new ≡ old ++ written)
 
 -- the whole contents, and the new contents
 abbrev pub AreMovedContents : (imported added : ℕ) → SectionKind → (old new : List ℕ) → Type 0

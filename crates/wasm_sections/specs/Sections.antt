@@ -1,13 +1,17 @@
 -- Sections (WebAssembly core specification 3.0, binary format, modules): each is an id, the size of its contents, and its
 -- contents.
-use Rattle.std.specs.Prelude.{◌≡◌, ◌-◌, ℕ, ◌==◌, nat_lt, get_or, if◌then◌else◌, List, [], ◌∷◌, ◌++◌, length, Option, Some, None, Result, Ok, Err}
+use Rattle.std.specs.Prelude.{◌≡◌, ◌≢◌, ◌-◌, ℕ, ◌==◌, nat_lt, nat_le, get_or, if◌then◌else◌, List, [], ◌∷◌, ◌++◌, length, Option, Some, None, Result, Ok, Err}
 use Rattle.wasm_numbers.specs.Numbers.{u32}
+use Rattle.wasm_numbers.specs.Results.{◌>>=◌}
 use Rattle.wasm_operators.specs.Shortest.{short_number}
 use Rattle.wasm_sections.specs.declared.fault.ModuleError.{ModuleError}
+use Rattle.wasm_sections.specs.declared.fault.ModuleFault.{ModuleFault}
+use Rattle.wasm_sections.specs.declared.fault.ModuleFault.TheVariants as fault
 use Rattle.wasm_sections.specs.declared.sections.Section.{Section}
 use Rattle.wasm_sections.specs.declared.sections.SectionKind.{SectionKind}
 use Rattle.wasm_sections.specs.declared.sections.SectionKind.TheVariants as kind
 use Rattle.wasm_sections.specs.declared.sections.Sections.{Sections}
+use Rattle.wasm_sections.specs.Parts.{Part, ◌>=>◌, just, checked, one_byte, number, piece}
 
 -- the bytes that a module begins with: the magic number, and the version
 abbrev pub preamble : List ℕ
@@ -70,6 +74,24 @@ abbrev pub next_rank : ℕ → List SectionAt → ℕ
 next_rank r [] = 14
 next_rank r (s ∷ ss) = if nat_lt r (rank s.id) then rank s.id else next_rank r ss
 
+-- ---- reading a section: its id, and its contents
+
+abbrev pub known_section : (id : ℕ) → Result ℕ ModuleFault
+known_section id = if nat_le id 13 then Ok id else Err fault.UnknownSection
+
+-- the id of a section, and its contents
+abbrev pub section_part : Part (ℕ × List ℕ)
+section_part = checked one_byte known_section >=> λ id. number >=> λ size. piece size >=> λ contents. just (id, contents)
+
+-- A section that isn't custom comes after all of a lower rank; the rank of the last one such.
+abbrev pub rank_with : (before id : ℕ) → Result ℕ ModuleFault
+rank_with before id =
+    if id == 0 then Ok before else if nat_lt before (rank id) then Ok (rank id) else Err fault.SectionOutOfOrder
+
+-- the next section after one of this rank, and the rank of the last one that isn't custom
+abbrev pub next_section : (before : ℕ) → Part ((ℕ × List ℕ) × ℕ)
+next_section before = checked section_part (λ x. rank_with before x.0 >>= λ next. Ok (x, next))
+
 -- ---- for values of the code
 
 abbrev pub section_id : SectionKind → ℕ
@@ -91,8 +113,11 @@ section_id kind.Tag = 13
 abbrev pub section_at : Section → SectionAt
 section_at s = record { id = section_id s.kind; contents = s.contents.rest.now; end = s.contents.end; whole = s.whole.now }
 
--- A section is taken from those that are left; none if nothing is left.
+-- A section is taken from those that are left; none if nothing is left. Or this is the first fault, and then nothing is left.
 abbrev pub TakesSection : Sections → Option (Result Section ModuleError) → Sections → Type 0
 TakesSection s None t = s.left.rest.now ≡ []
-TakesSection s (Some (Err e)) t = Unit {0}
-TakesSection s (Some (Ok x)) t = BeginsSection s.left.end s.left.rest.now (section_at x) t.left.rest.now × (t.left.end ≡ s.left.end)
+TakesSection s (Some (Err e)) t =
+    (s.left.rest.now ≢ []) × (next_section s.rank s.left.end s.left.rest.now ≡ Err e) × (t.left.rest.now ≡ [])
+TakesSection s (Some (Ok x)) t =
+    BeginsSection s.left.end s.left.rest.now (section_at x) t.left.rest.now × (t.left.end ≡ s.left.end)
+    × (next_section s.rank s.left.end s.left.rest.now ≡ Ok (((section_id x.kind, x.contents.rest.now), t.rank), t.left.rest.now))

@@ -2,6 +2,8 @@
 
 ghost use Rattle.std.specs.Prelude.{◌≡◌, ◌<◌, ◌+◌, ◌^◌, [], length, nat_lt, Ok, IfOk, OnOk};
 ghost use Rattle.wasm_numbers.specs.Numbers.{u32};
+ghost use Rattle.wasm_numbers.specs.Results.{Gives};
+ghost use Rattle.wasm_sections.specs.Parts.{number};
 ghost use Rattle.wasm_sections.specs.CodeSections.{place_of, body_bytes};
 
 use crate::fault::ModuleError;
@@ -67,6 +69,8 @@ impl<'a> Bodies<'a> {
             (λ x. u32 contents.entry.rest.now ≡ Ok (x.0, x.1.left.rest.now)) }
         ensures end { IfOk result (λ x. x.1.left.end ≡ contents.entry.end) }
         ensures first { IfOk result (λ x. x.1.next ≡ first) }
+        ensures is { Gives (λ x. (x.0, x.1.left.rest.now)) result
+            (number contents.entry.end contents.entry.rest.now) }
     {
         let mut left = contents;
         match left.number() {

@@ -1,7 +1,11 @@
 //! Exports (WebAssembly core specification 3.0, binary format, modules).
 
 ghost use Rattle.std.specs.Prelude.{◌≡◌, ◌-◌, length, IfOk, IfSome};
-ghost use Rattle.wasm_sections.specs.Views.{IsExportKind, BeginsExport};
+ghost use Rattle.wasm_sections.specs.Views.{IsExportKind, export_value};
+ghost use Rattle.wasm_numbers.specs.Results.{Gives, some_or};
+ghost use Rattle.walrus_maps.specs.IndexMaps.{ids_in};
+ghost use Rattle.wasm_sections.specs.declared.fault.ModuleFault.TheVariants.{BadExportKind};
+ghost use Rattle.wasm_sections.specs.Format.{export_space, id_found, export_part, index_part, known_export_part};
 
 use crate::fault::{ModuleError, ModuleFault};
 use crate::input::Input;
@@ -11,7 +15,7 @@ use wasm_body::{IndexError, Space};
 
 /// The index space of what an export of this kind names.
 fn exported_space(kind: u8) -> Option<Space>
-    ensures { IfSome result (λ space. IsExportKind space kind) }
+    ensures { export_space kind ≡ some_or result BadExportKind }
 {
     match kind {
         0 => Some(Space::Funcs),
@@ -38,7 +42,9 @@ pub fn export_kind(space: Space) -> Option<u8>
 }
 
 /// `OutOfRange` if nothing in the space has this index.
-fn check_index(indices: &IndicesToIds, space: Space, index: u32) -> Result<(), IndexError> {
+fn check_index(indices: &IndicesToIds, space: Space, index: u32) -> Result<(), IndexError>
+    ensures { Gives (λ _. tt) result (id_found indices.now space index) }
+{
     match space {
         Space::Tables => indices.get_table(index).map(|_| ()),
         Space::Types => indices.get_type(index).map(|_| ()),
@@ -53,7 +59,11 @@ fn check_index(indices: &IndicesToIds, space: Space, index: u32) -> Result<(), I
 
 impl Input<'_> {
     /// Reads past an index of this space; `IndexOutOfRange` if nothing has it.
-    pub fn index_in(&mut self, indices: &IndicesToIds, space: Space) -> Result<(), ModuleError> {
+    pub fn index_in(&mut self, indices: &IndicesToIds, space: Space) -> Result<(), ModuleError>
+        ensures same_end { self.new.end ≡ self.old.end }
+        ensures is { Gives (λ _. (tt, self.new.rest.now)) result (index_part
+            (length (ids_in indices.now space)) space self.old.end self.old.rest.now) }
+    {
         let begin = *self;
         let index = self.number()?;
         match check_index(indices, space, index) {
@@ -63,7 +73,11 @@ impl Input<'_> {
     }
 
     /// Reads past an export; `BadExportKind` if no export is of its kind.
-    pub fn export(&mut self, indices: &IndicesToIds) -> Result<(), ModuleError> {
+    pub fn export(&mut self, indices: &IndicesToIds) -> Result<(), ModuleError>
+        ensures same_end { self.new.end ≡ self.old.end }
+        ensures is { Gives (λ _. (tt, self.new.rest.now)) result (known_export_part
+            (λ space. length (ids_in indices.now space)) self.old.end self.old.rest.now) }
+    {
         self.name()?;
         let begin = *self;
         match exported_space(self.byte()?) {
@@ -89,10 +103,10 @@ pub struct Export<'a> {
 impl<'a> Input<'a> {
     /// An export, whose index isn't looked up; `BadExportKind` if no export is of its kind.
     fn read_export(&mut self) -> Result<Export<'a>, ModuleError>
-        ensures begins { IfOk result (λ x. BeginsExport self.old.rest.now x.name.now x.space x.index
-            self.new.rest.now) }
         ensures place { IfOk result (λ x. x.at ≡ self.old.end - length self.old.rest.now) }
-        ensures same_end { IfOk result (λ _. self.new.end ≡ self.old.end) }
+        ensures same_end { self.new.end ≡ self.old.end }
+        ensures is { Gives (λ x. (export_value x, self.new.rest.now)) result
+            (export_part self.old.end self.old.rest.now) }
     {
         let at = self.at();
         let name = self.name()?;

@@ -5,7 +5,7 @@ ghost use Rattle.wasm_body.specs.declared.error.EmitError.TheVariants as emit;
 ghost use Rattle.wasm_body.specs.declared.error.IndexError.TheVariants as index;
 ghost use Rattle.wasm_body.specs.declared.error.ParseError.TheVariants as parse;
 ghost use Rattle.wasm_sections.specs.declared.fault.ModuleFault.TheVariants.{Memory};
-ghost use Rattle.wasm_sections.specs.Faults.{index_fault, walk_fault};
+ghost use Rattle.wasm_sections.specs.Faults.{index_fault, section_index_fault, walk_fault};
 
 use std::alloc::{AllocError, AllocFailed};
 use std::error::Error;
@@ -254,7 +254,9 @@ impl ModuleError {
     /// The error, at this place, of an index of a section that isn't found in an index map, or of a
     /// map that can't grow.
     pub fn of_index(error: IndexError, at: usize) -> ModuleError
-        ensures { error ≡ index.Memory → result.fault ≡ Memory }
+        ensures fault { result.fault ≡ section_index_fault error }
+        ensures place { result.at ≡ at }
+        ensures memory { error ≡ index.Memory → result.fault ≡ Memory }
     {
         let fault = match error {
             IndexError::OutOfRange { space, index } => {

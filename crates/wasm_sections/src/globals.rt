@@ -1,7 +1,9 @@
 //! Globals (WebAssembly core specification 3.0, binary format, types and modules).
 
 ghost use Rattle.std.specs.Prelude.{◌≡◌, ◌-◌, length, IfOk};
-ghost use Rattle.wasm_sections.specs.Views.{BeginsMutability, BeginsGlobalType, BeginsGlobal};
+ghost use Rattle.wasm_sections.specs.Views.{global_value};
+ghost use Rattle.wasm_numbers.specs.Results.{Gives};
+ghost use Rattle.wasm_sections.specs.Format.{mutability_part, global_type_part, global_part};
 
 use crate::fault::{ModuleError, ModuleFault};
 use crate::input::Input;
@@ -31,9 +33,9 @@ pub struct DefinedGlobal<'a> {
 impl<'a> Input<'a> {
     /// A mutability: whether the global or field can be changed; `BadMutability` if there is none.
     pub fn mutability(&mut self) -> Result<bool, ModuleError>
-        ensures value { IfOk result (λ is_mutable. BeginsMutability self.old.rest.now is_mutable
-            self.new.rest.now) }
         ensures same_end { self.new.end ≡ self.old.end }
+        ensures is { Gives (λ is_mutable. (is_mutable, self.new.rest.now)) result
+            (mutability_part self.old.end self.old.rest.now) }
     {
         let begin = *self;
         match self.byte()? {
@@ -45,9 +47,9 @@ impl<'a> Input<'a> {
 
     /// The type of a global.
     pub fn global_type(&mut self) -> Result<GlobalType, ModuleError>
-        ensures begins { IfOk result (λ ty. BeginsGlobalType self.old.rest.now ty
-            self.new.rest.now) }
         ensures same_end { self.new.end ≡ self.old.end }
+        ensures is { Gives (λ ty. (ty, self.new.rest.now)) result (global_type_part self.old.end
+            self.old.rest.now) }
     {
         let value = match self.value_type() {
             Ok(value) => value,
@@ -61,10 +63,10 @@ impl<'a> Input<'a> {
 
     /// A global: its type, and a constant expression.
     pub fn global(&mut self) -> Result<DefinedGlobal<'a>, ModuleError>
-        ensures begins { IfOk result (λ x. BeginsGlobal self.old.rest.now x.ty x.init.now
-            self.new.rest.now) }
         ensures place { IfOk result (λ x. x.at ≡ self.old.end - length self.old.rest.now) }
-        ensures same_end { IfOk result (λ _. self.new.end ≡ self.old.end) }
+        ensures same_end { self.new.end ≡ self.old.end }
+        ensures is { Gives (λ x. (global_value x, self.new.rest.now)) result
+            (global_part self.old.end self.old.rest.now) }
     {
         let at = self.at();
         let ty = match self.global_type() {

@@ -1,7 +1,9 @@
 //! Imports (WebAssembly core specification 3.0, binary format, modules).
 
 ghost use Rattle.std.specs.Prelude.{◌≡◌, ◌-◌, length, IfOk};
-ghost use Rattle.wasm_sections.specs.Views.{BeginsImported, BeginsImport};
+ghost use Rattle.wasm_sections.specs.Views.{import_value};
+ghost use Rattle.wasm_numbers.specs.Results.{Gives};
+ghost use Rattle.wasm_sections.specs.Format.{imported_part, placed_import_part, import_part};
 
 use crate::fault::{ModuleError, ModuleFault};
 use crate::input::Input;
@@ -38,7 +40,9 @@ pub struct Import<'a> {
 impl<'a> Input<'a> {
     /// What is imported, without its names.
     fn imported(&mut self) -> Result<Imported, ModuleError>
-        ensures { IfOk result (BeginsImported self.old.rest.now) }
+        ensures same_end { self.new.end ≡ self.old.end }
+        ensures is { Gives (λ it. (it, self.new.rest.now)) result (imported_part self.old.end
+            self.old.rest.now) }
     {
         let begin = *self;
         match self.byte()? {
@@ -67,7 +71,11 @@ impl<'a> Input<'a> {
     }
 
     /// An import, and the place of the first byte after its names.
-    pub fn import(&mut self) -> Result<(Imported, usize), ModuleError> {
+    pub fn import(&mut self) -> Result<(Imported, usize), ModuleError>
+        ensures same_end { self.new.end ≡ self.old.end }
+        ensures is { Gives (λ x. ((x.0, x.1), self.new.rest.now)) result
+            (placed_import_part self.old.end self.old.rest.now) }
+    {
         self.name()?;
         self.name()?;
         let at = self.at();
@@ -79,9 +87,10 @@ impl<'a> Input<'a> {
 
     /// An import with its names.
     fn read_import(&mut self) -> Result<Import<'a>, ModuleError>
-        ensures begins { IfOk result (λ x. BeginsImport self.old.rest.now x.from.now x.name.now
-            x.imported) }
         ensures place { IfOk result (λ x. x.at ≡ self.old.end - length self.old.rest.now) }
+        ensures same_end { self.new.end ≡ self.old.end }
+        ensures is { Gives (λ x. (import_value x, self.new.rest.now)) result
+            (import_part self.old.end self.old.rest.now) }
     {
         let at = self.at();
         let from = self.name()?;

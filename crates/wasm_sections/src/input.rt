@@ -1,8 +1,11 @@
 //! Bytes of a module, read from the first one on (WebAssembly core specification 3.0, binary
 //! format, values and types).
-ghost use Rattle.std.specs.Prelude.{◌≡◌, ◌==◌, ◌<◌, ◌≤◌, ◌+◌, ◌-◌, ◌++◌, ◌∷◌, ◌^◌, [], length, take, OnOk, OnErr, IsErr, IfOk, Ok};
+ghost use Rattle.std.specs.Prelude.{◌≡◌, ◌==◌, ◌<◌, ◌≤◌, ◌+◌, ◌-◌, ◌++◌, ◌∷◌, ◌^◌, [], length, take, drop, OnOk, OnErr, IsErr, IfOk, Ok};
 ghost use Rattle.wasm_numbers.specs.Numbers.{u32 as a_u32, u64 as a_u64};
 ghost use Rattle.wasm_operators.specs.Types.{value_type as a_value_type};
+ghost use Rattle.wasm_numbers.specs.Results.{Gives};
+ghost use Rattle.wasm_sections.specs.Format.{name_part, value_part, reference_part};
+ghost use Rattle.wasm_sections.specs.Parts.{fault_here, no_more, item_fault, item, number, one_byte, piece, bytes_part};
 
 use crate::fault::{ModuleError, ModuleFault};
 use walrus_ir::ValType;
@@ -52,7 +55,9 @@ impl<'a> Input<'a> {
     }
 
     /// A fault at the next byte.
-    pub fn fault(&self, fault: ModuleFault) -> ModuleError {
+    pub fn fault(&self, fault: ModuleFault) -> ModuleError
+        ensures { result ≡ fault_here self.now.end self.now.rest.now fault }
+    {
         ModuleError {
             fault,
             at: self.at(),
@@ -67,6 +72,8 @@ impl<'a> Input<'a> {
         ensures ends { IfOk result (λ part. part.end ≡ self.old.end - length self.new.rest.now) }
         ensures same_end { self.new.end ≡ self.old.end }
         ensures shorter { OnOk result (length self.new.rest.now ≤ length self.old.rest.now) }
+        ensures is { Gives (λ part. (part.rest.now, self.new.rest.now)) result (piece len self.old.end
+            self.old.rest.now) }
     {
         if len > self.rest.len() {
             return Err(self.fault(ModuleFault::Truncated));
@@ -81,7 +88,8 @@ impl<'a> Input<'a> {
 
     /// The same part with no bytes left.
     pub fn ended(&self) -> Input<'a>
-        ensures { length result.rest.now ≡ 0 }
+        ensures none { result.rest.now ≡ [] }
+        ensures end { result.end ≡ self.now.end }
     {
         Input {
             rest: &[],
@@ -100,24 +108,22 @@ impl<'a> Input<'a> {
         }
     }
 
-    /// The bytes up to this place of the file; `Truncated` if it isn't among the bytes that are left.
-    pub fn up_to(&mut self, place: usize) -> Result<&'a [u8], ModuleError>
-        ensures value { IfOk result
-            (λ bytes. self.old.rest.now ≡ bytes.now ++ self.new.rest.now) }
+    /// Moves past the next `len` bytes; past all of them, if fewer are left.
+    pub fn pass(&mut self, len: usize)
+        ensures rest { self.new.rest.now ≡ drop len self.old.rest.now }
         ensures same_end { self.new.end ≡ self.old.end }
     {
-        match place.checked_sub(self.at()) {
-            Some(len) => match self.part(len) {
-                Ok(part) => Ok(part.rest),
-                Err(error) => Err(error),
-            },
-            None => Err(self.fault(ModuleFault::Truncated)),
-        }
+        self.rest = if len <= self.rest.len() {
+            &self.rest[len..]
+        } else {
+            &[]
+        };
     }
 
     /// `Trailing` if bytes are left.
     pub fn finish(&self) -> Result<(), ModuleError>
-        ensures { OnOk result (self.now.rest.now ≡ []) }
+        ensures none { OnOk result (self.now.rest.now ≡ []) }
+        ensures is { Gives (λ _. tt) result (no_more self.now.rest.now self.now.end) }
     {
         match self.rest {
             [] => Ok(()),
@@ -129,6 +135,8 @@ impl<'a> Input<'a> {
     pub fn byte(&mut self) -> Result<u8, ModuleError>
         ensures value { IfOk result (λ b. self.old.rest.now ≡ b ∷ self.new.rest.now) }
         ensures same_end { self.new.end ≡ self.old.end }
+        ensures is { Gives (λ b. (b, self.new.rest.now)) result (one_byte self.old.end
+            self.old.rest.now) }
     {
         match self.rest {
             [first, rest @ ..] => {
@@ -141,7 +149,9 @@ impl<'a> Input<'a> {
 
     /// The error of an item that can't be read: at the end of the bytes, if they end inside the
     /// item, and else where it begins.
-    fn unread(&self, fault: ReadFault) -> ModuleError {
+    fn unread(&self, fault: ReadFault) -> ModuleError
+        ensures { result ≡ item_fault self.now.end self.now.rest.now fault }
+    {
         match fault {
             ReadFault::Truncated => self.ended().fault(ModuleFault::Truncated),
             fault => self.fault(ModuleFault::Read(fault)),
@@ -154,6 +164,8 @@ impl<'a> Input<'a> {
         ensures same_end { self.new.end ≡ self.old.end }
         ensures shorter { OnOk result (length self.new.rest.now < length self.old.rest.now) }
         ensures refused { OnErr result (IsErr (a_u32 self.old.rest.now)) }
+        ensures is { Gives (λ n. (n, self.new.rest.now)) result (number self.old.end
+            self.old.rest.now) }
     {
         match read_u32(self.rest) {
             Ok((number, rest)) => {
@@ -166,8 +178,9 @@ impl<'a> Input<'a> {
 
     /// An unsigned number of 64 bits, in LEB128, with the same faults.
     pub fn long_number(&mut self) -> Result<u64, ModuleError>
-        ensures value { IfOk result (λ n. a_u64 self.old.rest.now ≡ Ok (n, self.new.rest.now)) }
         ensures same_end { self.new.end ≡ self.old.end }
+        ensures is { Gives (λ n. (n, self.new.rest.now)) result (item a_u64 self.old.end
+            self.old.rest.now) }
     {
         match read_u64(self.rest) {
             Ok((number, rest)) => {
@@ -183,6 +196,8 @@ impl<'a> Input<'a> {
         ensures value { IfOk result (λ bytes. a_u32 self.old.rest.now
             ≡ Ok (length bytes.now, bytes.now ++ self.new.rest.now)) }
         ensures same_end { self.new.end ≡ self.old.end }
+        ensures is { Gives (λ bytes. (bytes.now, self.new.rest.now)) result (bytes_part self.old.end
+            self.old.rest.now) }
     {
         let len = self.number()?;
         let part = self.part(len as usize)?;
@@ -194,6 +209,8 @@ impl<'a> Input<'a> {
         ensures value { IfOk result (λ name. a_u32 self.old.rest.now
             ≡ Ok (length name.now, name.now ++ self.new.rest.now)) }
         ensures same_end { self.new.end ≡ self.old.end }
+        ensures is { Gives (λ name. (name.now, self.new.rest.now)) result (name_part self.old.end
+            self.old.rest.now) }
     {
         let begin = *self;
         match str::from_utf8(self.bytes()?) {
@@ -208,6 +225,8 @@ impl<'a> Input<'a> {
             (λ ty. a_value_type self.old.rest.now ≡ Ok (ty, self.new.rest.now)) }
         ensures same_end { self.new.end ≡ self.old.end }
         ensures refused { OnErr result (IsErr (a_value_type self.old.rest.now)) }
+        ensures is { Gives (λ ty. (ty, self.new.rest.now)) result (value_part self.old.end
+            self.old.rest.now) }
     {
         match read_value_type(self.rest) {
             Ok((ty, rest)) => {
@@ -220,9 +239,9 @@ impl<'a> Input<'a> {
 
     /// A reference type; `Read(BadType)` if there is none.
     pub fn reference_type(&mut self) -> Result<RawValType, ModuleError>
-        ensures value { IfOk result
-            (λ ty. a_value_type self.old.rest.now ≡ Ok (ty, self.new.rest.now)) }
         ensures same_end { self.new.end ≡ self.old.end }
+        ensures is { Gives (λ ty. (ty, self.new.rest.now)) result (reference_part self.old.end
+            self.old.rest.now) }
     {
         let begin = *self;
         match self.value_type()? {

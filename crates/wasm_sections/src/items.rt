@@ -2,6 +2,8 @@
 
 ghost use Rattle.std.specs.Prelude.{◌≡◌, Ok, IfOk};
 ghost use Rattle.wasm_numbers.specs.Numbers.{u32};
+ghost use Rattle.wasm_numbers.specs.Results.{Gives};
+ghost use Rattle.wasm_sections.specs.Parts.{number};
 
 use crate::fault::ModuleError;
 use crate::input::Input;
@@ -21,6 +23,8 @@ impl<'a> Items<'a> {
         ensures count { IfOk result (λ items. u32 contents.entry.rest.now
             ≡ Ok (items.count, items.left.rest.now)) }
         ensures end { IfOk result (λ items. items.left.end ≡ contents.entry.end) }
+        ensures is { Gives (λ items. (items.count, items.left.rest.now)) result
+            (number contents.entry.end contents.entry.rest.now) }
     {
         let mut left = contents;
         match left.number() {

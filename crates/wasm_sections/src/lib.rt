@@ -8,6 +8,7 @@ mod changes;
 mod code;
 mod constant;
 mod constants;
+mod defined_items;
 mod exports;
 mod fault;
 mod function_items;

@@ -1,7 +1,10 @@
 //! Limits of tables and memories (WebAssembly core specification 3.0, binary format, types).
 
-ghost use Rattle.std.specs.Prelude.{◌≡◌, is_some, IfSome, IfOk, Ok};
-ghost use Rattle.wasm_sections.specs.Views.{HaveFlags, BeginsFlags, limit, BeginsMaximum, BeginsLimits};
+ghost use Rattle.std.specs.Prelude.{◌≡◌, option_map};
+ghost use Rattle.wasm_numbers.specs.Results.{Gives, some_or};
+ghost use Rattle.wasm_sections.specs.declared.fault.ModuleFault.TheVariants.{BadLimits};
+ghost use Rattle.wasm_sections.specs.Format.{limit_flags, size_part, maximum_part, limits_part, flags_said};
+ghost use Rattle.wasm_sections.specs.Parts.{checked, one_byte};
 
 use crate::fault::{ModuleError, ModuleFault};
 use crate::input::Input;
@@ -29,7 +32,7 @@ struct Flags {
 
 /// The flags with this number, if there are such.
 fn flags_of(number: u8) -> Option<Flags>
-    ensures { IfSome result (λ f. HaveFlags f.has_max f.is_shared f.is_64 number) }
+    ensures { limit_flags number ≡ some_or (option_map flags_said result) BadLimits }
 {
     let (has_max, is_shared, is_64) = match number {
         0 => (false, false, false),
@@ -50,9 +53,9 @@ fn flags_of(number: u8) -> Option<Flags>
 impl Input<'_> {
     /// The flags of limits; `BadLimits` if there are no such flags.
     fn flags(&mut self) -> Result<Flags, ModuleError>
-        ensures value { IfOk result (λ f. BeginsFlags self.old.rest.now f.has_max f.is_shared
-            f.is_64 self.new.rest.now) }
         ensures same_end { self.new.end ≡ self.old.end }
+        ensures is { Gives (λ f. (flags_said f, self.new.rest.now)) result
+            (checked one_byte limit_flags self.old.end self.old.rest.now) }
     {
         let begin = *self;
         match flags_of(self.byte()?) {
@@ -63,9 +66,9 @@ impl Input<'_> {
 
     /// A size, in 64 bits or in 32.
     fn size(&mut self, is_64: bool) -> Result<u64, ModuleError>
-        ensures value { IfOk result (λ n. limit is_64 self.old.rest.now
-            ≡ Ok (n, self.new.rest.now)) }
         ensures same_end { self.new.end ≡ self.old.end }
+        ensures is { Gives (λ n. (n, self.new.rest.now)) result (size_part is_64 self.old.end
+            self.old.rest.now) }
     {
         if is_64 {
             match self.long_number() {
@@ -82,10 +85,9 @@ impl Input<'_> {
 
     /// The greatest size, if there is one.
     fn maximum(&mut self, has_max: bool, is_64: bool) -> Result<Option<u64>, ModuleError>
-        ensures value { IfOk result (λ max. BeginsMaximum is_64 self.old.rest.now max
-            self.new.rest.now) }
-        ensures variant { IfOk result (λ max. is_some max ≡ has_max) }
         ensures same_end { self.new.end ≡ self.old.end }
+        ensures is { Gives (λ max. (max, self.new.rest.now)) result (maximum_part has_max is_64
+            self.old.end self.old.rest.now) }
     {
         if has_max {
             match self.size(is_64) {
@@ -100,8 +102,9 @@ impl Input<'_> {
     /// Limits. Their flags say whether there is a maximum, whether a memory is shared, which
     /// requires a maximum (the proposal for threads), and whether the numbers have 64 bits.
     pub fn limits(&mut self) -> Result<Limits, ModuleError>
-        ensures begins { IfOk result (λ l. BeginsLimits self.old.rest.now l self.new.rest.now) }
         ensures same_end { self.new.end ≡ self.old.end }
+        ensures is { Gives (λ l. (l, self.new.rest.now)) result (limits_part self.old.end
+            self.old.rest.now) }
     {
         let flags = match self.flags() {
             Ok(flags) => flags,

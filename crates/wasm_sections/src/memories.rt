@@ -1,7 +1,8 @@
 //! Memories (WebAssembly core specification 3.0, binary format, modules).
 
 ghost use Rattle.std.specs.Prelude.{◌≡◌, ◌-◌, length, IfOk};
-ghost use Rattle.wasm_sections.specs.Views.{BeginsLimits};
+ghost use Rattle.wasm_numbers.specs.Results.{Gives};
+ghost use Rattle.wasm_sections.specs.Format.{limits_part};
 
 use crate::fault::ModuleError;
 use crate::input::Input;
@@ -20,10 +21,10 @@ pub struct DefinedMemory {
 impl Input<'_> {
     /// A memory.
     pub fn memory(&mut self) -> Result<DefinedMemory, ModuleError>
-        ensures begins { IfOk result (λ x. BeginsLimits self.old.rest.now x.limits
-            self.new.rest.now) }
         ensures place { IfOk result (λ x. x.at ≡ self.old.end - length self.old.rest.now) }
         ensures same_end { self.new.end ≡ self.old.end }
+        ensures is { Gives (λ x. (x.limits, self.new.rest.now)) result (limits_part self.old.end
+            self.old.rest.now) }
     {
         let at = self.at();
         match self.limits() {

@@ -8,8 +8,8 @@ ghost use Rattle.wasm_operators.specs.Shortest.{short_number};
 ghost use Rattle.wasm_operators.specs.Operations.{RawOperation};
 ghost use Rattle.wasm_operators.specs.Spelling.{Spells};
 ghost use Rattle.wasm_sections.specs.declared.globals.GlobalType.{GlobalType};
-ghost use Rattle.wasm_sections.specs.Views.{BeginsGlobalType};
-ghost use Rattle.wasm_sections.specs.MovedFunctions.{moved_function, moved_export, MovesIndex, MovesExport, MovesOperator, MovesConstant, MovesGlobal, MovesContents, AreCounted, AreMovedContents};
+ghost use Rattle.wasm_sections.specs.Format.{global_type_part, table_front_part, element_flags_part, element_type_part};
+ghost use Rattle.wasm_sections.specs.MovedFunctions.{moved_function, moved_export, MovesIndex, MovesExport, MovesOperator, MovesConstant, MovesConstantIf, MovesGlobal, MovesTable, MovesElement, MovesSegment, MovesContents, AreCounted, AreMovedContents, CopiesPart};
 
 use crate::constant::is_control;
 use crate::fault::{ModuleError, ModuleFault};
@@ -187,63 +187,78 @@ impl FunctionNumbers {
         }
     }
 
+    /// A constant expression, if it is there.
+    fn move_constant_if(
+        self,
+        is_there: bool,
+        input: &mut Input<'_>,
+        out: &mut Vec<u8>,
+    ) -> Result<(), ModuleError>
+        ensures { OnOk result ((written : List ℕ)
+            × MovesConstantIf self.imported self.added is_there input.old.rest.now
+            input.new.rest.now written
+            × (out.new.items ≡ out.old.items ++ written)) }
+    {
+        if is_there {
+            self.move_constant(input, out)
+        } else {
+            Ok(())
+        }
+    }
+
     /// A table: its type, and the constant expression of its elements, if it has one.
-    fn move_table(self, input: &mut Input<'_>, out: &mut Vec<u8>) -> Result<(), ModuleError> {
-        match copy_table_front(input, out) {
-            Ok(true) => match self.move_constant(input, out) {
-                Ok(()) => Ok(()),
-                Err(error) => Err(error),
-            },
-            Ok(false) => Ok(()),
-            Err(error) => Err(error),
-        }
-    }
-
-    /// The offset of a segment with these flags, if it is active.
-    fn move_offset(
-        self,
-        flags: u32,
-        input: &mut Input<'_>,
-        out: &mut Vec<u8>,
-    ) -> Result<(), ModuleError> {
-        match flags % 2 {
-            0 => self.move_constant(input, out),
-            _ => Ok(()),
-        }
-    }
-
-    /// An element of a segment with these flags: an expression, or the index of a function.
-    fn move_element(
-        self,
-        flags: u32,
-        input: &mut Input<'_>,
-        out: &mut Vec<u8>,
-    ) -> Result<(), ModuleError> {
-        if flags >= 4 {
-            return match self.move_constant(input, out) {
-                Ok(()) => Ok(()),
-                Err(error) => Err(error),
-            };
-        }
-        match self.move_function(input, out) {
+    fn move_table(self, input: &mut Input<'_>, out: &mut Vec<u8>) -> Result<(), ModuleError>
+        ensures { OnOk result ((written : List ℕ)
+            × MovesTable self.imported self.added input.old.rest.now input.new.rest.now written
+            × (out.new.items ≡ out.old.items ++ written)) }
+    {
+        let has_elements = match copy_table_front(input, out) {
+            Ok(has_elements) => has_elements,
+            Err(error) => return Err(error),
+        };
+        match self.move_constant_if(has_elements, input, out) {
             Ok(()) => Ok(()),
             Err(error) => Err(error),
         }
     }
 
-    /// The elements of a segment with these flags, after their number.
-    fn move_elements(
+    /// An element of a segment: an expression, or the index of a function.
+    fn move_element(
         self,
-        flags: u32,
+        is_expression: bool,
         input: &mut Input<'_>,
         out: &mut Vec<u8>,
-    ) -> Result<(), ModuleError> {
+    ) -> Result<(), ModuleError>
+        ensures { OnOk result ((written : List ℕ)
+            × MovesElement self.imported self.added is_expression input.old.rest.now
+            input.new.rest.now written
+            × (out.new.items ≡ out.old.items ++ written)) }
+    {
+        if is_expression {
+            self.move_constant(input, out)
+        } else {
+            self.move_function(input, out)
+        }
+    }
+
+    /// The elements of a segment: their number, and expressions or indices of functions.
+    fn move_elements(
+        self,
+        are_expressions: bool,
+        input: &mut Input<'_>,
+        out: &mut Vec<u8>,
+    ) -> Result<(), ModuleError>
+        ensures { OnOk result ((written : List ℕ)
+            × AreCounted (MovesElement self.imported self.added are_expressions)
+            input.old.rest.now input.new.rest.now written
+            × (out.new.items ≡ out.old.items ++ written)) }
+    {
         let count = match pass_count(input, out) {
             Ok(count) => count,
             Err(error) => return Err(error),
         };
-        'elements: for _ in 0..count {
-            match self.move_element(flags, input, out) {
+        'items: for _ in 0..count {
+            match self.move_element(are_expressions, input, out) {
                 Ok(()) => {}
                 Err(error) => return Err(error),
             }
@@ -252,12 +267,17 @@ impl FunctionNumbers {
     }
 
     /// An element segment: its flags, table, offset and type, and its elements.
-    fn move_segment(self, input: &mut Input<'_>, out: &mut Vec<u8>) -> Result<(), ModuleError> {
+    fn move_segment(self, input: &mut Input<'_>, out: &mut Vec<u8>) -> Result<(), ModuleError>
+        ensures { OnOk result ((written : List ℕ)
+            × MovesSegment self.imported self.added input.old.rest.now input.new.rest.now written
+            × (out.new.items ≡ out.old.items ++ written)) }
+    {
         let flags = match copy_element_flags(input, out) {
             Ok(flags) => flags,
             Err(error) => return Err(error),
         };
-        match self.move_offset(flags, input, out) {
+        // Bit 0 is that of segments without an offset.
+        match self.move_constant_if(flags % 2 == 0, input, out) {
             Ok(()) => {}
             Err(error) => return Err(error),
         }
@@ -265,7 +285,10 @@ impl FunctionNumbers {
             Ok(()) => {}
             Err(error) => return Err(error),
         }
-        self.move_elements(flags, input, out)
+        match self.move_elements(flags >= 4, input, out) {
+            Ok(()) => Ok(()),
+            Err(error) => Err(error),
+        }
     }
 
     /// The contents of a section of exports: their number, and each with its new index.
@@ -309,7 +332,12 @@ impl FunctionNumbers {
     }
 
     /// The same for tables.
-    fn move_tables(self, input: &mut Input<'_>, out: &mut Vec<u8>) -> Result<(), ModuleError> {
+    fn move_tables(self, input: &mut Input<'_>, out: &mut Vec<u8>) -> Result<(), ModuleError>
+        ensures { OnOk result ((written : List ℕ)
+            × AreCounted (MovesTable self.imported self.added) input.old.rest.now
+            input.new.rest.now written
+            × (out.new.items ≡ out.old.items ++ written)) }
+    {
         let count = match pass_count(input, out) {
             Ok(count) => count,
             Err(error) => return Err(error),
@@ -324,7 +352,12 @@ impl FunctionNumbers {
     }
 
     /// The same for element segments.
-    fn move_segments(self, input: &mut Input<'_>, out: &mut Vec<u8>) -> Result<(), ModuleError> {
+    fn move_segments(self, input: &mut Input<'_>, out: &mut Vec<u8>) -> Result<(), ModuleError>
+        ensures { OnOk result ((written : List ℕ)
+            × AreCounted (MovesSegment self.imported self.added) input.old.rest.now
+            input.new.rest.now written
+            × (out.new.items ≡ out.old.items ++ written)) }
+    {
         let count = match pass_count(input, out) {
             Ok(count) => count,
             Err(error) => return Err(error),
@@ -420,10 +453,8 @@ fn pass_count(input: &mut Input<'_>, out: &mut Vec<u8>) -> Result<u32, ModuleErr
 
 /// Copies the type of a global.
 fn copy_global_type(input: &mut Input<'_>, out: &mut Vec<u8>) -> Result<(), ModuleError>
-    ensures { OnOk result ((ty : GlobalType) × (front : List ℕ)
-        × BeginsGlobalType input.old.rest.now ty input.new.rest.now
-        × (input.old.rest.now ≡ front ++ input.new.rest.now)
-        × (out.new.items ≡ out.old.items ++ front)) }
+    ensures { OnOk result ((ty : GlobalType) × CopiesPart global_type_part ty input.old.end
+        input.old.rest.now input.new.rest.now out.old.items out.new.items) }
 {
     let begin = *input;
     match input.global_type() {
@@ -437,7 +468,10 @@ fn copy_global_type(input: &mut Input<'_>, out: &mut Vec<u8>) -> Result<(), Modu
 }
 
 /// Copies the front of a table, and returns whether the constant expression of its elements follows.
-fn copy_table_front(input: &mut Input<'_>, out: &mut Vec<u8>) -> Result<bool, ModuleError> {
+fn copy_table_front(input: &mut Input<'_>, out: &mut Vec<u8>) -> Result<bool, ModuleError>
+    ensures { IfOk result (λ has_elements. CopiesPart table_front_part has_elements input.old.end
+        input.old.rest.now input.new.rest.now out.old.items out.new.items) }
+{
     let begin = *input;
     let has_elements = match input.table_front() {
         Ok(has_elements) => has_elements,
@@ -450,7 +484,10 @@ fn copy_table_front(input: &mut Input<'_>, out: &mut Vec<u8>) -> Result<bool, Mo
 }
 
 /// Copies the flags of an element segment and the index of its table, and returns the flags.
-fn copy_element_flags(input: &mut Input<'_>, out: &mut Vec<u8>) -> Result<u32, ModuleError> {
+fn copy_element_flags(input: &mut Input<'_>, out: &mut Vec<u8>) -> Result<u32, ModuleError>
+    ensures { IfOk result (λ flags. CopiesPart element_flags_part flags input.old.end
+        input.old.rest.now input.new.rest.now out.old.items out.new.items) }
+{
     let begin = *input;
     let flags = match input.element_flags() {
         Ok(flags) => flags,
@@ -467,10 +504,17 @@ fn copy_element_type(
     flags: u32,
     input: &mut Input<'_>,
     out: &mut Vec<u8>,
-) -> Result<(), ModuleError> {
+) -> Result<(), ModuleError>
+    ensures { OnOk result (CopiesPart (element_type_part flags) tt input.old.end
+        input.old.rest.now input.new.rest.now out.old.items out.new.items) }
+{
     let begin = *input;
     match input.element_type(flags) {
-        Ok(()) => put_bytes(begin.until(input), out),
+        Ok(()) => {}
+        Err(error) => return Err(error),
+    }
+    match put_bytes(begin.until(input), out) {
+        Ok(()) => Ok(()),
         Err(error) => Err(error),
     }
 }
@@ -486,7 +530,8 @@ fn copy_operator(input: &mut Input<'_>, out: &mut Vec<u8>) -> Result<(), ModuleE
         Ok(operator) => operator,
         Err(error) => return Err(ModuleError::of_read(error)),
     };
-    if is_control(&operator) {
+    let (opcode, _) = operator.parts();
+    if is_control(opcode) {
         return Err(input.fault(ModuleFault::BadConstant));
     }
     let len = reader.original_position().saturating_sub(input.at());

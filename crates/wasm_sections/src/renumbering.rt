@@ -9,7 +9,7 @@ ghost use Rattle.wasm_sections.specs.MovedFunctions.{ArePushed, AreRenumbered, K
 
 use crate::spaces::Spaces;
 use std::alloc::Global;
-use walrus_ir::{DataId, ElementId, FunctionId, GlobalId, MemoryId, TableId, TagId};
+use walrus_ir::{DataId, ElementId, FunctionId, GlobalId, MemoryId, TableId, TagId, TypeId};
 use walrus_maps::{IdsToIndices, IndicesToIds};
 use wasm_body::IndexError;
 
@@ -41,8 +41,20 @@ fn push_funcs(to: &mut IdsToIndices, first: usize, end: usize) -> Result<(), Ind
     Ok(())
 }
 
-/// Gives the types with the first `count` indices their indices as numbers. A type that was added
-/// may have another id than its index.
+/// Gives types that have no number the next ones, in order.
+fn copy_defined_types(types: &[TypeId], to: &mut IdsToIndices) -> Result<(), IndexError>
+    ensures { OnOk result (KeepFunctions to.old to.new) }
+{
+    'types: for id in types {
+        match to.get_type_index(*id) {
+            Ok(_) => {}
+            Err(_) => to.push_type(*id)?,
+        }
+    }
+    Ok(())
+}
+
+/// Gives the types with the first `count` indices their indices as numbers.
 fn copy_types(indices: &IndicesToIds, to: &mut IdsToIndices, count: usize) -> Result<(), IndexError>
     ensures { OnOk result (KeepFunctions to.old to.new) }
 {
@@ -148,6 +160,7 @@ fn copy_others(spaces: &Spaces, to: &mut IdsToIndices) -> Result<(), IndexError>
 {
     let (from, counts) = (&spaces.numbers, spaces.counts);
     copy_types(&spaces.indices, to, counts.types)?;
+    copy_defined_types(&spaces.defined_types, to)?;
     copy_tables(from, to, counts.tables)?;
     copy_memories(from, to, counts.memories)?;
     copy_globals(from, to, counts.globals)?;

@@ -1,7 +1,11 @@
 //! Sections (WebAssembly core specification 3.0, binary format, modules).
-ghost use Rattle.std.specs.Prelude.{◌≡◌, ◌<◌, ◌-◌, ◌++◌, length, Ok, IfOk, IfSome};
+ghost use Rattle.std.specs.Prelude.{◌≡◌, ◌<◌, ◌-◌, ◌++◌, length, option_map, Ok, IfOk, IfSome};
 ghost use Rattle.wasm_numbers.specs.Numbers.{u32};
-ghost use Rattle.wasm_sections.specs.Sections.{preamble, section_at, BeginsSection, BeginsWithName};
+ghost use Rattle.wasm_sections.specs.Sections.{preamble, section_id, section_at, known_section, section_part, rank_with, BeginsSection, BeginsWithName};
+ghost use Rattle.wasm_numbers.specs.Results.{Gives, some_or, with_fault};
+ghost use Rattle.wasm_sections.specs.declared.fault.ModuleFault.TheVariants.{UnknownSection};
+ghost use Rattle.wasm_sections.specs.Format.{name_part};
+ghost use Rattle.wasm_sections.specs.Components.{preamble_part};
 
 use crate::fault::{ModuleError, ModuleFault};
 use crate::input::Input;
@@ -50,7 +54,8 @@ impl SectionKind {
 
     /// The kind of a section with this id.
     fn of_id(id: u8) -> Option<SectionKind>
-        ensures { IfSome result (λ kind. section_id kind ≡ id) }
+        ensures some { IfSome result (λ kind. section_id kind ≡ id) }
+        ensures is { known_section id ≡ some_or (option_map section_id result) UnknownSection }
     {
         match id {
             0 => Some(SectionKind::Custom),
@@ -180,8 +185,10 @@ impl<'a> Section<'a> {
     ///
     /// Those of `name`.
     pub fn named_input(&self) -> Result<(&'a str, Input<'a>), ModuleError>
-        ensures { IfOk result (λ x. u32 self.now.contents.rest.now
+        ensures value { IfOk result (λ x. u32 self.now.contents.rest.now
             ≡ Ok (length x.0.now, x.0.now ++ x.1.rest.now)) }
+        ensures is { Gives (λ x. (x.0.now, x.1.rest.now)) result (name_part self.now.contents.end
+            self.now.contents.rest.now) }
     {
         let mut contents = self.contents;
         let name = contents.name()?;
@@ -195,6 +202,12 @@ fn read_section(mut left: Input<'_>) -> Result<(Section<'_>, Input<'_>), ModuleE
         x.1.rest.now) }
     ensures end { IfOk result (λ x. x.1.end ≡ left.entry.end) }
     ensures shorter { IfOk result (λ x. length x.1.rest.now < length left.entry.rest.now) }
+    ensures place { IfOk result
+        (λ x. x.0.at ≡ left.entry.end - length left.entry.rest.now) }
+    ensures contents_end { IfOk result
+        (λ x. x.0.contents.end ≡ left.entry.end - length x.1.rest.now) }
+    ensures is { Gives (λ x. ((section_id x.0.kind, x.0.contents.rest.now), x.1.rest.now)) result
+        (section_part left.entry.end left.entry.rest.now) }
 {
     let begin = left;
     let id = left.byte()?;
@@ -230,6 +243,9 @@ impl<'a> Sections<'a> {
     pub fn new(bytes: &'a [u8]) -> Result<Sections<'a>, ModuleError>
         ensures rest { IfOk result (λ s. bytes.now ≡ preamble ++ s.left.rest.now) }
         ensures end { IfOk result (λ s. s.left.end ≡ length bytes.now) }
+        ensures rank { IfOk result (λ s. s.rank ≡ 0) }
+        ensures is { Gives (λ s. (tt, s.left.rest.now)) result
+            (preamble_part (length bytes.now) bytes.now) }
     {
         let mut left = Input::new(bytes);
         let magic = left.part(4)?;
@@ -245,7 +261,10 @@ impl<'a> Sections<'a> {
 }
 
 /// The rank of the last section that isn't custom, after one more was read.
-fn rank_after(before: u8, section: &Section<'_>) -> Result<u8, ModuleError> {
+fn rank_after(before: u8, section: &Section<'_>) -> Result<u8, ModuleError>
+    ensures { Gives (λ rank. rank) result (with_fault (λ f. record { fault = f; at = section.now.at })
+        (rank_with before (section_id section.now.kind))) }
+{
     let rank = section.kind.rank();
     if section.kind == SectionKind::Custom {
         return Ok(before);

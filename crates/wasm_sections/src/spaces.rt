@@ -1,9 +1,11 @@
 //! The index spaces of a module: everything in them keeps its index, unless functions are imported.
 
-ghost use Rattle.std.specs.Prelude.{◌≡◌, ◌<◌, ◌≤◌, ◌+◌, ◌-◌, ◌^◌, ℕ, Ok, IsErr, OnOk, IfOk, IfErr, IfSome};
+ghost use Rattle.std.specs.Prelude.{◌≡◌, ◌<◌, ◌≤◌, ◌+◌, ◌-◌, ◌^◌, ℕ, Ok, length, IsErr, OnOk, OnErr, IfOk, IfErr, IfSome};
 ghost use Rattle.wasm_body.specs.declared.error.IndexError.TheVariants as index;
-ghost use Rattle.wasm_operators.specs.declared.types.Space.TheVariants.{Types, Funcs};
-ghost use Rattle.walrus_maps.specs.IndexMaps.{locals_in, local_of, number_of, with_next_number};
+ghost use Rattle.wasm_operators.specs.declared.types.Space.TheVariants.{Types, Funcs, Tables, Memories, Globals, Tags, Elements, Data};
+ghost use Rattle.walrus_maps.specs.IndexMaps.{no_ids, ids_in, locals_in, local_of, numbers_in, number_of, with_number, with_next_number};
+ghost use Rattle.std.specs.FinMap.{empty};
+ghost use Rattle.wasm_operators.specs.declared.types.Space.{Space};
 ghost use Rattle.wasm_sections.specs.Declarations.{first_numbers};
 
 use std::alloc::Global;
@@ -46,29 +48,35 @@ pub struct Spaces {
     pub more_imports: usize,
     /// The number of functions with a body that are added to those of the source.
     pub more_functions: usize,
+    /// The types that were added to those of the source, in the order of their written indices.
+    pub defined_types: Vec<TypeId>,
     /// The number of indices of locals with ids, which equal the indices.
     locals: usize,
     ghost local_ids: { locals_in indices 0 ≡ first_numbers locals },
 }
 
-/// Gives an id the next index of its space, in the source and in the module that is written.
+/// Gives an id the next index of its space, in the source and in the module that is written. The
+/// count of the space, if it has one, is then that of its indices.
 macro_rules! add {
-    ($spaces:ident, $id:expr, $push:ident, $number_of:ident) => {{
+    ($spaces:ident, $id:expr, $push:ident, $number_of:ident $(, $count:ident)?) => {{
         let id = $id;
-        $spaces.indices.$push(id)?;
+        let _index = match $spaces.indices.$push(id) {
+            Ok(index) => index,
+            Err(error) => return Err(error),
+        };
         match $spaces.numbers.$number_of(id) {
-            Ok(_) => Ok(()),
-            Err(_) => $spaces.numbers.$push(id),
+            Ok(_) => {
+                $($spaces.counts.$count = _index as usize + 1;)?
+                Ok(())
+            }
+            Err(_) => match $spaces.numbers.$push(id) {
+                Ok(()) => {
+                    $($spaces.counts.$count = _index as usize + 1;)?
+                    Ok(())
+                }
+                Err(error) => Err(error),
+            },
         }
-    }};
-}
-
-/// The same for an item whose id is its index, which is the number of items in its space.
-macro_rules! add_next {
-    ($spaces:ident, $kind:ident, $count:ident, $push:ident, $number_of:ident) => {{
-        let index = $spaces.counts.$count;
-        $spaces.counts.$count = index.saturating_add(1);
-        add!($spaces, $kind::new(index), $push, $number_of)
     }};
 }
 
@@ -84,31 +92,47 @@ fn next_func(total: usize, imports: usize, functions: usize) -> Option<usize>
 }
 
 impl Spaces {
+    ghost use Rattle.wasm_sections.specs.NextItems.{no_counts, HasNextIndex, HasNextNumber, HasItemsOfOthers, NoNextItem};
     ghost use Rattle.wasm_sections.specs.OtherLocals.{HasOtherLocals};
 
     /// Empty index spaces. This allocates nothing.
-    pub fn new(alloc: Global) -> Spaces {
+    pub fn new(alloc: Global) -> Spaces
+        ensures indices { result.indices ≡ no_ids }
+        ensures numbers { (space : Space) → numbers_in result.numbers space ≡ empty }
+        ensures counts { result.counts ≡ no_counts }
+        ensures more_imports { result.more_imports ≡ 0 }
+        ensures more_functions { result.more_functions ≡ 0 }
+    {
         Spaces {
             indices: IndicesToIds::new(alloc),
             numbers: IdsToIndices::new(alloc),
             counts: Counts::default(),
             more_imports: 0,
             more_functions: 0,
+            defined_types: Vec::new(alloc),
             locals: 0,
         }
     }
 
-    /// Gives a type the next index. Its id may be greater: not all types have an index.
+    /// Gives a type the next index.
     pub fn add_type(&mut self, id: TypeId) -> Result<(), IndexError>
-        ensures { IsErr (number_of self.old.numbers Types id) → OnOk result
+        ensures number { IsErr (number_of self.old.numbers Types id) → OnOk result
             (self.new.numbers ≡ with_next_number Types id self.old.numbers) }
+        ensures added { OnOk result (HasNextIndex Types id self.old self.new) }
+        ensures numbered { OnOk result (HasNextNumber Types id self.old self.new) }
+        ensures refused { IfErr result (NoNextItem Types self.old) }
+        ensures kept { OnErr result (HasItemsOfOthers Types self.old self.new) }
     {
-        self.counts.types = self.counts.types.saturating_add(1);
-        add!(self, id, push_type, get_type_index)
+        add!(self, id, push_type, get_type_index, types)
     }
 
     /// Gives a function the next index.
-    pub fn add_func(&mut self, id: FunctionId) -> Result<(), IndexError> {
+    pub fn add_func(&mut self, id: FunctionId) -> Result<(), IndexError>
+        ensures added { OnOk result (HasNextIndex Funcs id self.old self.new) }
+        ensures numbered { OnOk result (HasNextNumber Funcs id self.old self.new) }
+        ensures refused { IfErr result (NoNextItem Funcs self.old) }
+        ensures kept { OnErr result (HasItemsOfOthers Funcs self.old self.new) }
+    {
         add!(self, id, push_func, get_func_index)
     }
 
@@ -146,45 +170,112 @@ impl Spaces {
     }
 
     /// Adds a table, whose id is its index.
-    pub fn add_table(&mut self) -> Result<(), IndexError> {
-        add_next!(self, TableId, tables, push_table, get_table_index)
+    pub fn add_table(&mut self) -> Result<(), IndexError>
+        ensures added { OnOk result (HasNextIndex Tables self.old.counts.tables self.old self.new) }
+        ensures numbered { OnOk result (HasNextNumber Tables self.old.counts.tables self.old self.new) }
+        ensures refused { IfErr result (NoNextItem Tables self.old) }
+        ensures kept { OnErr result (HasItemsOfOthers Tables self.old self.new) }
+    {
+        add!(
+            self,
+            TableId::new(self.counts.tables),
+            push_table,
+            get_table_index,
+            tables
+        )
     }
 
     /// Adds a memory, whose id is its index.
-    pub fn add_memory(&mut self) -> Result<(), IndexError> {
-        add_next!(self, MemoryId, memories, push_memory, get_memory_index)
+    pub fn add_memory(&mut self) -> Result<(), IndexError>
+        ensures added { OnOk result (HasNextIndex Memories self.old.counts.memories self.old self.new) }
+        ensures numbered { OnOk result (HasNextNumber Memories self.old.counts.memories self.old self.new) }
+        ensures refused { IfErr result (NoNextItem Memories self.old) }
+        ensures kept { OnErr result (HasItemsOfOthers Memories self.old self.new) }
+    {
+        add!(
+            self,
+            MemoryId::new(self.counts.memories),
+            push_memory,
+            get_memory_index,
+            memories
+        )
     }
 
     /// Adds a global, whose id is its index.
-    pub fn add_global(&mut self) -> Result<(), IndexError> {
-        add_next!(self, GlobalId, globals, push_global, get_global_index)
-    }
-
-    /// The number of globals.
-    pub fn globals(&self) -> usize {
-        self.counts.globals
+    pub fn add_global(&mut self) -> Result<(), IndexError>
+        ensures added { OnOk result (HasNextIndex Globals self.old.counts.globals self.old self.new) }
+        ensures numbered { OnOk result (HasNextNumber Globals self.old.counts.globals self.old self.new) }
+        ensures refused { IfErr result (NoNextItem Globals self.old) }
+        ensures kept { OnErr result (HasItemsOfOthers Globals self.old self.new) }
+    {
+        add!(
+            self,
+            GlobalId::new(self.counts.globals),
+            push_global,
+            get_global_index,
+            globals
+        )
     }
 
     /// Adds a tag, whose id is its index.
-    pub fn add_tag(&mut self) -> Result<(), IndexError> {
-        add_next!(self, TagId, tags, push_tag, get_tag_index)
+    pub fn add_tag(&mut self) -> Result<(), IndexError>
+        ensures added { OnOk result (HasNextIndex Tags self.old.counts.tags self.old self.new) }
+        ensures numbered { OnOk result (HasNextNumber Tags self.old.counts.tags self.old self.new) }
+        ensures refused { IfErr result (NoNextItem Tags self.old) }
+        ensures kept { OnErr result (HasItemsOfOthers Tags self.old self.new) }
+    {
+        add!(
+            self,
+            TagId::new(self.counts.tags),
+            push_tag,
+            get_tag_index,
+            tags
+        )
     }
 
     /// Adds an element segment, whose id is its index.
-    pub fn add_element(&mut self) -> Result<(), IndexError> {
-        add_next!(self, ElementId, elements, push_element, get_element_index)
+    pub fn add_element(&mut self) -> Result<(), IndexError>
+        ensures added { OnOk result (HasNextIndex Elements self.old.counts.elements self.old self.new) }
+        ensures numbered { OnOk result (HasNextNumber Elements self.old.counts.elements self.old self.new) }
+        ensures refused { IfErr result (NoNextItem Elements self.old) }
+        ensures kept { OnErr result (HasItemsOfOthers Elements self.old self.new) }
+    {
+        add!(
+            self,
+            ElementId::new(self.counts.elements),
+            push_element,
+            get_element_index,
+            elements
+        )
     }
 
     /// Adds a data segment, whose id is its index.
-    pub fn add_data(&mut self) -> Result<(), IndexError> {
+    pub fn add_data(&mut self) -> Result<(), IndexError>
+        ensures added { OnOk result
+            (HasNextIndex Data self.old.counts.«data» self.old self.new) }
+        ensures numbered { OnOk result (self.new.numbers ≡ with_number Data
+            self.old.counts.«data» (length (ids_in self.old.indices Data)) self.old.numbers) }
+        ensures refused { IfErr result (NoNextItem Data self.old) }
+        ensures kept { OnErr result (HasItemsOfOthers Data self.old self.new) }
+    {
         let id = DataId::new(self.counts.data);
-        self.counts.data = self.counts.data.saturating_add(1);
-        let index = self.indices.push_data(id)?;
-        self.numbers.set_data_index(id, index)
+        let index = match self.indices.push_data(id) {
+            Ok(index) => index,
+            Err(error) => return Err(error),
+        };
+        match self.numbers.set_data_index(id, index) {
+            Ok(()) => {
+                self.counts.data = index as usize + 1;
+                Ok(())
+            }
+            Err(error) => Err(error),
+        }
     }
 
     /// The number of data segments with an index.
-    pub fn data_segments(&self) -> usize {
+    pub fn data_segments(&self) -> usize
+        ensures { result ≡ self.now.counts.«data» }
+    {
         self.counts.data
     }
 

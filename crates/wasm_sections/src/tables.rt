@@ -1,7 +1,9 @@
 //! Tables (WebAssembly core specification 3.0, binary format, types and modules).
 
-ghost use Rattle.std.specs.Prelude.{◌≡◌, ◌-◌, ◌∷◌, ◌++◌, length, IfSome, IfOk};
-ghost use Rattle.wasm_sections.specs.Views.{BeginsTableType, BeginsTable};
+ghost use Rattle.std.specs.Prelude.{◌≡◌, ◌-◌, length, option_map, IfSome, IfOk};
+ghost use Rattle.wasm_sections.specs.Views.{table_value};
+ghost use Rattle.wasm_numbers.specs.Results.{Gives};
+ghost use Rattle.wasm_sections.specs.Format.{table_type_part, after_table_mark, initialized_part, table_part, table_front_part};
 
 use crate::fault::ModuleError;
 use crate::input::Input;
@@ -33,9 +35,9 @@ pub struct DefinedTable<'a> {
 impl<'a> Input<'a> {
     /// The type of a table.
     pub fn table_type(&mut self) -> Result<TableType, ModuleError>
-        ensures begins { IfOk result (λ ty. BeginsTableType self.old.rest.now ty
-            self.new.rest.now) }
-        ensures same_end { IfOk result (λ _. self.new.end ≡ self.old.end) }
+        ensures same_end { self.new.end ≡ self.old.end }
+        ensures is { Gives (λ ty. (ty, self.new.rest.now)) result (table_type_part self.old.end
+            self.old.rest.now) }
     {
         let element = match self.reference_type() {
             Ok(element) => element,
@@ -50,9 +52,8 @@ impl<'a> Input<'a> {
     /// The bytes that follow those two with which a table with an initial value begins; `None` if it
     /// doesn't begin with them.
     fn after_mark(&self) -> Option<Input<'a>>
-        ensures value { IfSome result
-            (λ after. self.now.rest.now ≡ 0x40 ∷ 0x00 ∷ after.rest.now) }
         ensures same_end { IfSome result (λ after. after.end ≡ self.now.end) }
+        ensures is { option_map (λ after. after.rest.now) result ≡ after_table_mark self.now.rest.now }
     {
         let mut after = *self;
         match after.byte() {
@@ -66,23 +67,31 @@ impl<'a> Input<'a> {
 
     /// Reads past the front of a table: everything but the constant expression of its elements.
     /// Returns whether it has one.
-    pub fn table_front(&mut self) -> Result<bool, ModuleError> {
-        let after = self.after_mark();
-        let has_elements = after.is_some();
-        if let Some(after) = after {
-            *self = after;
-        }
-        match self.table_type() {
-            Ok(_) => Ok(has_elements),
-            Err(error) => Err(error),
+    pub fn table_front(&mut self) -> Result<bool, ModuleError>
+        ensures same_end { self.new.end ≡ self.old.end }
+        ensures is { Gives (λ has_elements. (has_elements, self.new.rest.now)) result
+            (table_front_part self.old.end self.old.rest.now) }
+    {
+        match self.after_mark() {
+            Some(after) => {
+                *self = after;
+                match self.table_type() {
+                    Ok(_) => Ok(true),
+                    Err(error) => Err(error),
+                }
+            }
+            None => match self.table_type() {
+                Ok(_) => Ok(false),
+                Err(error) => Err(error),
+            },
         }
     }
 
     /// The type of a table, and the constant expression of its elements.
     fn initialized(&mut self) -> Result<(TableType, &'a [u8]), ModuleError>
-        ensures begins { IfOk result (λ x. BeginsTableType self.old.rest.now x.0
-            (x.1.now ++ self.new.rest.now)) }
-        ensures same_end { IfOk result (λ _. self.new.end ≡ self.old.end) }
+        ensures same_end { self.new.end ≡ self.old.end }
+        ensures is { Gives (λ x. ((x.0, x.1.now), self.new.rest.now)) result
+            (initialized_part self.old.end self.old.rest.now) }
     {
         let ty = match self.table_type() {
             Ok(ty) => ty,
@@ -96,10 +105,10 @@ impl<'a> Input<'a> {
 
     /// A table: its type, and the constant expression of its elements, if it has one.
     pub fn table(&mut self) -> Result<DefinedTable<'a>, ModuleError>
-        ensures begins { IfOk result (λ x. BeginsTable self.old.rest.now x.ty x.init
-            self.new.rest.now) }
         ensures place { IfOk result (λ x. x.at ≡ self.old.end - length self.old.rest.now) }
-        ensures same_end { IfOk result (λ _. self.new.end ≡ self.old.end) }
+        ensures same_end { self.new.end ≡ self.old.end }
+        ensures is { Gives (λ x. (table_value x, self.new.rest.now))
+            result (table_part self.old.end self.old.rest.now) }
     {
         let at = self.at();
         match self.after_mark() {

@@ -1,7 +1,8 @@
 //! Tags of exceptions (WebAssembly core specification 3.0, binary format, modules).
 
 ghost use Rattle.std.specs.Prelude.{◌≡◌, ◌-◌, length, IfOk};
-ghost use Rattle.wasm_sections.specs.Views.{BeginsTag};
+ghost use Rattle.wasm_numbers.specs.Results.{Gives};
+ghost use Rattle.wasm_sections.specs.Format.{tag_part};
 
 use crate::fault::{ModuleError, ModuleFault};
 use crate::input::Input;
@@ -20,8 +21,9 @@ pub struct DefinedTag {
 impl Input<'_> {
     /// The type index of a tag, which follows its attribute.
     pub fn tag(&mut self) -> Result<u32, ModuleError>
-        ensures begins { IfOk result (λ ty. BeginsTag self.old.rest.now ty self.new.rest.now) }
         ensures same_end { self.new.end ≡ self.old.end }
+        ensures is { Gives (λ ty. (ty, self.new.rest.now)) result (tag_part self.old.end
+            self.old.rest.now) }
     {
         let begin = *self;
         match self.byte()? {
@@ -32,9 +34,10 @@ impl Input<'_> {
 
     /// A tag with its place.
     fn read_tag(&mut self) -> Result<DefinedTag, ModuleError>
-        ensures begins { IfOk result (λ x. BeginsTag self.old.rest.now x.ty self.new.rest.now) }
         ensures place { IfOk result (λ x. x.at ≡ self.old.end - length self.old.rest.now) }
         ensures same_end { self.new.end ≡ self.old.end }
+        ensures is { Gives (λ x. (x.ty, self.new.rest.now)) result (tag_part self.old.end
+            self.old.rest.now) }
     {
         let at = self.at();
         match self.tag() {

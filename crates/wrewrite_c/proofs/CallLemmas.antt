@@ -1,5 +1,5 @@
 -- What calls make, step by step.
-use Rattle.std.proofs.Common.{◌≡◌, ◌==◌, ℕ, ◌+◌, ◌<◌, List, [], ◌++◌, length, get_or, take, Bool, true, false, cond, not, ◌||◌, ◌&&◌, Result, Ok, Err, IfOk, OnOk, refl, sym, ap, subst, ◌∙◌}
+use Rattle.std.proofs.Common.{◌≡◌, ◌==◌, ℕ, ◌+◌, ◌<◌, List, [], ◌++◌, length, get_or, take, Bool, true, false, cond, not, ◌||◌, ◌&&◌, Result, Ok, Err, IfOk, IfErr, OnOk, inr, refl, sym, ap, subst, ◌∙◌}
 use Rattle.std.proofs.Math.Bool.{and-true}
 use Rattle.std.proofs.lemmas.List.Folds.{list_any_more}
 use Rattle.std.specs.List.{list_any}
@@ -10,15 +10,17 @@ use Rattle.wasm_sections.specs.Omissions.{OmitsNothing, texts_of, has_name, name
 use Rattle.wasm_module.specs.declared.parsed.ParsedModule.{ParsedModule}
 use Rattle.wasm_module.specs.declared.changing.kept_bodies.KeptBodies.{KeptBodies}
 use Rattle.wasm_module.specs.KeptCode.{IsKept, AreKeptAs}
-use Rattle.wasm_module.specs.RewrittenCode.{Extends}
+use Rattle.wasm_module.specs.RewrittenCode.{Extends, IsRewritten}
 use Rattle.wasm_module.specs.WrittenModules.{BodyWriting, IsWrittenModule}
-use Rattle.wasm_module.proofs.WriterLemmas.{kept_module}
+use Rattle.wasm_module.specs.ReadFrom.{IsModuleOf}
+use Rattle.wasm_module.proofs.RewritingLemmas.{rewritten_then}
+use Rattle.wasm_module.proofs.WriterLemmas.{module_as, kept_module}
 use Rattle.wrewrite_c.specs.declared.options.Options.{Options}
 use Rattle.wrewrite_c.specs.declared.outcome.Named.{Named}
 use Rattle.wrewrite_c.specs.declared.outcome.Stop.{Stop}
 use Rattle.wrewrite_c.specs.declared.outcome.Stop.TheVariants.{Refused, NoFunction}
-use Rattle.wrewrite_c.specs.Made.{without_debug, without_all, LeavesOut, IsMadeFrom, IsMadeOf, is_among, HasFunctions, AddsIndex}
-use Rattle.wrewrite_c.specs.Outcomes.{IsMissingIn, LacksFunction, IsNamedFunction, IsNamedIn}
+use Rattle.wrewrite_c.specs.Made.{without_debug, without_all, LeavesOut, IsMadeFrom, IsMadeOf, IsSnippedFrom, IsSnippedOf, is_among, HasFunctions, AddsIndex}
+use Rattle.wrewrite_c.specs.Outcomes.{IsMissingIn, LacksFunctionIn, LacksFunction, IsNamedFunction, IsNamedIn, IsOfBodies, IsOfCheck}
 
 -- ---- what is left out
 
@@ -68,31 +70,31 @@ on_ok : {A E P Q : Type 0} (r : Result A E) → (P → Q) → OnOk r P → OnOk 
 on_ok (Ok x) f p = f p
 on_ok (Err e) f p = tt
 
--- of the bytes of a module that was read, which has changed since, and whose bodies are written in this way or kept so
-pub made_of :
-    {A E : Type 0} (r : Result A E) (writes : BodyWriting) (parsed now : ParsedModule) (wanted : Options) (new : List ℕ) → Extends parsed now →
-    OnOk r (IsMadeFrom writes now wanted new) → OnOk r (IsMadeOf writes parsed.bytes.now wanted new)
-made_of r writes parsed now wanted new x h = on_ok r (λ m. record { parsed = now; bytes_are = x.bytes; is_made = m }) h
-
-kept_from :
-    (writes : BodyWriting) (parsed now : ParsedModule) (kept : KeptBodies) (wanted : Options) (new : List ℕ) → Extends parsed now → AreKeptAs writes parsed kept →
-    IsMadeFrom (IsKept kept) now wanted new → IsMadeOf writes parsed.bytes.now wanted new
-kept_from writes parsed now kept wanted new x k h = record {
-  parsed = parsed;
-  bytes_are = refl;
-  is_made = record {
-    changes = h.changes;
-    none_given = h.none_given;
-    omitted = h.omitted;
-    leaves_out = h.leaves_out;
-    is_written = kept_module writes parsed now kept h.changes h.omitted new x k h.is_written;
-  };
+-- of a module that has changed since: what is written for it then is written for it as it was
+from_before :
+    (v w : BodyWriting) (parsed now : ParsedModule) (wanted : Options) (new : List ℕ) →
+    ((changes : Changes) (omitted : OmittedSections) → IsWrittenModule v now changes omitted new → IsWrittenModule w parsed changes omitted new) →
+    IsMadeFrom v now wanted new → IsMadeFrom w parsed wanted new
+from_before v w parsed now wanted new before h = record {
+  changes = h.changes;
+  none_given = h.none_given;
+  omitted = h.omitted;
+  leaves_out = h.leaves_out;
+  is_written = before h.changes h.omitted h.is_written;
 }
+
+pub made_rewritten :
+    {A E : Type 0} (r : Result A E) (parsed now : ParsedModule) (wanted : Options) (new : List ℕ) → Extends parsed now →
+    OnOk r (IsMadeFrom IsRewritten now wanted new) → OnOk r (IsMadeFrom IsRewritten parsed wanted new)
+made_rewritten r parsed now wanted new x h =
+    on_ok r (from_before IsRewritten IsRewritten parsed now wanted new
+    (λ changes omitted w. module_as IsRewritten IsRewritten parsed now x (λ f b raw r. rewritten_then parsed now f b raw x r) changes omitted new w)) h
 
 pub made_of_kept :
     {A E : Type 0} (r : Result A E) (writes : BodyWriting) (parsed now : ParsedModule) (kept : KeptBodies) (wanted : Options) (new : List ℕ) → Extends parsed now →
-    AreKeptAs writes parsed kept → OnOk r (IsMadeFrom (IsKept kept) now wanted new) → OnOk r (IsMadeOf writes parsed.bytes.now wanted new)
-made_of_kept r writes parsed now kept wanted new x k h = on_ok r (λ m. kept_from writes parsed now kept wanted new x k m) h
+    AreKeptAs writes parsed kept → OnOk r (IsMadeFrom (IsKept kept) now wanted new) → OnOk r (IsMadeFrom writes parsed wanted new)
+made_of_kept r writes parsed now kept wanted new x k h =
+    on_ok r (from_before (IsKept kept) writes parsed now wanted new (λ changes omitted w. kept_module writes parsed now kept changes omitted new x k w)) h
 
 -- ---- functions that are added, one after the other
 
@@ -125,15 +127,44 @@ adds_one old new index other h = rw (sym (by_number new other), h, by_number old
 
 -- ---- functions that are missing
 
--- of the module as it was read, and so of its bytes
-pub lacks : (parsed : ParsedModule) (indices : List ℕ) (stop : Stop) → IsMissingIn parsed indices stop → LacksFunction indices parsed.bytes.now stop
+-- or the module is refused
+pub lacks : (parsed : ParsedModule) (indices : List ℕ) (stop : Stop) → IsMissingIn parsed indices stop → LacksFunctionIn parsed indices stop
 lacks parsed indices (Refused r) h = tt
-lacks parsed indices (NoFunction index) h = (h.0, (parsed, refl, h.1))
+lacks parsed indices (NoFunction index) h = h
+
+-- of a module that was read from these bytes
+lacks_of : (source : List ℕ) (parsed : ParsedModule) (indices : List ℕ) (stop : Stop) → IsModuleOf source parsed → LacksFunctionIn parsed indices stop → LacksFunction indices source stop
+lacks_of source parsed indices (Refused r) reads h = tt
+lacks_of source parsed indices (NoFunction index) reads h = (h.0, (parsed, reads, h.1))
+
+pub if_lacks :
+    {A : Type 0} (r : Result A Stop) (source : List ℕ) (parsed : ParsedModule) (indices : List ℕ) → IsModuleOf source parsed → IfErr r (LacksFunctionIn parsed indices) →
+    IfErr r (LacksFunction indices source)
+if_lacks (Ok x) source parsed indices reads h = tt
+if_lacks (Err stop) source parsed indices reads h = lacks_of source parsed indices stop reads h
+
+pub made_of :
+    {A E : Type 0} (r : Result A E) (writes : BodyWriting) (source : List ℕ) (parsed : ParsedModule) (wanted : Options) (new : List ℕ) → IsModuleOf source parsed →
+    OnOk r (IsMadeFrom writes parsed wanted new) → OnOk r (IsMadeOf writes source wanted new)
+made_of r writes source parsed wanted new reads h = on_ok r (λ m. record { parsed = parsed; reads = reads; is_made = m }) h
+
+pub snipped_of :
+    {A E : Type 0} (r : Result A E) (indices source : List ℕ) (parsed : ParsedModule) (wanted : Options) (new : List ℕ) → IsModuleOf source parsed →
+    OnOk r (IsSnippedFrom indices parsed wanted new) → OnOk r (IsSnippedOf indices source wanted new)
+snipped_of r indices source parsed wanted new reads h = on_ok r (λ m. (parsed, reads, m)) h
 
 -- ---- functions with names
 
 -- in the module of these bytes
 pub named_in :
-    {E : Type 0} (r : Result Named E) (parsed : ParsedModule) (source : List ℕ) → parsed.bytes.now ≡ source → IfOk r (IsNamedFunction parsed) → IfOk r (IsNamedIn source)
-named_in (Ok named) parsed source same h = (parsed, same, h)
-named_in (Err e) parsed source same h = tt
+    {E : Type 0} (r : Result Named E) (parsed : ParsedModule) (source : List ℕ) → IsModuleOf source parsed → IfOk r (IsNamedFunction parsed) → IfOk r (IsNamedIn source)
+named_in (Ok named) parsed source reads h = (parsed, reads, h)
+named_in (Err e) parsed source reads h = tt
+
+-- ---- functions that are checked
+
+pub if_of_bodies :
+    {A : Type 0} (r : Result A Stop) (source : List ℕ) (parsed : ParsedModule) (first : ℕ) → IsModuleOf source parsed → IfErr r (IsOfBodies parsed first) →
+    IfErr r (IsOfCheck source first)
+if_of_bodies (Ok x) source parsed first reads h = tt
+if_of_bodies (Err stop) source parsed first reads h = inr (parsed, reads, h)

@@ -6,6 +6,7 @@ use Rattle.wasm_sections.specs.declared.changes.Changes.{Changes}
 use Rattle.wasm_sections.specs.declared.omissions.OmittedSections.{OmittedSections}
 use Rattle.wasm_sections.specs.Omissions.{omits_name, names_debug}
 use Rattle.wasm_module.specs.declared.parsed.ParsedModule.{ParsedModule}
+use Rattle.wasm_module.specs.ReadFrom.{IsModuleOf}
 use Rattle.wasm_module.specs.RewrittenCode.{IsChanged, keeps_locals}
 use Rattle.wasm_module.specs.WrittenModules.{BodyWriting, IsWrittenModule}
 use Rattle.module_tools.specs.declared.snipping.Snipping.{Snipping}
@@ -43,10 +44,10 @@ pub record IsMadeFrom (writes : BodyWriting) (parsed : ParsedModule) (wanted : O
   pub leaves_out : LeavesOut wanted omitted
   pub is_written : IsWrittenModule writes parsed changes omitted new
 
--- The same for a module of these source bytes, as it was read.
+-- The same for the module that these bytes spell.
 pub record IsMadeOf (writes : BodyWriting) (source : List ℕ) (wanted : Options) (new : List ℕ) : Type 0 where
   pub parsed : ParsedModule
-  pub bytes_are : parsed.bytes.now ≡ source
+  pub reads : IsModuleOf source parsed
   pub is_made : IsMadeFrom writes parsed wanted new
 
 -- ---- functions that are named by their indices
@@ -64,7 +65,11 @@ abbrev pub AddsIndex : {S : Type 0} → (index : ℕ) → (old new : HashSet ℕ
 AddsIndex index old new = (other : ℕ) → contains (λ x y. x == y) new other ≡ cond (index == other) true (contains (λ x y. x == y) old other)
 
 -- The same, with the bodies of the functions with these indices taken away.
-pub record IsSnippedOf (indices source : List ℕ) (wanted : Options) (new : List ℕ) : Type 0 where
+pub record IsSnippedFrom (indices : List ℕ) (parsed : ParsedModule) (wanted : Options) (new : List ℕ) : Type 0 where
   pub snipping : Snipping
   pub has_functions : HasFunctions indices snipping.0
-  pub is_made : IsMadeOf (IsChanged (keeps_locals (Snips snipping.0))) source wanted new
+  pub is_made : IsMadeFrom (IsChanged (keeps_locals (Snips snipping.0))) parsed wanted new
+
+-- The same for the module that these bytes spell.
+abbrev pub IsSnippedOf : (indices source : List ℕ) (wanted : Options) (new : List ℕ) → Type 0
+IsSnippedOf indices source wanted new = (parsed : ParsedModule) × IsModuleOf source parsed × IsSnippedFrom indices parsed wanted new

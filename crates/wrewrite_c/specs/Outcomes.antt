@@ -1,10 +1,11 @@
 -- How calls end.
-use Rattle.std.specs.Prelude.{◌≡◌, ◌≢◌, ◌⊎◌, ◌<◌, ◌≤◌, ◌-◌, ◌^◌, ℕ, List, [], ◌++◌, length, drop, Bool, true, false, MatchOption}
+use Rattle.std.specs.Prelude.{◌≡◌, ◌≢◌, ◌⊎◌, ◌<◌, ◌≤◌, ◌-◌, ◌^◌, ℕ, List, [], ◌++◌, length, drop, Bool, true, false, Option, None, MatchOption}
 use Rattle.wasm_sections.specs.declared.fault.ModuleError.{ModuleError}
 use Rattle.wasm_sections.specs.declared.fault.ModuleFault.{ModuleFault}
 use Rattle.wasm_sections.specs.declared.fault.ModuleFault.TheVariants.{Memory, TooGreat}
 use Rattle.wasm_module.specs.declared.parsed.ParsedModule.{ParsedModule}
 use Rattle.wasm_sections.specs.CodeSections.{BodyAt}
+use Rattle.wasm_module.specs.ReadFrom.{IsModuleOf, IsOfReading}
 use Rattle.wasm_module.specs.Refusals.{IsRefusedBody}
 use Rattle.wrewrite_c.specs.declared.options.Options.{Options}
 use Rattle.wrewrite_c.specs.declared.outcome.Outcome.{Outcome}
@@ -76,11 +77,16 @@ abbrev pub IsMissingIn : ParsedModule → (indices : List ℕ) → Stop → Type
 IsMissingIn parsed indices (Refused r) = r.error.fault ≡ Memory
 IsMissingIn parsed indices (NoFunction index) = (is_among indices index ≡ true) × (HasBody parsed index → ⊥)
 
--- The same of the module of these bytes, as it was read; or the module is refused.
+-- The same; or the module is refused.
+abbrev pub LacksFunctionIn : ParsedModule → (indices : List ℕ) → Stop → Type 0
+LacksFunctionIn parsed indices (Refused r) = Unit {0}
+LacksFunctionIn parsed indices (NoFunction index) = (is_among indices index ≡ true) × (HasBody parsed index → ⊥)
+
+-- The same of the module that these bytes spell.
 abbrev pub LacksFunction : (indices source : List ℕ) → Stop → Type 0
 LacksFunction indices source (Refused r) = Unit {0}
 LacksFunction indices source (NoFunction index) =
-    (is_among indices index ≡ true) × ((parsed : ParsedModule) × (parsed.bytes.now ≡ source) × (HasBody parsed index → ⊥))
+    (is_among indices index ≡ true) × ((parsed : ParsedModule) × IsModuleOf source parsed × (HasBody parsed index → ⊥))
 
 -- ---- functions with names
 
@@ -90,9 +96,9 @@ IsNamedFunction parsed (One index) = HasBody parsed index
 IsNamedFunction parsed NoneNamed = Unit {0}
 IsNamedFunction parsed Several = Unit {0}
 
--- the same of the module of these bytes, as it was read
+-- the same of the module that these bytes spell
 abbrev pub IsNamedIn : (source : List ℕ) → Named → Type 0
-IsNamedIn source named = (parsed : ParsedModule) × (parsed.bytes.now ≡ source) × IsNamedFunction parsed named
+IsNamedIn source named = (parsed : ParsedModule) × IsModuleOf source parsed × IsNamedFunction parsed named
 
 -- the outcome of a search: 2 where no function, or more than one, has the name
 abbrev pub IsOfNamed : Named → Outcome → Type 0
@@ -109,19 +115,26 @@ pub data Ends (IsMade : List ℕ → Type 0) (has_map : Bool) (MayStop : Stop �
       Ends IsMade has_map MayStop out out' map map' o
   stopped : (stop : Stop) → MayStop stop → IsStopped stop o → HasSizes 0 0 o → out' ≡ out → map' ≡ map → Ends IsMade has_map MayStop out out' map map' o
 
+-- The module isn't read, since memory ran out, or for the first fault of what its bytes spell.
+abbrev pub IsNotRead : (source : List ℕ) → Stop → Type 0
+IsNotRead source (Refused r) = (r.function ≡ None) × IsOfReading source r.error
+IsNotRead source (NoFunction index) = ⊥
+
 -- This function, from the first that is looked at on, is refused for this fault.
-pub record IsOfFunction (source : List ℕ) (first : ℕ) (error : ModuleError) (function : ℕ) : Type 0 where
+pub record IsOfFunction (parsed : ParsedModule) (first : ℕ) (error : ModuleError) (function : ℕ) : Type 0 where
   pub follows : first ≤ function
-  pub parsed : ParsedModule
-  pub bytes_are : parsed.bytes.now ≡ source
   pub body : BodyAt
   pub now : ParsedModule
   pub is_refused : IsRefusedBody parsed function body now error
 
--- Where a function is named, it is the one that is refused.
+-- A function of the module is refused.
+abbrev pub IsOfBodies : ParsedModule → (first : ℕ) → Stop → Type 0
+IsOfBodies parsed first (Refused r) = MatchOption r.function ⊥ (IsOfFunction parsed first r.error)
+IsOfBodies parsed first (NoFunction index) = ⊥
+
+-- The module isn't read; or a function of the one that the bytes spell is refused, which is named.
 abbrev pub IsOfCheck : (source : List ℕ) → (first : ℕ) → Stop → Type 0
-IsOfCheck source first (Refused r) = MatchOption r.function (Unit {0}) (IsOfFunction source first r.error)
-IsOfCheck source first (NoFunction index) = ⊥
+IsOfCheck source first stop = IsNotRead source stop ⊎ ((parsed : ParsedModule) × IsModuleOf source parsed × IsOfBodies parsed first stop)
 
 -- A check finds nothing that is refused, or this.
 pub data IsChecked (source : List ℕ) (first : ℕ) (o : Outcome) : Type 0 where
@@ -131,7 +144,7 @@ pub data IsChecked (source : List ℕ) (first : ℕ) (o : Outcome) : Type 0 wher
 -- A search by name finds a function with a body, or none, or several; or the module isn't read.
 pub data IsFound (source : List ℕ) (o : Outcome) : Type 0 where
   found : (named : Named) → IsNamedIn source named → IsOfNamed named o → HasSizes 0 0 o → IsFound source o
-  not_read : (stop : Stop) → IsOfModule stop → IsStopped stop o → HasSizes 0 0 o → IsFound source o
+  not_read : (stop : Stop) → IsNotRead source stop → IsStopped stop o → HasSizes 0 0 o → IsFound source o
 
 -- A call ends in a way that depends on its options; or they say nothing, the status is 5, and nothing is written.
 pub data Asks (words : List ℕ) (Ends : Options → Type 0) (out out' map map' : List ℕ) (o : Outcome) : Type 0 where

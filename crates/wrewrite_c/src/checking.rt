@@ -4,7 +4,7 @@ ghost use Rattle.std.specs.Prelude.{IfErr, IfSome};
 ghost use Rattle.wasm_sections.specs.CodeSections.{body_at};
 ghost use Rattle.wasm_module.specs.RewrittenCode.{Extends};
 ghost use Rattle.wasm_module.specs.Refusals.{IsRefusedBody};
-ghost use Rattle.wrewrite_c.specs.Outcomes.{IsOfCheck};
+ghost use Rattle.wrewrite_c.specs.Outcomes.{IsOfBodies, IsOfCheck};
 
 use crate::outcome::{RefusedModule, Stop};
 use crate::reading::read;
@@ -33,7 +33,7 @@ fn check_bodies(
     first: usize,
     scratch: &mut Scratch,
 ) -> Result<(), Stop>
-    ensures { IfErr result (IsOfCheck parsed.old.bytes.now first) }
+    ensures { IfErr result (IsOfBodies parsed.old first) }
 {
     'bodies: for body in parsed.bodies() {
         if body.func < first {

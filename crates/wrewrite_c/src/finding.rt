@@ -1,7 +1,7 @@
 //! Functions that are found by their names.
 
-ghost use Rattle.std.specs.Prelude.{IfOk, IfErr};
-ghost use Rattle.wrewrite_c.specs.Outcomes.{IsNamedFunction, IsNamedIn, IsOfModule};
+ghost use Rattle.std.specs.Prelude.{ℕ, List, IfOk, IfErr};
+ghost use Rattle.wrewrite_c.specs.Outcomes.{IsNamedFunction, IsNamedIn, IsNotRead};
 
 use crate::outcome::{Named, Stop};
 use crate::reading::read;
@@ -23,7 +23,7 @@ fn named(parsed: &ParsedModule<'_>, found: Found) -> Named
 /// The function of a module that was read with this name.
 fn find_in(alloc: Global, parsed: &ParsedModule<'_>, name: &[u8]) -> Result<Named, Stop>
     ensures found { IfOk result (IsNamedFunction parsed.now) }
-    ensures stops { IfErr result IsOfModule }
+    ensures stops { (source : List ℕ) → IfErr result (IsNotRead source) }
 {
     let Ok(name) = str::from_utf8(name) else {
         return Ok(Named::None);
@@ -37,7 +37,7 @@ fn find_in(alloc: Global, parsed: &ParsedModule<'_>, name: &[u8]) -> Result<Name
 /// The function of a module with this name: in the `name` section, else of an export.
 pub(crate) fn find(alloc: Global, source: &[u8], name: &[u8]) -> Result<Named, Stop>
     ensures found { IfOk result (IsNamedIn source.now) }
-    ensures stops { IfErr result IsOfModule }
+    ensures stops { IfErr result (IsNotRead source.now) }
 {
     let parsed = match read(alloc, source) {
         Ok(parsed) => parsed,

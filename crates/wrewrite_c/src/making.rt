@@ -6,8 +6,8 @@ ghost use Rattle.module_tools.specs.FunctionChanges.{Snips};
 ghost use Rattle.wasm_sections.specs.Omissions.{OmitsNothing};
 ghost use Rattle.wasm_module.specs.RewrittenCode.{IsRewritten, IsChanged, keeps_locals};
 ghost use Rattle.wasm_module.specs.WrittenModules.{new_contents_in, IsWrittenModule};
-ghost use Rattle.wrewrite_c.specs.Made.{IsMadeFrom, IsMadeOf, IsSnippedOf, HasFunctions, AddsIndex};
-ghost use Rattle.wrewrite_c.specs.Outcomes.{IsOfModule, IsMissing, IsMissingIn, LacksFunction};
+ghost use Rattle.wrewrite_c.specs.Made.{IsMadeFrom, IsMadeOf, IsSnippedFrom, IsSnippedOf, HasFunctions, AddsIndex};
+ghost use Rattle.wrewrite_c.specs.Outcomes.{IsOfModule, IsMissing, IsMissingIn, LacksFunctionIn, LacksFunction};
 
 use crate::made::Made;
 use crate::options::Options;
@@ -94,8 +94,7 @@ fn rewrite_parsed(
     made: &mut Made,
 ) -> Result<(), ModuleError>
     requires { made.old.bytes.items ≡ [] }
-    ensures written { OnOk result (IsMadeOf IsRewritten parsed.old.bytes.now
-        wanted made.new.bytes.items) }
+    ensures written { OnOk result (IsMadeFrom IsRewritten parsed.old wanted made.new.bytes.items) }
     ensures no_map { wanted.has_map ≡ false → made.new.lines.items ≡ made.old.lines.items }
 {
     match parsed.rewrite_all() {
@@ -189,8 +188,8 @@ fn snip_functions(
     made: &mut Made,
 ) -> Result<(), ModuleError>
     requires { made.old.bytes.items ≡ [] }
-    ensures written { OnOk result (IsMadeOf (IsChanged (keeps_locals (Snips functions)))
-        parsed.old.bytes.now wanted made.new.bytes.items) }
+    ensures written { OnOk result (IsMadeFrom (IsChanged (keeps_locals (Snips functions)))
+        parsed.old wanted made.new.bytes.items) }
     ensures no_map { wanted.has_map ≡ false → made.new.lines.items ≡ made.old.lines.items }
 {
     match module_tools::snip(alloc, parsed, functions) {
@@ -208,10 +207,10 @@ fn snip_parsed(
     made: &mut Made,
 ) -> Result<(), Stop>
     requires { made.old.bytes.items ≡ [] }
-    ensures written { OnOk result (IsSnippedOf indices.now parsed.old.bytes.now
-        wanted made.new.bytes.items) }
+    ensures written { OnOk result (IsSnippedFrom indices.now parsed.old wanted
+        made.new.bytes.items) }
     ensures no_map { wanted.has_map ≡ false → made.new.lines.items ≡ made.old.lines.items }
-    ensures stops { IfErr result (LacksFunction indices.now parsed.old.bytes.now) }
+    ensures stops { IfErr result (LacksFunctionIn parsed.old indices.now) }
 {
     let functions = match functions_of(alloc, parsed, indices) {
         Ok(functions) => functions,

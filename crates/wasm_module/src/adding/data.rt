@@ -1,10 +1,11 @@
 //! Data segments that are added (WebAssembly core specification 3.0, binary format, data section and
 //! data count section).
-ghost use Rattle.std.specs.Prelude.{◌≡◌, ◌++◌, ℕ, true, List, Ok, OnOk, IfOk};
-ghost use Rattle.wasm_numbers.specs.Numbers.{u32};
+ghost use Rattle.std.specs.Prelude.{◌≡◌, ◌+◌, ◌++◌, true, List, OnOk, IfOk};
+ghost use Rattle.wasm_operators.specs.declared.types.Space.TheVariants.{Data};
 ghost use Rattle.wasm_operators.specs.Shortest.{short_number};
-ghost use Rattle.wasm_sections.specs.Additions.{SetsContents, contents_with};
-ghost use Rattle.wasm_module.specs.AddedItems.{active_data, passive_data, has_data_count, AddsData};
+ghost use Rattle.wasm_sections.specs.Additions.{SetsContents};
+ghost use Rattle.wasm_sections.specs.DefinedItems.{NumbersData};
+ghost use Rattle.wasm_module.specs.AddedItems.{active_data, passive_data, has_data_count, HasSegments, AddsData, ChangesNumbersAlone};
 ghost use Rattle.wasm_sections.specs.Sections.{SectionAt, IsModule};
 
 use crate::parsed::ParsedModule;
@@ -47,9 +48,10 @@ impl<'a> ParsedModule<'a> {
         address: i32,
         bytes: &[u8],
     ) -> Result<(), ModuleError>
-        ensures { (all : List SectionAt) → IsModule self.old.bytes.now all → OnOk result
+        ensures ok { (all : List SectionAt) → IsModule self.old.bytes.now all → OnOk result
             (AddsData all changes.old changes.new (has_data_count all changes.old)
             (active_data address bytes.now)) }
+        ensures kept { ChangesNumbersAlone Data self.old self.new }
     {
         let mut segment = Vec::new(self.alloc);
         match write_active(&mut segment, address, bytes) {
@@ -73,8 +75,12 @@ impl<'a> ParsedModule<'a> {
         changes: &mut Changes,
         bytes: &[u8],
     ) -> Result<DataId, ModuleError>
-        ensures { (all : List SectionAt) → IsModule self.old.bytes.now all → OnOk result
+        ensures ok { (all : List SectionAt) → IsModule self.old.bytes.now all → OnOk result
             (AddsData all changes.old changes.new true (passive_data bytes.now)) }
+        ensures id { (all : List SectionAt) → IsModule self.old.bytes.now all → IfOk result
+            (HasSegments all changes.old) }
+        ensures numbered { IfOk result (λ id. NumbersData (id + 1) self.old.spaces self.new.spaces) }
+        ensures kept { ChangesNumbersAlone Data self.old self.new }
     {
         let mut segment = Vec::new(self.alloc);
         write_passive(&mut segment, bytes)?;
@@ -101,8 +107,7 @@ impl<'a> ParsedModule<'a> {
     /// The number of data segments, with these changes.
     fn segment_count(&self, changes: &Changes) -> Result<u32, ModuleError>
         ensures { (all : List SectionAt) → IsModule self.now.bytes.now all → IfOk result
-            (λ count. (following : List ℕ) × (u32 (contents_with all changes.now 11)
-            ≡ Ok (count, following))) }
+            (HasSegments all changes.now) }
     {
         match self.contents_with(changes, SectionKind::Data) {
             Ok(contents) => {
@@ -115,8 +120,9 @@ impl<'a> ParsedModule<'a> {
 
     /// Adds a data segment after all others. If there is a data count, it is set to their number.
     fn add_segment(&mut self, changes: &mut Changes, segment: &[u8]) -> Result<(), ModuleError>
-        ensures { (all : List SectionAt) → IsModule self.old.bytes.now all → OnOk result
+        ensures ok { (all : List SectionAt) → IsModule self.old.bytes.now all → OnOk result
             (AddsData all changes.old changes.new (has_data_count all changes.old) segment.now) }
+        ensures kept { ChangesNumbersAlone Data self.old self.new }
     {
         if self.has_data_count(changes)? {
             match self.add_counted(changes, segment) {
@@ -131,8 +137,13 @@ impl<'a> ParsedModule<'a> {
     /// Adds a data segment after all others, and sets the data count to their number. Returns the
     /// number of the others.
     fn add_counted(&mut self, changes: &mut Changes, segment: &[u8]) -> Result<usize, ModuleError>
-        ensures { (all : List SectionAt) → IsModule self.old.bytes.now all
+        ensures ok { (all : List SectionAt) → IsModule self.old.bytes.now all
             → OnOk result (AddsData all changes.old changes.new true segment.now) }
+        ensures id { (all : List SectionAt) → IsModule self.old.bytes.now all → IfOk result
+            (HasSegments all changes.old) }
+        ensures numbered { IfOk result
+            (λ count. NumbersData (count + 1) self.old.spaces self.new.spaces) }
+        ensures kept { ChangesNumbersAlone Data self.old self.new }
     {
         let count = match self.segment_count(changes) {
             Ok(count) => count,
@@ -168,10 +179,13 @@ impl<'a> ParsedModule<'a> {
     }
 
     /// Gives each of the first `count` data segments an id.
-    fn number_data(&mut self, count: usize) -> Result<(), ModuleError> {
-        for _ in self.spaces.data_segments()..count {
-            match self.spaces.add_data() {
-                Ok(()) => {}
+    fn number_data(&mut self, count: usize) -> Result<(), ModuleError>
+        ensures numbered { OnOk result (NumbersData count self.old.spaces self.new.spaces) }
+        ensures kept { ChangesNumbersAlone Data self.old self.new }
+    {
+        'segments: for _ in self.spaces.data_segments()..count {
+            match self.spaces.define_data() {
+                Ok(_) => {}
                 Err(error) => return Err(ModuleError::of_index(error, 0)),
             }
         }

@@ -5,9 +5,10 @@ ghost use Rattle.walrus_ir.specs.Types.{find};
 ghost use Rattle.wasm_operators.specs.declared.types.Space.TheVariants.{Types};
 ghost use Rattle.wasm_operators.specs.Shortest.{short_value};
 ghost use Rattle.wasm_body.specs.Translation.{translate_value};
-ghost use Rattle.walrus_maps.specs.IndexMaps.{number_of, with_next_number};
+ghost use Rattle.walrus_maps.specs.IndexMaps.{number_of};
 ghost use Rattle.wasm_sections.specs.Additions.{AreUnchanged};
-ghost use Rattle.wasm_module.specs.AddedItems.{IsWrittenTypes, IsWrittenFunctionType, AddsFunctionType, HasFunctionType};
+ghost use Rattle.wasm_sections.specs.DefinedItems.{DefinesType, ChangesNumbersOf};
+ghost use Rattle.wasm_module.specs.AddedItems.{IsWrittenTypes, IsWrittenFunctionType, AddsFunctionType, HasFunctionType, ChangesTypesAndSpaces, ChangesNumbersAlone};
 ghost use Rattle.wasm_module.specs.RewrittenCode.{Extends};
 ghost use Rattle.wasm_sections.specs.Sections.{SectionAt, IsModule};
 
@@ -113,6 +114,8 @@ impl<'a> ParsedModule<'a> {
         ensures first { IfOk result
             (λ id. find self.new.«module».types params.now results.now ≡ Some id) }
         ensures extends { Extends self.old self.new }
+        ensures kept { ChangesTypesAndSpaces self.old self.new }
+        ensures spaces { self.new.spaces ≡ self.old.spaces }
     {
         match self.module.types.find(params, results) {
             Some(id) => Ok(id),
@@ -133,16 +136,16 @@ impl<'a> ParsedModule<'a> {
     ) -> Result<(), ModuleError>
         ensures adds { (all : List SectionAt) → IsModule self.old.bytes.now all → OnOk result
             (AddsFunctionType all self.old changes.old changes.new params.now results.now) }
-        ensures numbers { IsErr (number_of self.old.spaces.numbers Types id) → OnOk result
-            (self.new.spaces.numbers ≡ with_next_number Types id self.old.spaces.numbers) }
-        ensures types { self.new.«module».types ≡ self.old.«module».types }
+        ensures defined { IsErr (number_of self.old.spaces.numbers Types id)
+            → OnOk result (DefinesType id self.old.spaces self.new.spaces) }
+        ensures kept { ChangesNumbersAlone Types self.old self.new }
         ensures err { OnErr result (AreUnchanged changes.old changes.new) }
     {
         let item = match self.function_item(params, results) {
             Ok(item) => item,
             Err(error) => return Err(error),
         };
-        match self.spaces.add_type(id) {
+        match self.spaces.define_type(id) {
             Ok(()) => {}
             Err(error) => return Err(ModuleError::of_index(error, 0)),
         }
@@ -153,8 +156,8 @@ impl<'a> ParsedModule<'a> {
     }
 
     /// The first function type with these parameters and results. If the module has none, it is
-    /// added after all other types, and changes of functions may then name it. A type that is found
-    /// may have supertypes, or be in a recursive group with others.
+    /// added after all other types, and changes of functions may then name it by its id; no body of the
+    /// source can, since it has no index there. A type that is found may have supertypes, or be in a recursive group with others.
     ///
     /// # Errors
     ///
@@ -169,6 +172,8 @@ impl<'a> ParsedModule<'a> {
         ensures ok { (all : List SectionAt) → IsModule self.old.bytes.now all → IfOk result
             (HasFunctionType all self.old self.new changes.old changes.new params.now results.now) }
         ensures err { OnErr result (AreUnchanged changes.old changes.new) }
+        ensures kept { ChangesTypesAndSpaces self.old self.new }
+        ensures numbers { ChangesNumbersOf Types self.old.spaces self.new.spaces }
     {
         let id = match self.type_id(params, results) {
             Ok(id) => id,

@@ -9,4 +9,4 @@ returns-else-eq c = λ is_true.
     let name = c.in-Ok.name.now in
     let front = codes "metadata.code." in
     let begins = (starts_is Decides-eqb name front c.starts_with.result (starts_text c.starts_with.result front name c.starts_with.ensures.cases)).0 is_true in
-    (name, c.in-Ok.field-0-1.rest.now, c.in-Ok.ensures, inr (drop (length front) name, begins))
+    (name, c.in-Ok.field-0-1.rest.now, c.in-Ok.ensures.value, inr (drop (length front) name, begins))

@@ -18,7 +18,7 @@ returns-clause-begins c =
     id_is ∙ ap (λ (l : List ℕ). c.in_ok-id.id ∷ l) (front.parts ∙ ap (λ (l : List ℕ). front.front ++ l) parts ∙ sym (append_assoc front.front contents following)) in
     record {
       sized = sized;
-      id_is = id_is ∙ ap (λ (n : ℕ). n ∷ sized) (sym c.in-Some.ensures);
+      id_is = id_is ∙ ap (λ (n : ℕ). n ∷ sized) (sym c.in-Some.ensures.some);
       size_is = number ∙ cc (parts, c.in_ok-contents.ensures.len);
       end_is = c.in_ok-contents.ensures.ends ∙ ap (λ (n : ℕ). n - length following) (c.number.ensures.same_end ∙ c.byte.ensures.same_end);
       whole_is = sym (ap (λ (l : List ℕ). l ++ following) c.until.ensures ∙ before_last text (c.in_ok-id.id ∷ (front.front ++ contents)) following last);

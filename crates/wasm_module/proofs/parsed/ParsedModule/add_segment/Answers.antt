@@ -5,8 +5,8 @@ use Rattle.wasm_sections.proofs.AdditionLemmas.{on_ok}
 use Rattle.wasm_module.proofs.DataLemmas.{uncounted}
 use Rattle.wasm_module.proofs.parsed.ParsedModule.add_segment.Goals as goal
 
-pub returns-else-branch : goal.returns-else-branch
-returns-else-branch c = λ all m.
+pub returns-else-branch-clause-ok : goal.returns-else-branch-clause-ok
+returns-else-branch-clause-ok c = λ all m.
     let old = c.args.changes.now in
     let new = c.add_item.new.changes in
     let segment = c.args.segment.now in

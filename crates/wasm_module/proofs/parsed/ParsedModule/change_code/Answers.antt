@@ -13,7 +13,7 @@ bodies-init g c =
       extends = extends_same c.args.self.now;
       so_far =
           none_kept change.changes c.args.self.now (change.state c.args.change.now) c.in_ok-kept.kept first.next (c.in_ok-kept.ensures.first ∙ c.imported.ensures) c.in_ok-kept.ensures.none
-          (ap (λ (s : Bodies). s.next) c.into_iter-body-iterator.ensures.into_iter_gives ∙ c.bodies-body-items.ensures);
+          (ap (λ (s : Bodies). s.next) c.into_iter-body-iterator.ensures.into_iter_gives ∙ c.bodies-body-items.ensures.first);
     }
 
 pub bodies-preserved : goal.bodies-preserved

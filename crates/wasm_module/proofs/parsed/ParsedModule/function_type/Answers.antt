@@ -7,7 +7,8 @@ use Rattle.wasm_module.proofs.parsed.ParsedModule.function_type.Goals as goal
 pub returns-in-Ok-get_type_index-clause-ok : goal.returns-in-Ok-get_type_index-clause-ok
 returns-in-Ok-get_type_index-clause-ok c = λ all m.
     is_found all c.args.self.now c.type_id.new.self c.args.changes.now c.args.params.now c.args.results.now c.in-Ok.id c.in-Ok-get_type_index.field-0
-    c.in-Ok.ensures.first c.in-Ok.ensures.extends (sym c.get_type_index.ensures ∙ c.in-Ok-get_type_index.is)
+    c.in-Ok.ensures.first c.in-Ok.ensures.extends c.in-Ok.ensures.kept c.in-Ok.ensures.spaces
+    (sym c.get_type_index.ensures ∙ c.in-Ok-get_type_index.is)
 
 pub returns-in-Ok-add_function_type-clause-ok : goal.returns-in-Ok-add_function_type-clause-ok
 returns-in-Ok-add_function_type-clause-ok c = λ all m.
@@ -15,6 +16,6 @@ returns-in-Ok-add_function_type-clause-ok c = λ all m.
     let missing = sym c.get_type_index.ensures ∙ c.in-Err-get_type_index.is in
     let made = c.in-Ok-add_function_type.ensures in
     is_added all c.args.self.now c.type_id.new.self c.add_function_type.new.self c.args.changes.now c.add_function_type.new.changes c.args.params.now
-    c.args.results.now c.in-Ok.id c.in-Err-get_type_index.field-0 c.in-Ok.ensures.first e missing made.types
+    c.args.results.now c.in-Ok.id c.in-Err-get_type_index.field-0 c.in-Ok.ensures.first e c.in-Ok.ensures.kept c.in-Ok.ensures.spaces missing made.kept.kept
     (made.adds all (subst (λ (b : List ℕ). IsModule b all) (sym e.bytes) m))
-    (made.numbers (ap (λ (r : Result ℕ IndexError). is_err r) missing))
+    (made.defined (ap (λ (r : Result ℕ IndexError). is_err r) missing))

@@ -2,7 +2,7 @@ use Rattle.std.proofs.Common.{refl}
 use Rattle.wasm_sections.specs.CodeSections.{body_at}
 use Rattle.wasm_module.proofs.ModuleLemmas.{extends_kept}
 use Rattle.wasm_module.proofs.RefusalLemmas.{not_rewritten}
-use Rattle.wasm_module.proofs.RewritingLemmas.{enters_kept, rewritten}
+use Rattle.wasm_module.proofs.RewritingLemmas.{enters_kept, rewritten, parsed}
 use Rattle.wasm_module.proofs.parsed.ParsedModule.rewrite_once.Goals as goal
 
 pub returns-in-Ok-clause-extends : goal.returns-in-Ok-clause-extends
@@ -18,6 +18,14 @@ returns-in-Ok-clause-rewritten c =
     let made = c.in_ok-ty.field-0 in
     rewritten c.args.self.now c.enter.new.self c.args.body.func (body_at c.args.body) made.ty c.local_lists-lists.result made.args.items made.locals made.body _
     c.rewrite_body-rewritten.new.dst.items c.in_ok-ty.ensures.enters c.local_lists-lists.ensures c.clear.ensures.items c.in-Ok.ensures.rewritten
+
+pub returns-in-Ok-clause-parsed : goal.returns-in-Ok-clause-parsed
+returns-in-Ok-clause-parsed c =
+    let made = c.in_ok-ty.field-0 in
+    parsed c.args.self.now _ c.args.body.func (body_at c.args.body) made.ty c.local_lists-lists.result made.args.items made.locals made.body c.in-Ok.function
+    (enters_kept c.args.self.now c.enter.new.self _ c.args.body.func (body_at c.args.body) made.ty made.args.items made.locals made.body
+    (record { bytes = refl; tags = refl; func_types = refl; imported = refl }) refl refl refl c.in_ok-ty.ensures.enters) c.local_lists-lists.ensures
+    c.in-Ok.ensures.rewritten.accepts c.in-Ok.ensures.args
 
 pub returns-in-Err-clause-refused : goal.returns-in-Err-clause-refused
 returns-in-Err-clause-refused c =

@@ -1,7 +1,7 @@
 use Rattle.wasm_sections.specs.CodeSections.{body_at}
 use Rattle.wasm_module.proofs.ModuleLemmas.{extends_then}
 use Rattle.wasm_module.proofs.RefusalLemmas.{if_not_rewritten_then}
-use Rattle.wasm_module.proofs.RewritingLemmas.{rewritten_ok}
+use Rattle.wasm_module.proofs.RewritingLemmas.{rewritten_ok, parsed_ok}
 use Rattle.wasm_module.proofs.parsed.ParsedModule.rewrite_with_types.Goals as goal
 
 pub returns-in_ok-add_missing_types-in-Err-clause-extends : goal.returns-in_ok-add_missing_types-in-Err-clause-extends
@@ -14,6 +14,12 @@ returns-in_ok-add_missing_types-in-Err-clause-rewritten c =
     let first = extends_then c.args.self.now c.rewrite_once.new.self c.add_missing_types.new.self c.rewrite_once.ensures.extends c.add_missing_types.ensures.extends in
     rewritten_ok c.args.self.now c.add_missing_types.new.self c.args.body.func (body_at c.args.body) c.rewrite_once-in-Err.new.scratch.raw.items
     c.rewrite_once-in-Err.result first c.rewrite_once-in-Err.ensures.rewritten
+
+pub returns-in_ok-add_missing_types-in-Err-clause-parsed : goal.returns-in_ok-add_missing_types-in-Err-clause-parsed
+returns-in_ok-add_missing_types-in-Err-clause-parsed c =
+    let first = extends_then c.args.self.now c.rewrite_once.new.self c.add_missing_types.new.self c.rewrite_once.ensures.extends c.add_missing_types.ensures.extends in
+    parsed_ok c.args.self.now c.add_missing_types.new.self c.rewrite_once-in-Err.new.self c.args.body.func (body_at c.args.body) c.rewrite_once-in-Err.result first
+    c.rewrite_once-in-Err.ensures.parsed
 
 pub returns-in_ok-add_missing_types-in-Err-clause-refused : goal.returns-in_ok-add_missing_types-in-Err-clause-refused
 returns-in_ok-add_missing_types-in-Err-clause-refused c =

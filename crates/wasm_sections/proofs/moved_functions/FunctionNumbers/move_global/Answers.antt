@@ -5,5 +5,5 @@ pub returns-in-Ok-move_constant : goal.returns-in-Ok-move_constant
 returns-in-Ok-move_constant c =
     let t = c.in-Ok.ensures in
     let m = c.in-Ok-move_constant.ensures in
-    global_moved c.args.self.imported c.args.self.added c.args.input.now.rest.now c.copy_global_type.new.input.rest.now c.move_constant.new.input.rest.now t.1 m.0
-    c.args.out.now.items c.copy_global_type.new.out.items c.move_constant.new.out.items t.0 t.2 t.3 t.4 m.1 m.2
+    global_moved c.args.self.imported c.args.self.added c.args.input.now.end c.args.input.now.rest.now c.copy_global_type.new.input.rest.now
+    c.move_constant.new.input.rest.now m.0 c.args.out.now.items c.copy_global_type.new.out.items c.move_constant.new.out.items t.0 t.1 m.1 m.2

@@ -1,7 +1,0 @@
-use Rattle.std.proofs.Common.{◌≡◌, ◌++◌, drop}
-use Rattle.source_map.specs.Shortest.{short_segments, spelling}
-use Rattle.source_map.proofs.Loops.{after_commas}
-use Rattle.source_map.proofs.writing.encode.Given as goal
-
-abbrev pub invariant-loop-mapping : goal.invariant-loop-mapping
-invariant-loop-mapping l = l.out.items ++ after_commas (short_segments l.fields (drop l.mapping-index l.others)) ≡ spelling l.mappings

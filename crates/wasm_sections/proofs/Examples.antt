@@ -1,0 +1,3 @@
+-- Examples that fix the definitions: their values for modules and parts that are given by hand, computed.
+pub mod PartsRead
+pub mod WholeModules

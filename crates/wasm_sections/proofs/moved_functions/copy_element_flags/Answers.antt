@@ -1,0 +1,10 @@
+use Rattle.wasm_sections.specs.Format.{element_flags_part}
+use Rattle.wasm_sections.proofs.MovedLemmas.{part_copied}
+use Rattle.wasm_sections.proofs.PartLemmas.{element_flags_follow}
+use Rattle.wasm_sections.proofs.moved_functions.copy_element_flags.Goals as goal
+
+pub returns-in-Ok-put_bytes : goal.returns-in-Ok-put_bytes
+returns-in-Ok-put_bytes c =
+    part_copied element_flags_part element_flags_follow c.args.input.now.end c.in-Ok.flags c.args.input.now.rest.now
+    c.element_flags.new.self.rest.now c.args.out.now.items c.put_bytes.new.out.items c.until.result.now c.in-Ok.ensures.is c.until.ensures
+    c.in-Ok-put_bytes.ensures
