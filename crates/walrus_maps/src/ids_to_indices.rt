@@ -4,11 +4,12 @@ ghost use Rattle.std.specs.HashMap.{IsEmpty};
 ghost use Rattle.std.specs.FinMap as map;
 ghost use Rattle.wasm_operators.specs.declared.types.Space.TheVariants.{Tables, Types, Funcs, Globals, Memories, Elements, Data, Tags};
 ghost use Rattle.walrus_maps.specs.Growth.{GrowsFrom};
-ghost use Rattle.walrus_maps.specs.IndexMaps.{numbers_in, with_number, with_next_number, number_of};
+ghost use Rattle.walrus_maps.specs.IndexMaps.{numbers_in, with_numbers, with_number, with_next_number, number_of};
 ghost use Rattle.walrus_maps.specs.Numbering.{PushesNumberInOrder};
 
 use crate::id_numbers::IdNumbers;
 use std::alloc::Global;
+use std::mem;
 use walrus_ir::{
     DataId, ElementId, FunctionId, GlobalId, Id, IdHashMap, LocalId, MemoryId, TableId, TagId,
     TypeId, kind,
@@ -136,6 +137,15 @@ impl IdsToIndices {
         ensures memory { IsOkUnless result IndexError.Memory }
     {
         self.data.set(id, index)
+    }
+
+    /// Exchanges the new indices of functions with those of other maps; all others stay. Allocates
+    /// nothing.
+    pub fn swap_funcs(&mut self, other: &mut IdsToIndices)
+        ensures own { self.new ≡ with_numbers Funcs (numbers_in other.old Funcs) self.old }
+        ensures others { other.new ≡ with_numbers Funcs (numbers_in self.old Funcs) other.old }
+    {
+        mem::swap(&mut self.funcs, &mut other.funcs);
     }
 
     /// The new index of a table, or the error `Unnumbered`. Allocates nothing.
