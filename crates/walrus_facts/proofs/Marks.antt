@@ -1,5 +1,5 @@
 -- Marks of locals that are among the facts.
-use Rattle.std.proofs.Common.{◌≡◌, ℕ, zero, suc, ◌<◌, ◌==◌, List, [], ◌∷◌, ◌++◌, length, Bool, true, false, ◌||◌, Result, Ok, Err, refl, sym, ap, ◌∙◌, arith}
+use Rattle.std.proofs.Common.{◌≡◌, ℕ, zero, suc, ◌<◌, ◌==◌, List, [], ◌∷◌, ◌++◌, length, Bool, true, false, not, ◌&&◌, ◌||◌, Result, Ok, Err, refl, sym, ap, ◌∙◌, arith}
 use Rattle.std.specs.Prelude.{slice_set, replicate}
 use Rattle.std.specs.Bool.{OnTrue, OnFalse}
 use Rattle.std.proofs.lemmas.Bool.{eq-eqb, eqb-true}
@@ -24,24 +24,55 @@ more_unmarked [] n id = unmarked n id
 more_unmarked (m ∷ ms) n zero = refl
 more_unmarked (m ∷ ms) n (suc id) = more_unmarked ms n id
 
--- one more mark
-set_here : (marks : List Bool) (id : ℕ) → id < length marks → is_marked (slice_set marks id true) id ≡ true
-set_here [] id within = absurd (omega (arith, within))
-set_here (m ∷ ms) zero within = refl
-set_here (m ∷ ms) (suc id) within = set_here ms id (omega (arith, within))
+-- a mark that is set, or taken away
+set_here : (marks : List Bool) (id : ℕ) (mark : Bool) → id < length marks → is_marked (slice_set marks id mark) id ≡ mark
+set_here [] id mark within = absurd (omega (arith, within))
+set_here (m ∷ ms) zero mark within = refl
+set_here (m ∷ ms) (suc id) mark within = set_here ms id mark (omega (arith, within))
 
-set_elsewhere : (marks : List Bool) (id other : ℕ) → (other ≡ id → ⊥) → is_marked (slice_set marks id true) other ≡ is_marked marks other
-set_elsewhere [] id other differs = refl
-set_elsewhere (m ∷ ms) zero zero differs = absurd (differs refl)
-set_elsewhere (m ∷ ms) zero (suc other) differs = refl
-set_elsewhere (m ∷ ms) (suc id) zero differs = refl
-set_elsewhere (m ∷ ms) (suc id) (suc other) differs = set_elsewhere ms id other (λ same. differs (ap suc same))
+set_elsewhere : (marks : List Bool) (id other : ℕ) (mark : Bool) → (other ≡ id → ⊥) → is_marked (slice_set marks id mark) other ≡ is_marked marks other
+set_elsewhere [] id other mark differs = refl
+set_elsewhere (m ∷ ms) zero zero mark differs = absurd (differs refl)
+set_elsewhere (m ∷ ms) zero (suc other) mark differs = refl
+set_elsewhere (m ∷ ms) (suc id) zero mark differs = refl
+set_elsewhere (m ∷ ms) (suc id) (suc other) mark differs = set_elsewhere ms id other mark (λ same. differs (ap suc same))
+
+differs_by : (other id : ℕ) → (other == id) ≡ false → other ≡ id → ⊥
+differs_by other id e same = let no : false ≡ true = sym e ∙ eq-eqb other id same in absurd (cc no)
 
 pub one_marked : (marks : List Bool) (id other : ℕ) → id < length marks → is_marked (slice_set marks id true) other ≡ ((other == id) || is_marked marks other)
 one_marked marks id other within =
     elim (other == id) as (λ b. (other == id) ≡ b → is_marked (slice_set marks id true) other ≡ (b || is_marked marks other)) [
-      | true ↦ λ e. let same = eqb-true other id e in ap (is_marked (slice_set marks id true)) same ∙ set_here marks id within
-      | false ↦ λ e. set_elsewhere marks id other (λ same. let no : false ≡ true = sym e ∙ eq-eqb other id same in absurd (cc no))
+      | true ↦ λ e. let same = eqb-true other id e in ap (is_marked (slice_set marks id true)) same ∙ set_here marks id true within
+      | false ↦ λ e. set_elsewhere marks id other true (differs_by other id e)
+    ] refl
+
+none_here : (a : Bool) → false ≡ (a && false)
+none_here true = refl
+none_here false = refl
+
+same_elsewhere : (a : Bool) → a ≡ (a && true)
+same_elsewhere true = refl
+same_elsewhere false = refl
+
+pub one_unmarked : (marks : List Bool) (id other : ℕ) → id < length marks → is_marked (slice_set marks id false) other ≡ (is_marked marks other && not (other == id))
+one_unmarked marks id other within =
+    elim (other == id) as (λ b. (other == id) ≡ b → is_marked (slice_set marks id false) other ≡ (is_marked marks other && not b)) [
+      | true ↦ λ e. let same = eqb-true other id e in ap (is_marked (slice_set marks id false)) same ∙ set_here marks id false within ∙ none_here (is_marked marks other)
+      | false ↦ λ e. set_elsewhere marks id other false (differs_by other id e) ∙ same_elsewhere (is_marked marks other)
+    ] refl
+
+-- beyond the marks there is none
+none_beyond : (marks : List Bool) (id : ℕ) → (id < length marks → ⊥) → is_marked marks id ≡ false
+none_beyond [] id beyond = refl
+none_beyond (m ∷ ms) zero beyond = absurd (beyond (omega arith))
+none_beyond (m ∷ ms) (suc id) beyond = none_beyond ms id (λ within. beyond (omega (arith, within)))
+
+pub already_unmarked : (marks : List Bool) (id other : ℕ) → (id < length marks → ⊥) → is_marked marks other ≡ (is_marked marks other && not (other == id))
+already_unmarked marks id other beyond =
+    elim (other == id) as (λ b. (other == id) ≡ b → is_marked marks other ≡ (is_marked marks other && not b)) [
+      | true ↦ λ e. let none = ap (is_marked marks) (eqb-true other id e) ∙ none_beyond marks id beyond in none ∙ none_here (is_marked marks other)
+      | false ↦ λ e. same_elsewhere (is_marked marks other)
     ] refl
 
 -- ---- what is used

@@ -16,6 +16,6 @@ pub use each::{VisitInstr, for_each_instr};
 pub use facts::{EmitFacts, FactsVisitor, law_facts};
 pub use listener::{Listener, Listening};
 pub use mapping::map_instrs;
-pub use marking::{emit_facts, is_marked, mark};
+pub use marking::{emit_facts, is_marked, mark, mark_below, unmark};
 pub use segments::{DataSegmentsVisitor, used_data_segments};
 pub use sizes::{SizeVisitor, size};

@@ -1,5 +1,5 @@
 //! Gathering the facts of a function's body, with marks in front of the set of its locals.
-ghost use Rattle.std.specs.Prelude.{◌≡◌, ◌⊎◌, ◌||◌, ◌==◌, ◌<◌, ℕ, vec_len, IfOk, IfErr};
+ghost use Rattle.std.specs.Prelude.{◌≡◌, ◌⊎◌, ◌&&◌, ◌||◌, ◌==◌, ◌<◌, ◌-◌, ◌^◌, ℕ, not, vec_len, IfOk, IfErr};
 ghost use Rattle.std.specs.Bool.{OnTrue, OnFalse};
 ghost use Rattle.walrus_ir.specs.Walk.{HasNoWalk};
 ghost use Rattle.walrus_facts.specs.Facts.{AreFacts, TreeHas};
@@ -25,8 +25,9 @@ pub fn is_marked(marks: &[bool], id: usize) -> bool
 }
 
 /// Makes a mark for each id up to this one, not set, where there is none. Returns whether there is
-/// one for this id: not if the id is too great, or memory ran out.
+/// one for this id: not if memory ran out.
 fn reach(marks: &mut Vec<bool>, id: usize) -> bool
+    requires { id < 2 ^ 64 - 1 }
     ensures has { OnTrue result (id < vec_len marks.new) }
     ensures unchanged { (other : ℕ)
         → is_marked marks.new.items other ≡ is_marked marks.old.items other }
@@ -34,13 +35,26 @@ fn reach(marks: &mut Vec<bool>, id: usize) -> bool
     if id < marks.len() {
         return true;
     }
-    if id >= MARKS {
-        return false;
-    }
     match marks.resize(id + 1, false) {
         Ok(()) => true,
         Err(_) => false,
     }
+}
+
+/// Marks an id below `most`, and returns whether it did: not if the id isn't below it, or memory ran
+/// out. No other id is marked by it.
+pub fn mark_below(marks: &mut Vec<bool>, id: usize, most: usize) -> bool
+    ensures below { OnTrue result (id < most) }
+    ensures marked { OnTrue result ((other : ℕ) → is_marked marks.new.items other
+        ≡ ((other == id) || is_marked marks.old.items other)) }
+    ensures unchanged { OnFalse result ((other : ℕ)
+        → is_marked marks.new.items other ≡ is_marked marks.old.items other) }
+{
+    if id >= most || !reach(marks, id) {
+        return false;
+    }
+    marks[id] = true;
+    true
 }
 
 /// Marks an id, and returns whether it did: not if the id is too great, or memory ran out. No other
@@ -51,11 +65,17 @@ pub fn mark(marks: &mut Vec<bool>, id: usize) -> bool
     ensures unchanged { OnFalse result ((other : ℕ)
         → is_marked marks.new.items other ≡ is_marked marks.old.items other) }
 {
-    if !reach(marks, id) {
-        return false;
+    mark_below(marks, id, MARKS)
+}
+
+/// Takes away the mark of an id, if it has one.
+pub fn unmark(marks: &mut Vec<bool>, id: usize)
+    ensures { (other : ℕ) → is_marked marks.new.items other
+        ≡ (is_marked marks.old.items other && not (other == id)) }
+{
+    if id < marks.len() {
+        marks[id] = false;
     }
-    marks[id] = true;
-    true
 }
 
 /// Gathers facts as `FactsVisitor`, and marks the locals with small ids that it has, so that each

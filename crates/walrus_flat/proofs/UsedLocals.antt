@@ -1,5 +1,5 @@
 -- Locals that are listed with marks, and others.
-use Rattle.std.proofs.Common.{◌≡◌, ℕ, zero, suc, ◌==◌, ◌<◌, ◌≤◌, List, [], ◌∷◌, ◌++◌, Bool, true, false, not, ◌&&◌, ◌||◌, nat_lt, ◌-◌, take, length, length-append, refl, sym, ap, subst, ◌∙◌, arith, append-nil}
+use Rattle.std.proofs.Common.{◌≡◌, ℕ, ◌==◌, ◌<◌, ◌≤◌, List, [], ◌∷◌, ◌++◌, Bool, true, false, not, ◌&&◌, ◌||◌, nat_lt, ◌-◌, take, length, length-append, refl, sym, ap, subst, ◌∙◌, arith, append-nil}
 use Rattle.std.specs.HashSet.{HashSet}
 use Rattle.std.specs.List.{All, AllByRecursion, list_all}
 use Rattle.std.proofs.lemmas.Bool.{eq-eqb, eqb-true}
@@ -15,7 +15,7 @@ use Rattle.wasm_body.specs.Bytes.{Numbers}
 use Rattle.walrus_facts.specs.Marking.{is_marked}
 use Rattle.walrus_numbering.specs.EmittedLocals.{Declares, IsNotDeclared}
 use Rattle.walrus_numbering.specs.NumberTables.{entries_in}
-use Rattle.walrus_flat.specs.UsedMarks.{is_apart}
+use Rattle.walrus_flat.specs.UsedMarks.{is_apart, AreIdsBelow}
 use Rattle.walrus_flat.specs.UsedLocals.{has_local}
 
 -- ---- one more in a list
@@ -95,19 +95,46 @@ marked_more id ids old new are puts x = puts x ∙ (ap (λ b. (x == id) || b) (a
 
 -- ---- ids of a table
 
-marked_within : (marks : List Bool) (id : ℕ) → is_marked marks id ≡ true → id < length marks
-marked_within [] id is = absurd cc
-marked_within (m ∷ ms) zero is = omega arith
-marked_within (m ∷ ms) (suc id) is = omega (arith, marked_within ms id is)
-
 small_each : (len : ℕ) (xs : List ℕ) → ((x : ℕ) → among x xs ≡ true → x < len) → AllByRecursion (λ id. id < len) xs
 small_each len [] h = tt
 small_each len (y ∷ ys) h =
     (h y (ap (λ b. b || among y ys) (eq-eqb y y refl)), small_each len ys (λ x is. h x (ap (λ b. (x == y) || b) is ∙ or-true (x == y))))
 
-pub small_listed : (marks : List Bool) (ids : List ℕ) (len : ℕ) → ((x : ℕ) → is_marked marks x ≡ among x ids) → length marks ≤ len → All (λ id. id < len) ids
-small_listed marks ids len are room =
-    All-from_recursion (λ id. id < len) ids (small_each len ids (λ x is. let within = marked_within marks x (are x ∙ is) in omega (arith, within, room)))
+pub small_listed : (reach : ℕ) (ids : List ℕ) (len : ℕ) → AreIdsBelow reach ids → reach ≤ len → All (λ id. id < len) ids
+small_listed reach ids len are room = All-from_recursion (λ id. id < len) ids (small_each len ids (λ x is. omega (arith, are x is, room)))
+
+-- one more, and none
+pub below_more : (id reach more : ℕ) (ids : List ℕ) → AreIdsBelow reach ids → reach ≤ more → id < more → AreIdsBelow more (ids ++ id ∷ [])
+below_more id reach more ids are room within x is = first_or (x == id) (among x ids) refl (sym (among_last x id ids) ∙ is)
+  where
+    first_or : (b c : Bool) → (x == id) ≡ b → (b || among x ids) ≡ true → x < more
+    first_or true c e h = let same = eqb-true x id e in omega (arith, same, within)
+    first_or false c e h = omega (arith, are x h, room)
+
+-- no marks are left where each marked id is listed
+pub none_marked : (a b : Bool) → a ≡ b → (a && not b) ≡ false
+none_marked true true e = refl
+none_marked true false e = absurd cc
+none_marked false b e = refl
+
+-- one mark is taken away, and those of the ids that follow are left to take
+pub one_cleared : (x id : ℕ) (following left : List ℕ) (old new : List Bool) → left ≡ id ∷ following → is_marked new x ≡ (is_marked old x && not (x == id))
+    → (is_marked new x && not (among x following)) ≡ (is_marked old x && not (among x left))
+one_cleared x id following left old new e h =
+    ap (λ b. b && not (among x following)) h ∙ both_taken (is_marked old x) (x == id) (among x following) ∙ ap (λ l. is_marked old x && not (among x l)) (sym e)
+  where
+    both_taken : (a b c : Bool) → ((a && not b) && not c) ≡ (a && not (b || c))
+    both_taken true true c = refl
+    both_taken true false c = refl
+    both_taken false b c = refl
+
+pub all_cleared : (x : ℕ) (left : List ℕ) (marks : List Bool) → length left ≡ 0 → is_marked marks x ≡ (is_marked marks x && not (among x left))
+all_cleared x [] marks none = kept (is_marked marks x)
+  where
+    kept : (a : Bool) → a ≡ (a && true)
+    kept true = refl
+    kept false = refl
+all_cleared x (id ∷ ids) marks none = absurd (omega (arith, none))
 
 -- ---- what is declared
 

@@ -1,5 +1,5 @@
 //! The numbers of a function's locals.
-ghost use Rattle.std.specs.Prelude.{◌≡◌, ◌≤◌, [], true, nat_lt, length, IfSome, Some, IfOk, IfErr};
+ghost use Rattle.std.specs.Prelude.{◌≡◌, ◌≤◌, [], true, nat_lt, IfSome, Some, IfOk, IfErr};
 ghost use Rattle.std.specs.List.{list_all};
 ghost use Rattle.walrus_numbering.specs.EmittedLocals.{number_in, Declares, IsNotDeclared};
 ghost use Rattle.walrus_numbering.specs.NumberMaps.{numbers_by};
@@ -72,17 +72,12 @@ fn is_dense(len: usize, locals: usize) -> bool {
 fn table_len(args: &[LocalId], used: &UsedLocals) -> Option<usize>
     ensures listed { IfSome result (λ _. used.now.others.keys ≡ []) }
     ensures args { IfSome result (λ len. list_all (λ id. nat_lt id len) args.now ≡ true) }
-    ensures marks { IfSome result (λ len. length used.now.marks.items ≤ len) }
+    ensures reach { IfSome result (λ len. used.now.reach ≤ len) }
 {
     if used.others.len() != 0 {
         return None;
     }
-    let marks = used.marks.len();
-    let len = if marks < args.len() {
-        args.len()
-    } else {
-        marks
-    };
+    let len = used.reach.max(args.len());
     if !are_less(args, len) {
         return None;
     }
@@ -104,7 +99,7 @@ fn declare_in_table(
 ) -> Result<(Vec<(u32, RawValType)>, NumberedLocals), EmitError>
     requires listed { used.now.others.keys ≡ [] }
     requires args { list_all (λ id. nat_lt id len) args.now ≡ true }
-    requires marks { length used.now.marks.items ≤ len }
+    requires reach { used.now.reach ≤ len }
     ensures ok { IfOk result (λ made. Declares (numbers_by «module».now.types indices.now [])
         «module».now.locals args.now (is_used used.now) made.0.items (entries_of made.1)) }
     ensures err { IfErr result (IsNotDeclared (numbers_by «module».now.types indices.now [])

@@ -1,13 +1,16 @@
 //! The locals that live operators name.
-ghost use Rattle.std.specs.Prelude.{◌≡◌, ◌==◌, ℕ, true, IfOk};
+ghost use Rattle.std.specs.Prelude.{◌≡◌, ◌==◌, ◌&&◌, ℕ, true, not, IfOk};
 ghost use Rattle.std.specs.HashSet.{contains};
 ghost use Rattle.walrus_ir.specs.Unfolding.{among};
 ghost use Rattle.walrus_facts.specs.Marking.{is_marked};
-ghost use Rattle.walrus_flat.specs.UsedMarks.{is_apart};
+ghost use Rattle.walrus_flat.specs.UsedMarks.{is_apart, AreIdsBelow};
 
 use std::alloc::{AllocError, Global};
-use walrus_facts::{is_marked, mark};
+use walrus_facts::{is_marked, mark_below, unmark};
 use walrus_ir::{IdHashSet, LocalId};
+
+/// How many ids can be marked: as many as a function of a module has locals.
+const MARKS: usize = 50_000;
 
 /// How many locals a set may have to be lent to the next body.
 const MOST_LENT: usize = 64;
@@ -34,6 +37,18 @@ fn set_of(alloc: Global, locals: &IdHashSet<LocalId>) -> Result<IdHashSet<LocalI
     Ok(all)
 }
 
+/// Takes away the marks of these ids.
+fn clear_marks(marks: &mut Vec<bool>, ids: &[LocalId])
+    ensures { (x : ℕ) → is_marked marks.new.items x
+        ≡ (is_marked marks.old.items x && not (among x ids.now)) }
+{
+    let mut left = ids;
+    'left: while let Some((id, following)) = left.split_first() {
+        unmark(marks, id.index());
+        left = following;
+    }
+}
+
 /// Locals. Those with small ids have marks and are listed, so that they are found without hashing.
 #[derive(Drop)]
 pub(crate) struct UsedLocals {
@@ -41,10 +56,13 @@ pub(crate) struct UsedLocals {
     pub listed: Vec<LocalId>,
     /// Whether a local is listed, by id.
     pub marks: Vec<bool>,
+    /// The ids that are listed are below it.
+    pub reach: usize,
     /// All others.
     pub others: IdHashSet<LocalId>,
     ghost are_listed: { (id : ℕ) → is_marked marks.items id ≡ among id listed.items },
     ghost apart: { is_apart listed.items ≡ true },
+    ghost below: { AreIdsBelow reach listed.items },
 }
 
 impl UsedLocals {
@@ -58,6 +76,7 @@ impl UsedLocals {
         UsedLocals {
             listed: Vec::new(alloc),
             marks: Vec::new(alloc),
+            reach: 0,
             others: IdHashSet::new(alloc),
         }
     }
@@ -70,14 +89,16 @@ impl UsedLocals {
             mut listed,
             mut marks,
             others,
+            ..
         } = self;
+        clear_marks(&mut marks, &listed);
         listed.clear();
-        marks.clear();
         let mut others = lent_on(alloc, others);
         others.clear();
         UsedLocals {
             listed,
             marks,
+            reach: 0,
             others,
         }
     }
@@ -106,7 +127,8 @@ impl UsedLocals {
         if self.listed.push(local).is_err() {
             return false;
         }
-        if mark(&mut self.marks, local.index()) {
+        if mark_below(&mut self.marks, local.index(), MARKS) {
+            self.reach = self.reach.max(local.index() + 1);
             return true;
         }
         self.listed.pop();

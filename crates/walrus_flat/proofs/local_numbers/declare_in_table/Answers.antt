@@ -18,7 +18,7 @@ emit_listed_locals-requires-clause-small_args c = small_args c.args.len c.args.a
 pub emit_listed_locals-requires-clause-small_used : goal.emit_listed_locals-requires-clause-small_used
 emit_listed_locals-requires-clause-small_used c =
     let used = c.args.used.now in
-    subst (All (λ id. id < c.args.len)) (sym c.deref.ensures.value) (small_listed used.marks.items used.listed.items c.args.len used.are_listed c.requires.marks)
+    subst (All (λ id. id < c.args.len)) (sym c.deref.ensures.value) (small_listed used.reach used.listed.items c.args.len used.below c.requires.reach)
 
 pub returns-in-Ok-clause-ok : goal.returns-in-Ok-clause-ok
 returns-in-Ok-clause-ok c =
