@@ -15,11 +15,13 @@ use Rattle.wasm_body.specs.declared.error.ParseFailure.{ParseFailure}
 use Rattle.wasm_body.specs.SourceTree.{Body}
 use Rattle.wasm_numbers.specs.Results.{◌>>=◌, some_or, with_fault}
 use Rattle.std.specs.Ordering.{nat_cmp}
-use Rattle.std.specs.FinMap.{empty, get, from_entries, get-empty}
+use Rattle.std.specs.FinMap.{empty, get, get-empty}
 use Rattle.wasm_operators.specs.declared.types.Space.{Space}
 use Rattle.walrus_maps.specs.declared.ids_to_indices.IdsToIndices.{IdsToIndices}
 use Rattle.walrus_maps.specs.IndexMaps.{numbers_in}
+use Rattle.walrus_numbering.specs.EmittedLocals.{number_in}
 use Rattle.walrus_numbering.specs.NumberMaps.{fitting_number, numbers_by}
+use Rattle.walrus_numbering.proofs.FittingNumbers.{unnumbered_local}
 use Rattle.wasm_body.specs.Naming.{Environment, Occurrence}
 use Rattle.wasm_body.specs.FunctionTree.{FunctionTree}
 use Rattle.wasm_body.specs.TreeOfFunction.{HasTree}
@@ -35,7 +37,7 @@ use Rattle.walrus_body.specs.EmittedInstructions.{IsNotEmitted}
 use Rattle.walrus_rewrite.specs.declared.error.RewriteError.{RewriteError}
 use Rattle.walrus_rewrite.specs.declared.error.RewriteError.TheVariants.{Parse, Walk, Emit}
 use Rattle.walrus_rewrite.specs.Errors.{IsOutOfMemory}
-use Rattle.walrus_rewrite.proofs.OneTree.{from_slot, only_tree, begins}
+use Rattle.walrus_body.proofs.OneTree.{from_slot, only_tree, begins}
 use Rattle.walrus_rewrite.proofs.SameResults.{same_result, same_refusal, not_both}
 use Rattle.tests_body.specs.ReadBack.{reading_by, IsReadAs, IsWrittenAs, HasBytes, IsFirstFault, IsRefusedAs, HasFault}
 
@@ -171,5 +173,5 @@ none_undone types out locals again none no_locals = record {
       (ap (λ m. with_fault Index (some_or (get m id) (Unnumbered space) >>= fitting_number (Unnumbered space))) (none space)
       ∙ ap (λ o. with_fault Index (some_or o (Unnumbered space) >>= fitting_number (Unnumbered space))) (get-empty nat_cmp id)));
   locals = λ id n h. absurd (not_both ((numbers_by types out locals).local_number id) n UnnumberedLocal h
-      (ap (λ l. some_or (get (from_entries {R = nat_cmp} l) id) UnnumberedLocal) no_locals ∙ ap (λ o. some_or o UnnumberedLocal) (get-empty nat_cmp id)));
+      (unnumbered_local types out locals id (ap (λ l. number_in l id) no_locals ∙ get-empty nat_cmp id)));
 }

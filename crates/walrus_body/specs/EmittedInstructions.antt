@@ -1,13 +1,20 @@
 -- The contract of a call that writes a function's tree, and its location pairs if a list is lent for
 -- them.
 use Rattle.std.specs.Prelude.{◌≡◌, ◌⊎◌, ℕ, List, Option, Some, None}
-use Rattle.std.specs.Borrow.{MutBor}
+use Rattle.std.specs.Borrow.{Bor, MutBor}
+use Rattle.std.specs.Fn.{Shared}
 use Rattle.std.specs.declared.vec.Vec.{Vec}
 use Rattle.std.proofs.Common.{inl, inr}
 use Rattle.walrus_ir.specs.Function.{Function}
+use Rattle.walrus_ir.specs.Types.{ModuleType}
 use Rattle.wasm_body.specs.declared.error.EmitError.{EmitError}
+use Rattle.wasm_body.specs.declared.error.EmitError.TheVariants.{Memory}
 use Rattle.wasm_body.specs.Bytes.{Numbers}
+use Rattle.wasm_body.specs.EmissionFaults.{HasNoNumber}
 use Rattle.wasm_body.specs.Pairs.{Pair}
+use Rattle.walrus_maps.specs.declared.ids_to_indices.IdsToIndices.{IdsToIndices}
+use Rattle.walrus_numbering.specs.NumberMaps.{numbers_by}
+use Rattle.walrus_parser.specs.Bodies.{ParseInput, AcceptsBody}
 use Rattle.walrus_body.specs.LocalFunctions.{first_slot}
 use Rattle.walrus_emitter.specs.TreeWriting.Trees.{Appends, IsNotWritten}
 
@@ -43,3 +50,12 @@ KeepsPairs _ _ = ⊥
 -- writing.
 abbrev pub IsNotEmitted : Function → Numbers → EmitError → Type 0
 IsNotEmitted f to e = IsNotWritten f.sequences (first_slot f) to e
+
+-- ---- laws
+
+-- The function that a parse made is emitted, unless memory runs out, or an id or a local has no number.
+abbrev pub EmittedFaults : (S F : Type 0) → Shared F (Bor ℕ × Unit {0}) ℕ → Type 0
+EmittedFaults S F calls =
+    (i : ParseInput S F) (f : Function) (mapping : List (ℕ × ℕ)) → AcceptsBody calls i f mapping →
+    (types : List ModuleType) (ids : IdsToIndices) (locals : List (ℕ × ℕ)) (e : EmitError) →
+    IsNotEmitted f (numbers_by types ids locals) e → (e ≡ Memory) ⊎ HasNoNumber e

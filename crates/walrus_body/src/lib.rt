@@ -3,15 +3,18 @@
 #![tactic(auto)]
 
 mod emit;
+mod laws;
 mod local_function;
 
 pub use emit::{Emit, EmitContext};
+pub use laws::law_emitted_faults;
 pub use local_function::LocalFunction;
 pub use walrus_context::{
     ControlFrame, ControlStack, IfElseState, ValidationContext, heap_type_of, value_type,
 };
 pub use walrus_facts::{DataSegmentsVisitor, EmitFacts, FactsVisitor, SizeVisitor, law_facts};
 pub use walrus_maps::{IdsToIndices, IndicesToIds, law_numbers_of_pushes};
+pub use walrus_numbering::law_numbers_fit;
 pub use walrus_parser::{AcceptAll, CheckError, FunctionBody, OpCheck};
 pub use wasm_body::{
     EmitError, IndexError, ParseError, ParseFailure, Space, law_accepted_again, law_any_locations,

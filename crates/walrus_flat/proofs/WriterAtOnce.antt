@@ -24,6 +24,7 @@ use Rattle.wasm_body.specs.Translation.{at_location}
 use Rattle.wasm_body.specs.Flat.{flat_state, FlatState}
 use Rattle.walrus_maps.specs.IndexMaps.{id_of, local_of, number_of}
 use Rattle.walrus_numbering.specs.EmittedLocals.{number_in}
+use Rattle.walrus_numbering.proofs.FittingNumbers.{numbered_local}
 use Rattle.walrus_parser.specs.OperatorKinds.{makes_unreachable}
 use Rattle.walrus_emit_state.specs.TreeWriting.Drafts.{Drafted, with_bytes}
 use Rattle.walrus_emitter.proofs.TreeWriting.Spelled.{numbered}
@@ -78,7 +79,9 @@ module _ (old : Writer) (location : ℕ) where
 
     pub local_written : (n id number : ℕ) → local_of old.indices.ids.now old.indices.function n ≡ Ok id → number_in (entries_of old.locals.numbered.now) id ≡ Some number → number < 2 ^ 32 →
         (b : Bool) (d : Drafted) → Puts b d (local number) (operation (Byte byte) (local n ∷ []))
-    local_written n id number found has fits = with_immediate (operation (Byte byte) (local n ∷ [])) (local number) (rw (found, has, in_range number fits) refl)
+    local_written n id number found has fits =
+        with_immediate (operation (Byte byte) (local n ∷ [])) (local number)
+        (rw (found, numbered_local old.«module».now.types old.out.now (entries_of old.locals.numbered.now) id number has fits, in_range number fits) refl)
 
     pub index_written : (space : Space) (n id number : ℕ) → id_of old.indices.ids.now space n ≡ Ok id → number_of old.out.now space id ≡ Ok number → number < 2 ^ 32 →
         (b : Bool) (d : Drafted) → Puts b d (index space number) (operation (Byte byte) (index space n ∷ []))

@@ -3,6 +3,7 @@
 #![tactic(auto)]
 
 mod balance;
+mod laws;
 mod listed_locals;
 mod local_numbers;
 mod local_table;
@@ -11,6 +12,7 @@ mod number_maps;
 mod written_types;
 
 pub use balance::is_balanced;
+pub use laws::law_numbers_fit;
 pub use listed_locals::emit_listed_locals;
 pub use local_numbers::emit_locals;
 pub use local_table::{number_at, number_table};

@@ -1,5 +1,4 @@
--- a function has one tree, and begins with a sequence of its builder; a result is one value. The tests use both
-pub mod OneTree
+-- a result is one value, which the tests use
 pub mod SameResults
 -- the raw body of a function: a normal form has no more instructions than bytes; the bytes of the parts, and the end of the
 -- pairs; why the tree of a parsed body has no raw body; the appended bytes are those of the accepted body, and execute as its

@@ -1,8 +1,9 @@
 -- The raw body of a function: the bytes that its parts write, and why they don't write any.
 use Rattle.std.proofs.Common.{◌≡◌, ◌⊎◌, ◌++◌, ◌+◌, ◌<◌, ◌≤◌, ◌^◌, ℕ, List, [], ◌∷◌, Bool, Option, Some, Result, Ok, Err, length, refl, sym, ap, subst, ◌∙◌, inl, inr, arith}
-use Rattle.std.specs.Prelude.{nat_lt, ◌&&◌, true, false}
+use Rattle.std.specs.Prelude.{nat_lt, nat_le, ◌&&◌, true, false}
 use Rattle.std.specs.List.{list_all, AllByRecursion}
-use Rattle.std.proofs.lemmas.List.{length-append}
+use Rattle.std.proofs.lemmas.List.{length-append, length-map}
+use Rattle.std.proofs.lemmas.Option.{slice_get_within}
 use Rattle.wasm_types.specs.declared.val_type.ValType.{ValType}
 use Rattle.walrus_ir.specs.Types.{ModuleType}
 use Rattle.walrus_ir.specs.Function.{Function}
@@ -21,16 +22,18 @@ use Rattle.wasm_body.specs.FunctionTree.{FunctionTree}
 use Rattle.wasm_body.specs.LocalNumbers.{Local, ids_of, AreDeclared, number_of_local, declaration, declarations, declared, runs, types_of, uses_local, numbering_locals}
 use Rattle.wasm_body.specs.Pairs.{Pair, pairs_from, tree_pairs, AddsPairs}
 use Rattle.wasm_body.specs.TreeOfFunction.{tree_of, HasTree}
+use Rattle.wasm_body.proofs.LocalNumbers.{last_place_get}
 use Rattle.wasm_body.proofs.Translation.Steps.{bound, length-each}
 use Rattle.walrus_maps.specs.declared.ids_to_indices.IdsToIndices.{IdsToIndices}
-use Rattle.walrus_numbering.specs.EmittedLocals.{number_in, HasNoDeclarations}
+use Rattle.walrus_numbering.specs.EmittedLocals.{Declares, HasNoDeclarations}
+use Rattle.walrus_numbering.proofs.FittingNumbers.{local_number_is}
 use Rattle.walrus_facts.specs.Facts.{locals_used}
 use Rattle.walrus_body.specs.LocalFunctions.{first_slot}
 use Rattle.walrus_body.specs.EmittedInstructions.{IsNotEmitted}
 use Rattle.walrus_numbering.specs.NumberMaps.{numbers_by}
 use Rattle.walrus_emitter.specs.TreeWriting.Trees.{Appends}
 use Rattle.walrus_facts.proofs.LocalsOfTrees.{locals_of_tree}
-use Rattle.walrus_rewrite.proofs.OneTree.{one_function}
+use Rattle.walrus_body.proofs.OneTree.{one_function}
 use Rattle.walrus_rewrite.specs.RawBodies.{EmitInput, HasNoRawBody, undeclared, unwritten, IsRawBodyOf, BeginsRawBody, IsNotBegun, WritesRawBody, DeclinesRawBody, not_begun, not_written}
 
 -- ---- declarations
@@ -54,15 +57,29 @@ few_declarations to arguments others ds h =
     let fit = passed (nat_lt (length rs) (2 ^ 32) && list_all (λ run. nat_lt run.0 (2 ^ 32)) rs) TooLarge (each (declaration to) rs) ds numbered.1 in
     subst (λ n. n < 2 ^ 32) (sym (length-each (declaration to) rs ds fit.1)) (below (length rs) (2 ^ 32) (first_true (nat_lt (length rs) (2 ^ 32)) _ fit.0))
 
+-- the number of an argument or a declared local fits 32 bits
+at_most : (m n : ℕ) → nat_le m n ≡ true → m ≤ n
+at_most m n h = grind arith
+
+pub few_locals : (to : Numbers) (arguments : ℕ) (others : List Local) (ds : List (ℕ × ValType ℕ)) → declared to arguments others ≡ Ok ds → arguments + length others ≤ 2 ^ 32
+few_locals to arguments others ds h =
+    at_most (arguments + length others) (2 ^ 32) (passed (nat_le (arguments + length others) (2 ^ 32)) TooLarge (declarations to (runs (types_of others))) ds h).0
+
+pub number_fits : (args : List ℕ) (others : List Local) → length args + length others ≤ 2 ^ 32 → (id n : ℕ) → number_of_local args (ids_of others) id ≡ Some n → n < 2 ^ 32
+number_fits args others few id n e =
+    let all = args ++ ids_of others in
+    let at = slice_get_within all n id (last_place_get all id n e) in
+    omega (arith, at, few, length-append args (ids_of others), length-map others (λ (l : Local). l.1))
+
 -- a map that has the numbers of locals
-pub same_numbers : (ms : List ModuleType) (out : IdsToIndices) (entries : List (ℕ × ℕ)) (args others : List ℕ) → ((id : ℕ) → number_in entries id ≡ number_of_local args others id)
-    → numbers_by ms out entries ≡ numbering_locals (numbers_by ms out []) args others
-same_numbers ms out entries args others h =
-    λ k. record {
-      number_of = (numbers_by ms out []).number_of;
-      local_number = λ id. some_or (h id k) UnnumberedLocal;
-      balanced = (numbers_by ms out []).balanced;
-    }
+pub same_numbers : (ms : List ModuleType) (out : IdsToIndices) (types : List (ValType ℕ)) (args : List ℕ) (used : ℕ → Bool) (ds : List (ℕ × ValType ℕ)) (entries : List (ℕ × ℕ)) →
+    (d : Declares (numbers_by ms out []) types args used ds entries) → numbers_by ms out entries ≡ numbering_locals (numbers_by ms out []) args (ids_of d.others)
+same_numbers ms out types args used ds entries d =
+    let to = numbers_by ms out [] in
+    let few = few_locals to (length args) d.others ds d.declarations_are in
+    let same : (id : ℕ) → (numbers_by ms out entries).local_number id ≡ some_or (number_of_local args (ids_of d.others) id) UnnumberedLocal =
+    λ id. local_number_is ms out entries id (λ n is. number_fits args d.others few id n (sym (d.numbers_are id) ∙ is)) ∙ ap (λ o. some_or o UnnumberedLocal) (d.numbers_are id) in
+    λ k. record { number_of = to.number_of; local_number = λ id. same id k; balanced = to.balanced }
 
 -- ---- the results of the calls
 
@@ -72,7 +89,7 @@ module _ (ms : List ModuleType) (out : IdsToIndices) (types : List (ValType ℕ)
 
   module _ (encoder : List ℕ) (entries : List (ℕ × ℕ)) (b : BeginsRawBody by used encoder entries) where
     abbrev numbered : numbers_by ms out entries ≡ numbering_locals (numbers_by ms out []) args (ids_of b.declares.others)
-    numbered = same_numbers ms out entries args (ids_of b.declares.others) b.declares.numbers_are
+    numbered = same_numbers ms out types args used b.declarations entries b.declares
 
     abbrev pub writes : (bytes : List ℕ) (lists : Option (List Pair × List Pair)) → Appends f.sequences (first_slot f) (numbers_by ms out entries) encoder bytes lists → WritesRawBody by used f bytes lists
     writes bytes lists h = record {

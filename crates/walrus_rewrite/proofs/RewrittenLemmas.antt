@@ -46,12 +46,8 @@ use Rattle.walrus_rewrite.proofs.Counts.{few_instructions}
 use Rattle.walrus_rewrite.proofs.ParsedBodies.{are_id_numbers, no_parsed_body}
 use Rattle.walrus_rewrite.specs.RewrittenBodies.{KeepsSource, Rewrites, IsAcceptedAs, RefusesRewriting, IsOfWriting}
 use Rattle.walrus_rewrite.specs.Errors.{IsOutOfMemory}
-use Rattle.walrus_rewrite.proofs.OneTree.{from_slot, only_tree, begins}
-
--- operators that bytes list have encodings
-listed_spelt : (xs : List Occurrence) (place : ℕ) (bytes rest : List ℕ) → Lists (map placed xs) place bytes rest → AllByRecursion HasSpelling xs
-listed_spelt [] place bytes rest l = tt
-listed_spelt (x ∷ xs) place bytes rest l = ((l.1, l.4), listed_spelt xs _ l.2 rest l.5)
+use Rattle.walrus_body.proofs.OneTree.{from_slot, only_tree, begins}
+use Rattle.walrus_body.proofs.EmittedFaults.{listed_spelt}
 
 -- ---- relation to the source
 

@@ -117,7 +117,7 @@ same_numbers : (f g : Space → ℕ → Result ℕ EmitError) → ((space : Spac
 same_numbers f g h = fun_ext (λ space. fun_ext (λ id. h space id))
 
 abbrev no_local : Option ℕ → Result ℕ EmitError
-no_local o = some_or o UnnumberedLocal
+no_local o = some_or o UnnumberedLocal >>= fitting_number UnnumberedLocal
 
 none_numbered : (id : ℕ) → no_local (get (from_entries {R = nat_cmp} []) id) ≡ Err UnnumberedLocal
 none_numbered id = let none : get (from_entries {R = nat_cmp} []) id ≡ None = grind (gets, rules) in ap no_local none

@@ -48,7 +48,7 @@ use Rattle.walrus_run.specs.Rewriting.{IsNormalBytes, IsRewrittenDemo, IsParsedD
 use Rattle.walrus_rewrite.specs.Errors.{IsOutOfMemory}
 use Rattle.walrus_rewrite.proofs.Counts.{few_instructions}
 use Rattle.walrus_run.proofs.DemoLocals.{has_raw_body}
-use Rattle.walrus_rewrite.proofs.OneTree.{from_slot, only_tree, begins}
+use Rattle.walrus_body.proofs.OneTree.{from_slot, only_tree, begins}
 use Rattle.walrus_rewrite.proofs.SameResults.{same_result, same_refusal, not_both}
 
 abbrev pub demo_tree : Body Occurrence → FunctionTree

@@ -1,13 +1,16 @@
-use Rattle.std.proofs.Common.{◌≡◌, ℕ, ◌<◌, true, Result, Ok, Err, refl, sym, ap, ◌∙◌, arith}
+use Rattle.std.proofs.Common.{◌≡◌, ℕ, ◌<◌, true, Some, Result, Ok, Err, refl, sym, ap, ◌∙◌, arith}
 use Rattle.std.specs.Prelude.{◌^◌, nat_lt, IfOk}
 use Rattle.std.proofs.lemmas.Bool.Decides.{nat_tests}
-use Rattle.wasm_numbers.specs.Results.{◌>>=◌, unless, with_fault}
+use Rattle.std.proofs.lemmas.Result.{IfOk-at_ok}
+use Rattle.wasm_numbers.specs.Results.{◌>>=◌, unless, with_fault, some_or}
 use Rattle.wasm_body.specs.declared.error.EmitError.{EmitError}
-use Rattle.wasm_body.specs.declared.error.EmitError.TheVariants.{Index, TooLarge}
+use Rattle.wasm_body.specs.declared.error.EmitError.TheVariants.{Index, TooLarge, UnnumberedLocal}
 use Rattle.wasm_body.specs.declared.error.IndexError.{IndexError}
 use Rattle.wasm_body.specs.Bytes.{in_32_bits}
 use Rattle.walrus_maps.specs.IndexMaps.{local_of}
+use Rattle.walrus_numbering.specs.EmittedLocals.{number_in}
 use Rattle.walrus_numbering.specs.NumberMaps.{numbers_by}
+use Rattle.walrus_numbering.proofs.FittingNumbers.{local_number_is}
 use Rattle.walrus_flat.specs.UsedLocals.{entries_of}
 use Rattle.walrus_flat.proofs.renumbering.RenumberingTranslate.local.Goals as goal
 
@@ -23,5 +26,12 @@ numbered number l id r e is few = sym (ap (λ k. with_fault Index k >>= λ k. nu
 
 pub returns : goal.returns
 returns c =
-    numbered (numbers_by c.args.self.now.types.now c.args.self.now.ids.now (entries_of c.args.self.now.locals.now)).local_number (local_of c.args.self.now.indices.now c.args.self.now.function c.args.index) c.in_ok-id.id c.local_number.result (sym c.in_ok-id.ensures)
-    c.local_number.ensures.number c.local_number.ensures.fits
+    let r = c.args.self.now in
+    let entries = entries_of r.locals.now in
+    let made = c.local_number.result in
+    let id = c.in_ok-id.id in
+    let few : (n : ℕ) → number_in entries id ≡ Some n → n < 2 ^ 32 =
+    λ n is. IfOk-at_ok (λ n. n < 2 ^ 32) (c.local_number.ensures.number ∙ ap (λ o. some_or o UnnumberedLocal) is) c.local_number.ensures.fits in
+    let number : made ≡ (numbers_by r.types.now r.ids.now entries).local_number id =
+    c.local_number.ensures.number ∙ sym (local_number_is r.types.now r.ids.now entries id few) in
+    numbered (numbers_by r.types.now r.ids.now entries).local_number (local_of r.indices.now r.function c.args.index) id made (sym c.in_ok-id.ensures) number c.local_number.ensures.fits
