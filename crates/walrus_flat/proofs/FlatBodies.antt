@@ -28,6 +28,7 @@ use Rattle.walrus_parser.specs.Bodies.{ParseInput, setting_with, mapped_by, Refu
 use Rattle.walrus_parser.specs.Settings.{BothOrNone, operators_of, IsMapping}
 use Rattle.walrus_parser.proofs.Mappings.{mapped_both}
 use Rattle.walrus_emit_state.specs.TreeWriting.Drafts.{Drafted}
+use Rattle.walrus_body.proofs.EmittedFaults.{listed_spelt}
 use Rattle.walrus_rewrite.specs.RawBodies.{EmitInput, input_for, IsRawBody, BeginsRawBody, IsNotBegun, HasNoRawBody, undeclared}
 use Rattle.walrus_rewrite.specs.RewrittenBodies.{IsAcceptedAs, RefusesRewriting}
 use Rattle.walrus_rewrite.specs.declared.error.RewriteError.TheVariants.{Emit}
@@ -41,17 +42,12 @@ use Rattle.wasm_body.specs.Flat.{first_unreachability, locals_read}
 use Rattle.walrus_flat.specs.Checked.{marks}
 use Rattle.walrus_flat.specs.CheckedBody.{HasLimit, AcceptsUsing, ChecksAll}
 use Rattle.walrus_flat.specs.Laws.{written_of, reads_local}
-use Rattle.walrus_flat.specs.WrittenBody.{some_locations, IsAcceptedBody, WritesBody, RefusesWriting}
-use Rattle.walrus_flat.specs.RewrittenFlat.{read_again, begun_draft, is_none, Composes, WritesAll, IsNotAllWritten, out_of_memory, not_begun as all_not_begun, not_written as all_not_written}
+use Rattle.walrus_flat.specs.WrittenBody.{some_locations, IsAcceptedBody, WritesBody, WritesFront, WritesFirst, RefusesWriting}
+use Rattle.walrus_flat.specs.RewrittenFlat.{read_again, begun_draft, is_none, Composes, ComposesFront, WritesAll, WritesPart, IsNotAllWritten, out_of_memory, not_begun as all_not_begun, not_written as all_not_written}
 use Rattle.walrus_flat.proofs.Accepting.{accepted_of}
 use Rattle.walrus_flat.proofs.CheckedWhole.{read_operators}
 use Rattle.walrus_flat.proofs.Drafts.{drafted_bytes, drafted_pairs, drafted_no_pairs}
 use Rattle.walrus_flat.proofs.RawBodies.{used_are, has_raw_body, has_no_body}
-
--- operators that bytes list have encodings
-listed_spelt : (xs : List Occurrence) (place : ℕ) (bytes rest : List ℕ) → Lists (map placed xs) place bytes rest → AllByRecursion HasSpelling xs
-listed_spelt [] place bytes rest l = tt
-listed_spelt (x ∷ xs) place bytes rest l = ((l.1, l.4), listed_spelt xs _ l.2 rest l.5)
 
 -- a validator that accepts everything
 all_accepted : (xs : List Placed) → IsOk (validated {V = Unit {0}} (λ v x. Ok tt) tt xs)
@@ -149,6 +145,26 @@ module _ {S F : Type 0} (asks : Shared F (Bor ℕ × Unit {0}) ℕ) (i : ParseIn
                   (subst (λ (u : ℕ → Bool). AreDeclared by.types by.args u d.others) (used_is l a) d.are_declared) d.declarations_are e fault,
             )
 
+        -- ---- what is written of the first operators
+
+        pub composes_front : (has_map : Bool) (d : Drafted) → WritesFirst asks (read_again i) numbers (begun_draft encoder has_map) d → ComposesFront asks i by has_map d
+        composes_front has_map d w =
+            let l = some_locations i.on_instr_pos in
+            let b = begins.declares in
+            let same = same_body l with_some w.0.body w.0.accepted in
+            let begun : List ℕ → Drafted = λ bytes. begun_draft bytes has_map in
+            let writes = subst (λ (k : Numbers). WritesFront asks (read_again i) k (operators_of w.0.body) (begun encoder) d) numbers_are w.1 in
+            let its = subst (λ c. WritesFront asks (read_again i) (numbering_locals by.to by.args (ids_of b.others)) (operators_of c) (begun encoder) d) same writes in
+            record {
+              body = with_some.body;
+              accepted = accepted_so;
+              others = b.others;
+              are_declared = subst (λ (u : ℕ → Bool). AreDeclared by.types by.args u b.others) (tree_uses l with_some) b.are_declared;
+              declarations = begins.declarations;
+              declarations_are = b.declarations_are;
+              writes = subst (λ bytes. WritesFront asks (read_again i) (numbering_locals by.to by.args (ids_of b.others)) (operators_of with_some.body) (begun bytes) d) begins.encoder_is its;
+            }
+
         -- ---- the raw body
 
         pub composes : BalanceAlike (typing_of i.environment) by.to → AreBytes i.bytes → (has_map : Bool) (d : Drafted) → WritesBody asks (read_again i) numbers (begun_draft encoder has_map) d →
@@ -191,11 +207,16 @@ module _ {S F : Type 0} (asks : Shared F (Bor ℕ × Unit {0}) ℕ) (i : ParseIn
       Composes asks i (input_for out m args) has_map d
   composed alike fits has_map d h =
       composes asks i used checks (input_for out m args) h.declared h.entries h.begins (numbers_with h.entries)
-      (same_numbers m.types out h.entries args (ids_of h.begins.declares.others) h.begins.declares.numbers_are) alike fits has_map d h.writes
+      (same_numbers m.types out m.locals args used h.begins.declarations h.entries h.begins.declares) alike fits has_map d h.writes
+
+  pub composed_front : (has_map : Bool) (d : Drafted) → WritesPart asks (read_again i) (input_for out m args) has_map (numbers_by m.types out) used d → ComposesFront asks i (input_for out m args) has_map d
+  composed_front has_map d h =
+      composes_front asks i used checks (input_for out m args) h.declared h.entries h.begins (numbers_with h.entries)
+      (same_numbers m.types out m.locals args used h.begins.declarations h.entries h.begins.declares) has_map d h.writes
 
   pub refused : (e : EmitError) → IsNotAllWritten asks (read_again i) (input_for out m args) (numbers_by m.types out) used e → RefusesRewriting asks i (input_for out m args) (Emit e)
   refused e (out_of_memory memory) = inl memory
   refused e (all_not_begun h) = not_begun asks i used checks (input_for out m args) (are_id_numbers m.types out) e h
   refused e (all_not_written declared entries begins h) =
-      not_written asks i used checks (input_for out m args) declared entries begins (numbers_with entries) (same_numbers m.types out entries args (ids_of begins.declares.others) begins.declares.numbers_are)
+      not_written asks i used checks (input_for out m args) declared entries begins (numbers_with entries) (same_numbers m.types out m.locals args used begins.declarations entries begins.declares)
       (are_id_numbers m.types out) e h

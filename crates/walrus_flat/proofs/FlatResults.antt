@@ -26,8 +26,8 @@ use Rattle.walrus_rewrite.specs.Errors.{IsOutOfMemory}
 use Rattle.walrus_rewrite.specs.RawBodies.{EmitInput}
 use Rattle.walrus_rewrite.specs.RewrittenBodies.{RefusesRewriting, IsOfWriting}
 use Rattle.walrus_flat.specs.Sinks.{joined_outputs, OfWhole}
-use Rattle.walrus_flat.proofs.SinkLemmas.{all_taken}
-use Rattle.walrus_flat.specs.RewrittenFlat.{FinishesTo, IsUntouched, FinishesBytes, FinishesBoth, Composes, RewritesFlat, RewritesTo}
+use Rattle.walrus_flat.proofs.SinkLemmas.{all_taken, of_whole}
+use Rattle.walrus_flat.specs.RewrittenFlat.{FinishesTo, EndsAlike, LeavesSink, FinishesBytes, FinishesBoth, Composes, RewritesFlat, RewritesTo}
 
 -- the operators end where the body ends
 pub ends_there : (start ops : ℕ) (bytes rest : List ℕ) → ops ≤ length bytes → rest ≡ drop ops bytes → start + length bytes ≡ start + ops + length rest
@@ -48,24 +48,6 @@ finishes_not m f e old new = subst (λ n. FinishesBytes n old new (Err f)) (sym 
 
 pub finishes_not_both : (m : Result Drafted RewriteError) (f : RewriteError) → m ≡ Err f → (old new : List ℕ) (ps qs : List Pair) → FinishesBoth m old new ps qs (Err f)
 finishes_not_both m f e old new ps qs = subst (λ n. FinishesBoth n old new ps qs (Err f)) (sym e) refl
-
--- a sink that was given nothing more
-pub same_sink : {Sink : Type 0} (s : Sink) (e : RewriteError) → IsUntouched s s e
-same_sink s (Parse f) = refl
-same_sink s (Walk w) = tt
-same_sink s (Emit e) = tt
-
-untouched_twice : {Sink : Type 0} (a b c : Sink) (e : RewriteError) → IsUntouched a b e → IsUntouched b c e → IsUntouched a c e
-untouched_twice a b c (Parse f) p q = q ∙ p
-untouched_twice a b c (Walk w) p q = tt
-untouched_twice a b c (Emit e) p q = tt
-
-pub untouched_to :
-    {Sink : Type 0} (goes : Output → Type 0) (a b c : Sink) (m : Result Drafted RewriteError) → IfErr m (IsUntouched a b) → (r : Result (Unit {0}) RewriteError) → FinishesTo goes m r →
-    IfErr r (IsUntouched b c) → IfErr r (IsUntouched a c)
-untouched_to goes a b c m h (Ok u) end k = tt
-untouched_to goes a b c (Ok made) h (Err e) end k = subst (IsUntouched a c) (sym end) tt
-untouched_to goes a b c (Err f) h (Err e) end k = untouched_twice a b c e (subst (IsUntouched a b) (sym end) h) k
 
 module _ {S F : Type 0} (asks : Shared F (Bor ℕ × Unit {0}) ℕ) (i : ParseInput S F) (by : EmitInput) where
   -- the bytes are accepted as a body, with the locations of a mapping
@@ -155,6 +137,17 @@ module _ {S F : Type 0} (asks : Shared F (Bor ℕ × Unit {0}) ℕ) (i : ParseIn
     flat_to (Ok made) h (Err e) end = tt
     flat_to (Err f) h (Ok u) end = absurd end
     flat_to (Err f) h (Err e) end = tt
+
+  -- what a sink took after an error
+  module _ {T : Type 0} (takes refuses : T → T → Output → Type 0) (a b c : T) (has_map : Bool) where
+    abbrev Leaves : T → RewriteError → Type 0
+    Leaves last e = LeavesSink asks i by takes refuses a last has_map e
+
+    pub leaves_to : (goes : Output → Type 0) (m : Result Drafted RewriteError) → IfOk m (OfWhole takes a b (Composes asks i by has_map)) → IfErr m (Leaves b) →
+        (r : Result (Unit {0}) RewriteError) → FinishesTo goes m r → EndsAlike refuses b c m r → IfErr r (Leaves c)
+    leaves_to goes m ok err (Ok u) h ends = tt
+    leaves_to goes (Ok made) ok err (Err e) h ends = subst (Leaves c) (sym h) (inr (record { middle = b; left = made; of_whole = of_whole takes a b made (λ d whole. inl whole) ok; last = inr (refl, ends) }))
+    leaves_to goes (Err f) ok err (Err e) h ends = subst (λ last. Leaves last e) (sym ends) (subst (Leaves b) (sym h) err)
 
   pub accepts_of_sink : (has_map : Bool) (taken : Output → Type 0) (r : Result (Unit {0}) RewriteError) → OnOk r ((took : Output) × taken took × RewritesTo asks i by has_map took) → OnOk r IsAcceptedSomehow
   accepts_of_sink has_map taken (Ok u) h = (h.2.rewrites.mapping, h.2.rewrites.body, h.2.rewrites.accepted)

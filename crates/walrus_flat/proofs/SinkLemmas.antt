@@ -1,12 +1,14 @@
 -- A body that a sink takes while it is written: what was taken and what is left is the whole.
 use Rattle.std.specs.Prelude.{IfOk}
-use Rattle.std.proofs.Common.{Result, Ok, Err, ◌≡◌, ℕ, ◌+◌, List, [], ◌∷◌, ◌++◌, length, Bool, true, false, refl, sym, ap, subst, ◌∙◌, append_assoc, length-append, arith}
+use Rattle.std.proofs.Common.{inl, inr, Result, Ok, Err, ◌≡◌, ℕ, ◌+◌, List, [], ◌∷◌, ◌++◌, length, Bool, true, false, refl, sym, ap, subst, ◌∙◌, append_assoc, length-append, arith}
 use Rattle.wasm_operators.specs.Operations.{RawOperation}
 use Rattle.wasm_operators.specs.Shortest.{short}
+use Rattle.wasm_body.specs.declared.error.EmitError.{EmitError}
+use Rattle.wasm_body.specs.declared.error.EmitError.TheVariants.{Memory}
 use Rattle.wasm_body.specs.Translation.{Located}
 use Rattle.walrus_emit_state.specs.Emission.{Output, pairs_after}
 use Rattle.walrus_emit_state.specs.TreeWriting.Drafts.{Drafted, with_written}
-use Rattle.walrus_flat.specs.Sinks.{no_output, joined_outputs, with_front, IsLeft, OfWhole}
+use Rattle.walrus_flat.specs.Sinks.{no_output, joined_outputs, with_front, IsLeft, OfWhole, IsLast, TookFront}
 use Rattle.walrus_flat.specs.Written.{drafted}
 
 -- ---- an operator more
@@ -66,6 +68,20 @@ module _ {S : Type 0} (takes : S → S → Output → Type 0) where
 
   pub of_whole : {P Q : Drafted → Type 0} (a b : S) (left : Drafted) → ((d : Drafted) → P d → Q d) → OfWhole takes a b P left → OfWhole takes a b Q left
   of_whole a b left f h = record { whole = h.whole; is_left = h.is_left; holds_of_it = f h.whole h.holds_of_it }
+
+-- ---- what a sink leaves
+
+module _ {S : Type 0} (takes refuses : S → S → Output → Type 0) (a b : S) where
+  pub nothing_offered : (P : Drafted → Type 0) (e : EmitError) (d : Drafted) → takes a a no_output → P d → TookFront takes refuses a a P e
+  nothing_offered P e d nothing p = record { middle = a; left = d; of_whole = record { whole = d; is_left = left_as_is takes a d nothing; holds_of_it = p }; last = inl refl }
+
+  pub took_front : {P Q : Drafted → Type 0} (e : EmitError) → ((d : Drafted) → P d → Q d) → TookFront takes refuses a b P e → TookFront takes refuses a b Q e
+  took_front e f h = record { middle = h.middle; left = h.left; of_whole = of_whole takes a h.middle h.left f h.of_whole; last = h.last }
+
+  -- what is left of a draft was offered last
+  pub last_offered : (P : Drafted → Type 0) (middle : S) (left : Drafted) → OfWhole takes a middle P left → IsLast refuses middle b left → TookFront takes refuses a b P Memory
+  last_offered P middle left h (inl same) = record { middle = middle; left = left; of_whole = h; last = inl same }
+  last_offered P middle left h (inr refused) = record { middle = middle; left = left; of_whole = h; last = inr (refl, refused) }
 
 -- where nothing is taken it is what is left
 pub in_memory : {S : Type 0} (P : Drafted → Type 0) (a b : S) (left : Drafted) → OfWhole (λ (x y : S) (o : Output). o ≡ no_output) a b P left → P left

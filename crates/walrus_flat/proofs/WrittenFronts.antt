@@ -26,6 +26,7 @@ use Rattle.wasm_body.specs.Parsing.Accepted.{has_location}
 use Rattle.walrus_parser.proofs.ParsedSoFar.{Reads, occurrence, goes_over, progress-append}
 use Rattle.walrus_validators.proofs.Taking.{is_admitted, located_fits}
 use Rattle.wasm_body.specs.Flat.{Named}
+use Rattle.walrus_flat.specs.WrittenBody.{unlocated}
 
 -- ---- the frames of what was read, by the names of their openers
 
@@ -103,6 +104,7 @@ module _ {S F : Type 0} (g : Shared F (Bor ℕ × Unit {0}) ℕ) (i : ParseInput
     pub front : List Occurrence
     pub front_read : progress_after nothing_read (map mark front) ≡ its
     pub names : map (map_mark named_of) (read_text p []) ≡ map (map_mark named_of) (map mark front)
+    pub alike : map (map_mark unlocated) (read_text p []) ≡ map (map_mark unlocated) (map mark front)
 
   pub its_read : (b : Body Occurrence) (its : Progress Occurrence) (v last : S) (place end : ℕ) (rest : List ℕ) (left : List Occurrence) → Over base its v place rest left (Whole b) last end [] → IsRead its
   its_read b its v last place end rest left over = was_front (map mark left) its (subst IsRead (sym over.ends) tt)
@@ -115,6 +117,7 @@ module _ {S F : Type 0} (g : Shared F (Bor ℕ × Unit {0}) ℕ) (i : ParseInput
     pub first : Occurrence
     pub others : List Occurrence
     pub left_is : left ≡ first ∷ others
+    pub place_is : first.place ≡ place
     pub state : S
     pub following : List ℕ
     pub read : read_operation rest ≡ Ok (first.spelt, following)
@@ -134,6 +137,7 @@ module _ {S F : Type 0} (g : Shared F (Bor ℕ × Unit {0}) ℕ) (i : ParseInput
         first = x;
         others = xs;
         left_is = refl;
+        place_is = h.place_is;
         state = o.state;
         following = o.following;
         read = h.read;
@@ -185,6 +189,11 @@ module _ {S F : Type 0} (g : Shared F (Bor ℕ × Unit {0}) ℕ) (i : ParseInput
             ∙ (map-append (map_mark named_of) (read_text p []) (mark x ∷ [])
             ∙ (ap (λ l. l ++ named) so.names
             ∙ (sym (map-append (map_mark named_of) (map mark so.front) (mark n.first ∷ [])) ∙ ap (map (map_mark named_of)) (sym both))));
+        alike =
+            ap (map (map_mark unlocated)) (one_more so.reads.operators p x so.reads.are_read was now)
+            ∙ (map-append (map_mark unlocated) (read_text p []) (mark x ∷ [])
+            ∙ ((λ k. so.alike k ++ with_control (occurrence n.first.spelt (sym n.place_is k) 0 n.first.named) (control_of n.first.named) ∷ [])
+            ∙ (sym (map-append (map_mark unlocated) (map mark so.front) (mark n.first ∷ [])) ∙ ap (map (map_mark unlocated)) (sym both))));
       }
 
   -- what was read is one operator more

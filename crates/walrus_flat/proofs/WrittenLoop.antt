@@ -35,6 +35,7 @@ use Rattle.walrus_parser.specs.Bodies.{ParseInput, setting_with}
 use Rattle.walrus_validators.specs.Locating.{MayCall, Locates, HasNoLocation}
 use Rattle.walrus_parser.specs.Settings.{operators_of}
 use Rattle.walrus_parser.proofs.Bodies.{is_whole, whole_mapping}
+use Rattle.walrus_parser.proofs.Mappings.{rise-wider}
 use Rattle.walrus_parser.proofs.ParsedSoFar.{begins, occurrence, progress-append}
 use Rattle.wasm_body.specs.Flat.{Named, first_state, written_at, after, flat, numbered_at_location, IsWrittenSo}
 use Rattle.wasm_body.specs.FlatLaws.{without_location}
@@ -47,7 +48,7 @@ use Rattle.walrus_flat.specs.Checked.{marks}
 use Rattle.walrus_flat.specs.Laws.{written_of}
 use Rattle.walrus_flat.specs.Written.{drafted, flat_state_of}
 use Rattle.walrus_flat.specs.Writers.{numbers_of_writer, env_at, IsSameWriter, Takes, IsTaken, StepsWriter}
-use Rattle.walrus_flat.specs.WrittenBody.{some_locations, IsAcceptedBody, WritesBody, RefusesWriting, WritesNumber, StopsWriting}
+use Rattle.walrus_flat.specs.WrittenBody.{unlocated, some_locations, IsAcceptedBody, WritesBody, WritesFirst, RefusesWriting, WritesNumber, StopsWriting}
 use Rattle.walrus_flat.specs.Sinks.{no_output, joined_outputs, IsLeft, OfWhole}
 use Rattle.walrus_flat.proofs.Drafts.{drafted-append}
 use Rattle.walrus_flat.proofs.SinkLemmas.{left_as_is, left_then, left_more}
@@ -98,6 +99,11 @@ record Took (m : Typing) (w new : Writer) (x : Marked Named) (k : Numbers) : Typ
 took : (m : Typing) (w new : Writer) (x : Marked Named) → Takes m w new x → Took m w new x (numbers_of_writer w)
 took m w new x h = record { same = h.same; operators = h.operators; are_numbered = h.are_numbered; draft = h.draft; state_is = h.state_is }
 
+-- operators without their locations
+unlocated_marks : (xs : List Occurrence) → map (λ m. m.shown) (map (map_mark unlocated) (map mark xs)) ≡ map unlocated xs
+unlocated_marks [] = refl
+unlocated_marks (x ∷ xs) = ap (λ ys. unlocated x ∷ ys) (unlocated_marks xs)
+
 -- ---- the writer of the same body
 
 same_env : (first w : Writer) → IsSameWriter first w → env_at w w.ty ≡ env_at first first.ty
@@ -134,6 +140,22 @@ some_number g o (suc n) from to old new h less = (n, h)
 may_call_within : {F : Type 0} (pre : F → Bor ℕ → Type 0) (o : Option (Bor F)) (from to first last : ℕ) → from ≤ first → last ≤ to → MayCall pre o from to → MayCall pre o first last
 may_call_within pre None from to first last low high may = tt
 may_call_within pre (Some f) from to first last low high may = λ p least most. may p (omega arith) (omega arith)
+
+-- before the first operator
+pub none_written : {F : Type 0} (g : Shared F (Bor ℕ × Unit {0}) ℕ) (i : ParseInput (Unit {0}) F) (to : Numbers) → IsAcceptedBody i → (d : Drafted) → WritesFirst g i to d d
+none_written g i to a d = (
+  a,
+  record {
+    front = [];
+    others = map unlocated (operators_of a.body);
+    are_first = refl;
+    mapping = [];
+    is_mapping = record { pairs = refl; rise = omega arith; are_located = tt };
+    operators = [];
+    are_written = refl;
+    draft = refl;
+  },
+)
 
 module _ {F S : Type 0} (g : Shared F (Bor ℕ × Unit {0}) ℕ) (i : ParseInput (Unit {0}) F) (first : Writer) (takes : S → S → Output → Type 0) (start : S) where
   abbrev to : Numbers
@@ -207,6 +229,7 @@ module _ {F S : Type 0} (g : Shared F (Bor ℕ × Unit {0}) ℕ) (i : ParseInput
           front = [];
           front_read = refl;
           names = refl;
+          alike = refl;
         };
         written = [];
         is_written = record { state_is = none; written_are = refl };
@@ -231,8 +254,8 @@ module _ {F S : Type 0} (g : Shared F (Bor ℕ × Unit {0}) ℕ) (i : ParseInput
       unreadable fault e = let both = sym e ∙ next_one.read in cc
 
       -- and has a location
-      pub unlocated : HasNoLocation i.on_instr_pos place → ⊥
-      unlocated h = by_left so.left next_one.left_is so.left_of.over
+      pub is_located : HasNoLocation i.on_instr_pos place → ⊥
+      is_located h = by_left so.left next_one.left_is so.left_of.over
         where
           fits : (o : Option (Bor F)) (at : ℕ) → at ≡ place → has_location (some_locations o) at ≡ true → HasNoLocation o place → ⊥
           fits None at e has not = let both : true ≡ false = sym has ∙ (ap (has_location {F = Bor F} None) e ∙ not) in cc
@@ -347,6 +370,56 @@ module _ {F S : Type 0} (g : Shared F (Bor ℕ × Unit {0}) ℕ) (i : ParseInput
           };
         }
 
+    -- ---- what was written
+
+    was_read : IsRead so.read
+    was_read = is_read so.read so.its (its_read g i locations so.accepted.body so.its tt so.left_of.last place so.left_of.end rest so.left so.left_of.over) so.left_of.same
+
+    abbrev its_operators : List Occurrence
+    its_operators = so.left_of.reads.operators
+
+    text_is : read_text so.read [] ≡ map mark its_operators
+    text_is = text_of its_operators so.read so.left_of.reads.are_read was_read
+
+    -- those that were read are the first of the body, locations aside
+    are_first : map unlocated (operators_of so.accepted.body) ≡ map unlocated its_operators ++ map unlocated so.left
+    are_first =
+        let l = so.left_of in
+        let all = l.front ++ so.left in
+        let read_all : progress_after nothing_read (map mark all) ≡ Whole so.accepted.body =
+        ap (progress_after nothing_read) (map-append mark l.front so.left)
+        ∙ (progress-append (map mark l.front) (map mark so.left) nothing_read
+        ∙ (ap (λ p. progress_after p (map mark so.left)) l.front_read ∙ l.over.ends)) in
+        let same : map unlocated l.front ≡ map unlocated its_operators =
+        sym (unlocated_marks l.front)
+        ∙ (ap (map (λ m. m.shown)) (sym l.alike ∙ ap (map (map_mark unlocated)) text_is) ∙ unlocated_marks its_operators) in
+        ap (map unlocated) (sym (read_operators all so.accepted.body read_all))
+        ∙ (map-append unlocated l.front so.left ∙ ap (λ xs. xs ++ map unlocated so.left) same)
+
+    pub some_written : OfWhole takes start sink (WritesFirst g i to first.draft) w.draft
+    some_written =
+        let r = so.left_of.reads in
+        let m = r.is_mapping in
+        let at = r.place_is in
+        let marked : marks its_operators ≡ read_marks so.read = sym (marks_are its_operators) ∙ ap (map (map_mark name_at)) (sym text_is) in
+        record {
+          whole = drafted first.draft so.written;
+          is_left = so.draft;
+          holds_of_it = (
+            so.accepted,
+            record {
+              front = its_operators;
+              others = map unlocated so.left;
+              are_first = are_first;
+              mapping = so.mapping;
+              is_mapping = record { pairs = m.pairs; rise = rise-wider its_operators i.start place (i.start + length i.bytes) (omega arith) m.rise; are_located = m.are_located };
+              operators = so.written;
+              are_written = ap (λ xs. gather (map (numbered_at_location to typing) (flat balanced first_state xs))) marked ∙ so.is_written.written_are;
+              draft = refl;
+            },
+          );
+        }
+
   -- ---- some operators
 
   module _ (env : env_at first first.ty ≡ i.environment) (sink : S) (from : Position) (w : Writer) (so : WritesSoFar w sink from.place from.rest) where
@@ -364,7 +437,7 @@ module _ {F S : Type 0} (g : Shared F (Bor ℕ × Unit {0}) ℕ) (i : ParseInput
     stops n at middle e h s =
         let now = goes_over n at middle h in
         elim s.why [
-          | inl none ↦ absurd (unlocated middle sink at.place at.rest now s.some none)
+          | inl none ↦ absurd (is_located middle sink at.place at.rest now s.some none)
           | inr (inl fault) ↦ absurd (unreadable middle sink at.place at.rest now s.some fault.0 fault.1)
           | inr (inr x) ↦ refused now x
         ]

@@ -1,14 +1,17 @@
 -- Rewriting a body without its tree: what is written of an accepted one. Why there is none is said as for `rewrite_body`.
-use Rattle.std.specs.Prelude.{◌≡◌, ℕ, ◌+◌, List, [], ◌++◌, length, Bool, true, false, Option, Some, None, Result, Ok, Err}
+use Rattle.std.specs.Prelude.{◌≡◌, ◌⊎◌, ℕ, ◌+◌, List, [], ◌++◌, length, Bool, true, false, Option, Some, None, Result, Ok, Err}
 use Rattle.std.proofs.Common.{inl}
 use Rattle.std.specs.Fn.{Shared}
 use Rattle.std.specs.Borrow.{Bor}
+use Rattle.wasm_types.specs.declared.val_type.ValType.{ValType}
+use Rattle.wasm_encode.specs.Declarations as encoded
 use Rattle.wasm_body.specs.declared.error.EmitError.{EmitError}
 use Rattle.wasm_body.specs.declared.error.EmitError.TheVariants.{Memory}
 use Rattle.wasm_body.specs.Bytes.{Numbers}
 use Rattle.wasm_body.specs.SourceTree.{Body}
 use Rattle.wasm_body.specs.Naming.{Occurrence}
 use Rattle.wasm_body.specs.NormalForm.{body_tree}
+use Rattle.wasm_body.specs.LocalNumbers.{Local, AreDeclared, declared, ids_of, uses_local, numbering_locals}
 use Rattle.wasm_body.specs.Pairs.{Pair}
 use Rattle.wasm_body.specs.Parsing.Accepted.{Accepted}
 use Rattle.walrus_parser.specs.Bodies.{ParseInput, setting_with, mapped_by}
@@ -18,12 +21,13 @@ use Rattle.walrus_rewrite.specs.declared.error.RewriteError.{RewriteError}
 use Rattle.walrus_rewrite.specs.declared.error.RewriteError.TheVariants.{Parse, Walk, Emit}
 use Rattle.walrus_rewrite.specs.RawBodies.{EmitInput, input_for, IsRawBody, BeginsRawBody, IsNotBegun, AppendsPairs}
 use Rattle.walrus_ir.specs.Function.{Function}
-use Rattle.walrus_rewrite.specs.RewrittenBodies.{KeepsSource, Rewrites}
+use Rattle.walrus_rewrite.specs.RewrittenBodies.{KeepsSource, Rewrites, IsAcceptedAs}
 use Rattle.walrus_ir.specs.declared.module.Module.{Module}
 use Rattle.walrus_emit_state.specs.Emission.{Output}
 use Rattle.walrus_emit_state.specs.TreeWriting.Drafts.{Drafted}
 use Rattle.walrus_flat.specs.declared.target.Target.{Target}
-use Rattle.walrus_flat.specs.WrittenBody.{WritesBody, RefusesWriting}
+use Rattle.walrus_flat.specs.Sinks.{TookFront}
+use Rattle.walrus_flat.specs.WrittenBody.{WritesBody, WritesFront, WritesFirst, RefusesWriting}
 
 -- the same input with a validator of one state that accepts everything
 abbrev pub read_again : {S F : Type 0} → ParseInput S F → ParseInput (Unit {0}) F
@@ -56,11 +60,11 @@ FinishesTo goes (Ok made) (Err e) = e ≡ Emit Memory
 FinishesTo goes (Err f) (Ok u) = ⊥
 FinishesTo goes (Err f) (Err e) = e ≡ f
 
--- If the body isn't accepted, the sink took nothing.
-abbrev pub IsUntouched : {Sink : Type 0} → (old new : Sink) → RewriteError → Type 0
-IsUntouched old new (Parse f) = new ≡ old
-IsUntouched old new (Walk w) = Unit {0}
-IsUntouched old new (Emit e) = Unit {0}
+-- The sink that was to take the draft that was made didn't take it, or was offered nothing.
+abbrev pub EndsAlike : {Sink : Type 0} → (refuses : Sink → Sink → Output → Type 0) → (old new : Sink) → Result Drafted RewriteError → Result (Unit {0}) RewriteError → Type 0
+EndsAlike refuses old new made (Ok u) = Unit {0}
+EndsAlike refuses old new (Ok made) (Err e) = refuses old new made.output
+EndsAlike refuses old new (Err f) (Err e) = new ≡ old
 
 -- They are appended.
 abbrev pub FinishesBytes : Result Drafted RewriteError → (old new : List ℕ) → Result (Unit {0}) RewriteError → Type 0
@@ -97,6 +101,25 @@ module _ {S F : Type 0} (asks : Shared F (Bor ℕ × Unit {0}) ℕ) (i : ParseIn
     pub kept_pairs : has_map ≡ true → written.output.pairs ≡ pairs
     pub no_pairs : has_map ≡ false → written.output.pairs ≡ []
 
+  -- The bytes are accepted as a body. What is written are the declarations of its locals, and then what is written of its first
+  -- operators.
+  pub record ComposesFront (has_map : Bool) (written : Drafted) : Type 0 where
+    pub body : Body Occurrence
+    pub accepted : IsAcceptedAs asks i by body
+    pub others : List Local
+    pub are_declared : AreDeclared by.types by.args (uses_local (body_tree i.environment body)) others
+    pub declarations : List (ℕ × ValType ℕ)
+    pub declarations_are : declared by.to (length by.args) others ≡ Ok declarations
+    pub writes : WritesFront asks (read_again i) (numbering_locals by.to by.args (ids_of others)) (operators_of body) (begun_draft (encoded.declaration_bytes declarations) has_map) written
+
+  -- After an error: if the body isn't accepted, the sink took nothing. Else it took nothing, or a front of what is written of the
+  -- body, or of its first operators.
+  abbrev pub LeavesSink : {Sink : Type 0} → (takes refuses : Sink → Sink → Output → Type 0) → (old new : Sink) → (has_map : Bool) → RewriteError → Type 0
+  LeavesSink takes refuses old new has_map (Parse f) = new ≡ old
+  LeavesSink takes refuses old new has_map (Walk w) = ⊥
+  LeavesSink takes refuses old new has_map (Emit e) =
+      (new ≡ old) ⊎ TookFront takes refuses old new (λ d. Composes has_map d ⊎ ComposesFront has_map d) e
+
   -- A sink took the bytes that `rewrite_flat` appends to none, and its pairs, if they are wanted.
   pub record RewritesTo (has_map : Bool) (took : Output) : Type 0 where
     pub rewrites : RewritesFlat {Z = Unit {0}} [] took.bytes None (inl tt)
@@ -111,6 +134,13 @@ module _ {S F : Type 0} (asks : Shared F (Bor ℕ × Unit {0}) ℕ) (i : ParseIn
     pub declared : List ℕ
     pub begins : BeginsRawBody by used declared entries
     pub writes : WritesBody asks (read_again i) (numbers_with entries) (begun_draft declared has_map) written
+
+  -- The same of what is written of its first operators.
+  pub record WritesPart (has_map : Bool) (numbers_with : List (ℕ × ℕ) → Numbers) (used : ℕ → Bool) (written : Drafted) : Type 0 where
+    pub entries : List (ℕ × ℕ)
+    pub declared : List ℕ
+    pub begins : BeginsRawBody by used declared entries
+    pub writes : WritesFirst asks (read_again i) (numbers_with entries) (begun_draft declared has_map) written
 
   -- The locals can't be declared, or else this is the first fault of what is written of the body; or memory ran out.
   pub data IsNotAllWritten (numbers_with : List (ℕ × ℕ) → Numbers) (used : ℕ → Bool) (e : EmitError) : Type 0 where

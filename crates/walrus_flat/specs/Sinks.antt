@@ -1,5 +1,7 @@
 -- A body that a sink takes while it is written.
-use Rattle.std.specs.Prelude.{◌≡◌, ℕ, ◌+◌, List, [], ◌++◌, length}
+use Rattle.std.specs.Prelude.{◌≡◌, ◌⊎◌, ℕ, ◌+◌, List, [], ◌++◌, length}
+use Rattle.wasm_body.specs.declared.error.EmitError.{EmitError}
+use Rattle.wasm_body.specs.declared.error.EmitError.TheVariants.{Memory}
 use Rattle.walrus_emit_state.specs.Emission.{Output}
 use Rattle.walrus_emit_state.specs.TreeWriting.Drafts.{Drafted}
 
@@ -29,3 +31,16 @@ module _ {S : Type 0} (takes : S → S → Output → Type 0) (before after : S)
     pub whole : Drafted
     pub is_left : IsLeft whole left
     pub holds_of_it : holds whole
+
+-- The sink is in the same state, or it didn't take the draft's output.
+abbrev pub IsLast : {S : Type 0} → (refuses : S → S → Output → Type 0) → S → S → Drafted → Type 0
+IsLast refuses before after draft = (after ≡ before) ⊎ refuses before after draft.output
+
+module _ {S : Type 0} (takes refuses : S → S → Output → Type 0) (before after : S) where
+  -- The sink took the front of a draft of which this holds, and no more: the draft that is left was not offered to it, or it didn't
+  -- take its output, which is the fault.
+  pub record TookFront (holds : Drafted → Type 0) (e : EmitError) : Type 0 where
+    pub middle : S
+    pub left : Drafted
+    pub of_whole : OfWhole takes before middle holds left
+    pub last : (after ≡ middle) ⊎ ((e ≡ Memory) × refuses middle after left.output)

@@ -1,5 +1,5 @@
 -- What writing the operators of a body shows, which is read again.
-use Rattle.std.specs.Prelude.{◌≡◌, ◌⊎◌, ℕ, zero, suc, ◌+◌, ◌<◌, List, length, Bool, true, false, Option, Some, None, Result, Ok, Err}
+use Rattle.std.specs.Prelude.{◌≡◌, ◌⊎◌, ℕ, zero, suc, ◌+◌, ◌<◌, List, ◌++◌, length, map, Bool, true, false, Option, Some, None, Result, Ok, Err}
 use Rattle.std.specs.Borrow.{Bor}
 use Rattle.std.specs.Fn.{Shared}
 use Rattle.wasm_numbers.specs.declared.fault.ReadFault.{ReadFault}
@@ -24,7 +24,7 @@ use Rattle.walrus_emit_state.specs.TreeWriting.Drafts.{Drafted}
 use Rattle.walrus_flat.specs.declared.writer.Writer.{Writer}
 use Rattle.walrus_flat.specs.Writers.{StepsWriter}
 use Rattle.walrus_flat.specs.Laws.{written_of}
-use Rattle.walrus_flat.specs.Sinks.{OfWhole}
+use Rattle.walrus_flat.specs.Sinks.{OfWhole, TookFront}
 use Rattle.walrus_flat.specs.Written.{drafted}
 
 -- the input of reading a body again, with a validator of one state that accepts everything
@@ -44,6 +44,10 @@ some_locations (Some f) = Some (λ place. 0)
 pub record IsAcceptedBody {F : Type 0} (i : ParseInput (Unit {0}) F) : Type 0 where
   pub body : Body Occurrence
   pub accepted : Accepted (setting_with i (some_locations i.on_instr_pos)) i.bytes body
+
+-- an operator without its location
+abbrev pub unlocated : Occurrence → Occurrence
+unlocated x = record x { location = 0 }
 
 -- The next operator is a frequent one, which was written or skipped at once; or it wasn't, and nothing changed.
 abbrev pub WritesNextAtOnce : Position → Position → Writer → Writer → (location : ℕ) → Bool → Type 0
@@ -93,12 +97,28 @@ module _ {F : Type 0} (g : Shared F (Bor ℕ × Unit {0}) ℕ) (i : ParseInput (
     pub are_written : written_of i.environment to (operators_of body) ≡ Ok operators
     pub draft : new ≡ drafted old operators
 
+  -- What is written of some operators was written, with the locations that the caller's function returned for them. Locations aside,
+  -- they are the first of these.
+  pub record WritesFront (xs : List Occurrence) (old new : Drafted) : Type 0 where
+    pub front : List Occurrence
+    pub others : List Occurrence
+    pub are_first : map unlocated xs ≡ map unlocated front ++ others
+    pub mapping : List (ℕ × ℕ)
+    pub is_mapping : IsMapping g i.on_instr_pos i.offset i.start (i.start + length i.bytes) front mapping
+    pub operators : List (Located RawOperation)
+    pub are_written : written_of i.environment to front ≡ Ok operators
+    pub draft : new ≡ drafted old operators
+
+  -- the same of an accepted body
+  abbrev pub WritesFirst : Drafted → Drafted → Type 0
+  WritesFirst old new = (a : IsAcceptedBody i) × WritesFront (operators_of a.body) old new
+
   -- This is the first fault of what is written of the body.
   pub record RefusesWriting (e : EmitError) : Type 0 where
     pub accepted : IsAcceptedBody i
     pub fault : written_of i.environment to (operators_of accepted.body) ≡ Err e
 
   -- A sink took the front of it, from one state to the other.
-  abbrev pub WritesOperators : {S : Type 0} → (takes : S → S → Output → Type 0) → (before after : S) → Drafted → Drafted → Result (Unit {0}) EmitError → Type 0
-  WritesOperators takes before after old new (Ok u) = OfWhole takes before after (WritesBody old) new
-  WritesOperators takes before after old new (Err e) = (e ≡ Memory) ⊎ RefusesWriting e
+  abbrev pub WritesOperators : {S : Type 0} → (takes refuses : S → S → Output → Type 0) → (before after : S) → Drafted → Drafted → Result (Unit {0}) EmitError → Type 0
+  WritesOperators takes refuses before after old new (Ok u) = OfWhole takes before after (WritesBody old) new
+  WritesOperators takes refuses before after old new (Err e) = ((e ≡ Memory) ⊎ RefusesWriting e) × TookFront takes refuses before after (WritesFirst old) e

@@ -1,8 +1,8 @@
 //! Where a large body goes while it is written.
 ghost use Rattle.std.specs.Prelude.{◌≡◌, []};
-ghost use Rattle.std.specs.Bool.{OnTrue};
+ghost use Rattle.std.specs.Bool.{OnTrue, OnFalse};
 ghost use Rattle.walrus_emit_state.specs.Emission.{Output};
-ghost use Rattle.walrus_flat.specs.Sinks.{IsLeft, no_output, joined_outputs};
+ghost use Rattle.walrus_flat.specs.Sinks.{IsLeft, IsLast, no_output, joined_outputs};
 
 use walrus_emit_state::Draft;
 use walrus_ir::InstrLocId;
@@ -14,6 +14,9 @@ pub trait ByteSink {
     // one.
     ghost takes: { Self → Self → Output → Type 0 };
 
+    // In this state it didn't take these bytes and these pairs, and is in that one.
+    ghost refuses: { Self → Self → Output → Type 0 } = { λ s t o. Unit {0} };
+
     /// How many bytes of a source are read before what is written of them is taken, or all.
     const MOST: usize;
 
@@ -22,6 +25,8 @@ pub trait ByteSink {
     /// not, the sink knows why.
     fn take(&mut self, bytes: &mut Vec<u8>, pairs: &mut Vec<(InstrLocId, usize)>) -> bool
         ensures taken { OnTrue result (takes self.old self.new
+            (record { bytes = bytes.old.items; pairs = pairs.old.items })) }
+        ensures not_taken { OnFalse result (refuses self.old self.new
             (record { bytes = bytes.old.items; pairs = pairs.old.items })) }
         ensures no_bytes { OnTrue result (bytes.new.items ≡ []) }
         ensures no_pairs { OnTrue result (pairs.new.items ≡ []) };
@@ -41,6 +46,8 @@ impl ByteSink for InMemory {
 
     ghost takes = { λ a b o. o ≡ no_output };
 
+    ghost refuses = { λ a b o. b ≡ a };
+
     const MOST: usize = usize::MAX;
 
     fn take(&mut self, _bytes: &mut Vec<u8>, _pairs: &mut Vec<(InstrLocId, usize)>) -> bool {
@@ -56,7 +63,8 @@ impl ByteSink for InMemory {
 /// Returns whether it did what it should.
 #[inline(always)]
 pub(crate) fn pass_to<S: ByteSink>(draft: &mut Draft, sink: &mut S) -> bool
-    ensures { OnTrue result (IsLeft S.takes sink.old sink.new draft.old draft.new) }
+    ensures passes { OnTrue result (IsLeft S.takes sink.old sink.new draft.old draft.new) }
+    ensures stays { OnFalse result (IsLast S.refuses sink.old sink.new draft.old) }
 {
     if S::MOST == usize::MAX {
         return true;

@@ -14,9 +14,9 @@ ghost use Rattle.walrus_rewrite.specs.Errors.{IsOutOfMemory};
 ghost use Rattle.walrus_rewrite.specs.RewrittenBodies.{RefusesRewriting, IsOfWriting};
 ghost use Rattle.walrus_flat.specs.UsedLocals.{is_used, entries_of};
 ghost use Rattle.walrus_flat.specs.Written.{flat_state_of};
-ghost use Rattle.walrus_flat.specs.WrittenBody.{source_again, IsAcceptedBody, WritesBody, RefusesWriting};
-ghost use Rattle.walrus_flat.specs.Sinks.{OfWhole};
-ghost use Rattle.walrus_flat.specs.RewrittenFlat.{target_input, Composes, WritesAll, IsNotAllWritten, FinishesTo, IsUntouched, FinishesBytes, FinishesBoth, RewritesFlat, RewritesTo};
+ghost use Rattle.walrus_flat.specs.WrittenBody.{source_again, IsAcceptedBody, WritesBody, WritesFirst, RefusesWriting};
+ghost use Rattle.walrus_flat.specs.Sinks.{OfWhole, TookFront};
+ghost use Rattle.walrus_flat.specs.RewrittenFlat.{target_input, Composes, WritesAll, WritesPart, IsNotAllWritten, FinishesTo, EndsAlike, LeavesSink, FinishesBytes, FinishesBoth, RewritesFlat, RewritesTo};
 
 use crate::body_indices::BodyIndices;
 use crate::byte_sink::{ByteSink, InMemory};
@@ -73,6 +73,9 @@ fn write<'a, F: Fn(&usize) -> InstrLocId, S: ByteSink>(
     ensures err { IfErr result (λ e. (e ≡ Memory) ⊎ RefusesWriting F.Fn
         (source_again source.entry) (numbers_by source.entry.«module».now.types
         target.entry.out.now (entries_of locals.now)) e) }
+    ensures leaves { IfErr result (TookFront S.takes S.refuses sink.old sink.new (WritesFirst F.Fn
+        (source_again source.entry) (numbers_by source.entry.«module».now.types
+        target.entry.out.now (entries_of locals.now)) draft)) }
 {
     let alloc = *scratch.sequences.allocator();
     let open = match begin_sequences(alloc, scratch) {
@@ -180,6 +183,10 @@ fn write_checked<F: Fn(&usize) -> InstrLocId, S: ByteSink>(
         (target_input source.now.«module».now target.now)
         (numbers_by source.now.«module».now.types target.now.out.now)
         (is_used scratch.old.used)) }
+    ensures leaves { IfErr result (λ e. (sink.new ≡ sink.old) ⊎ TookFront S.takes S.refuses
+        sink.old sink.new (WritesPart F.Fn (source_again source.now)
+        (target_input source.now.«module».now target.now) draft.has_map
+        (numbers_by source.now.«module».now.types target.now.out.now) (is_used scratch.old.used)) e) }
 {
     let has_map = draft.has_map();
     let (mut bytes, mut pairs) = draft.into_lists();
@@ -215,7 +222,9 @@ fn write_body<V: OpCheck, F: Fn(&usize) -> InstrLocId, S: ByteSink>(
         draft.has_map)) }
     ensures err { IfErr result (RefusesRewriting F.Fn (source_input source.now V.check
         (V.state validator)) (target_input source.now.«module».now target.now)) }
-    ensures untouched { IfErr result (IsUntouched sink.old sink.new) }
+    ensures leaves { IfErr result (LeavesSink F.Fn (source_input source.now V.check
+        (V.state validator)) (target_input source.now.«module».now target.now) S.takes S.refuses
+        sink.old sink.new draft.has_map) }
 {
     law_bytes(source.ops);
     match check(source, validator, scratch) {
@@ -382,7 +391,8 @@ fn finish_to<S: ByteSink>(
     sink: &mut S,
 ) -> Result<(), RewriteError>
     ensures finishes { FinishesTo (S.takes sink.old sink.new) made result }
-    ensures untouched { IfErr result (IsUntouched sink.old sink.new) }
+    ensures ends { EndsAlike S.refuses sink.old sink.new made result }
+    ensures buffer { buffer.old.items ≡ [] → buffer.new.items ≡ [] }
 {
     match made {
         Ok(draft) => {
@@ -398,12 +408,14 @@ fn finish_to<S: ByteSink>(
 }
 
 /// Rewrites a function's body as `rewrite_flat` does, to a sink, which takes the bytes, and the pairs if
-/// they are wanted, while they are written. The buffer is a list for bytes, whose contents don't matter.
+/// they are wanted, while they are written. The buffer is a list for bytes, whose contents don't matter;
+/// it is empty afterwards.
 ///
 /// # Errors
 ///
 /// Those of `rewrite_flat`, and `Memory` also where the sink couldn't take bytes. If the body isn't
-/// accepted the sink takes nothing; after another error it may have taken a part of the body.
+/// accepted the sink takes nothing; after another error it has taken nothing, or a front of the bytes
+/// and of the pairs that are written of the body, or of its operators up to the fault.
 pub fn rewrite_flat_to<V: OpCheck, F: Fn(&usize) -> InstrLocId, S: ByteSink>(
     module: &Module,
     indices: &IndicesToIds,
@@ -435,7 +447,11 @@ pub fn rewrite_flat_to<V: OpCheck, F: Fn(&usize) -> InstrLocId, S: ByteSink>(
     ensures each_fault { IfFirstFault (body_input «module».now indices.now id ty body.entry
         on_instr_pos.entry V.check (V.state validator))
         (λ f. IsErr result × IfErr result (λ e. IsOutOfMemory e ⊎ (e ≡ Parse f))) }
-    ensures untouched { IfErr result (IsUntouched sink.old sink.new) }
+    // If the body isn't accepted the sink took nothing; else it took a front of what would be
+    // written, or nothing.
+    ensures leaves { IfErr result (LeavesSink F.Fn (body_input «module».now indices.now id ty
+        body.entry on_instr_pos.entry V.check (V.state validator)) (input_for out.now «module».now args.now) S.takes S.refuses sink.old sink.new needs_pairs) }
+    ensures buffer { buffer.new.items ≡ [] }
 {
     let alloc = *buffer.allocator();
     let start = body.start + body.ops;

@@ -107,7 +107,7 @@ pub(crate) fn write_operators<F: Fn(&usize) -> InstrLocId, S: ByteSink>(
         writer.old.«module».now.code_section_offset on_instr_pos) }
     ensures { WritesOperators F.Fn (again (env_at writer.old writer.old.ty) reader.old
         writer.old.«module».now.code_section_offset on_instr_pos.entry) (numbers_of_writer writer.old)
-        S.takes sink.old sink.new writer.old.draft writer.new.draft result }
+        S.takes S.refuses sink.old sink.new writer.old.draft writer.new.draft result }
 {
     while !reader.eof() {
         if !pass_to(&mut writer.draft, sink) {

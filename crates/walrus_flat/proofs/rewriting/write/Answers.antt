@@ -5,8 +5,10 @@ use Rattle.walrus_parser.specs.BodySources.{source_environment}
 use Rattle.walrus_numbering.specs.NumberMaps.{numbers_by}
 use Rattle.walrus_validators.specs.Locating.{MayCall}
 use Rattle.walrus_flat.specs.UsedLocals.{entries_of}
-use Rattle.walrus_flat.specs.Sinks.{OfWhole}
-use Rattle.walrus_flat.specs.WrittenBody.{again, IsAcceptedBody, WritesBody, RefusesWriting}
+use Rattle.walrus_flat.specs.Sinks.{OfWhole, TookFront}
+use Rattle.walrus_flat.specs.WrittenBody.{again, source_again, IsAcceptedBody, WritesBody, WritesFirst, RefusesWriting}
+use Rattle.walrus_flat.proofs.SinkLemmas.{nothing_offered}
+use Rattle.walrus_flat.proofs.WrittenLoop.{none_written}
 use Rattle.walrus_flat.proofs.rewriting.write.Goals as goal
 
 pub write_operators-requires-clause-begins : goal.write_operators-requires-clause-begins
@@ -38,4 +40,22 @@ returns-in-Err-write_operators-clause-err g c =
     let s = a.source in
     let to = numbers_by s.module.now.types a.target.out.now (entries_of a.locals.now) in
     subst (λ (p : Position). (c.in-Err-write_operators.fault ≡ Memory) ⊎ RefusesWriting g.F.Fn (again (source_environment s) p s.module.now.code_section_offset s.on_instr_pos) to c.in-Err-write_operators.fault)
-    c.new-reader.ensures c.in-Err-write_operators.ensures
+    c.new-reader.ensures c.in-Err-write_operators.ensures.0
+
+pub returns-in-Err-write_operators-clause-leaves : goal.returns-in-Err-write_operators-clause-leaves
+returns-in-Err-write_operators-clause-leaves g c =
+    let a = c.args in
+    let s = a.source in
+    let to = numbers_by s.module.now.types a.target.out.now (entries_of a.locals.now) in
+    let k = g.S.ByteSink in
+    subst (λ (p : Position). TookFront k.takes k.refuses a.sink.now c.write_operators.new.sink (WritesFirst g.F.Fn (again (source_environment s) p s.module.now.code_section_offset s.on_instr_pos) to a.draft) c.in-Err-write_operators.fault)
+    c.new-reader.ensures c.in-Err-write_operators.ensures.1
+
+pub returns-in-Err-clause-leaves : goal.returns-in-Err-clause-leaves
+returns-in-Err-clause-leaves g c =
+    let a = c.args in
+    let s = a.source in
+    let to = numbers_by s.module.now.types a.target.out.now (entries_of a.locals.now) in
+    let k = g.S.ByteSink in
+    nothing_offered k.takes k.refuses a.sink.now a.sink.now _ c.in-Err.fault a.draft (g.met.S.ByteSink.nothing a.sink.now)
+    (none_written g.F.Fn (source_again s) to c.requires.accepted a.draft)

@@ -1,8 +1,8 @@
-use Rattle.std.proofs.Common.{refl}
+use Rattle.std.proofs.Common.{refl, inl, inr}
 use Rattle.walrus_parser.specs.BodySources.{source_input}
 use Rattle.walrus_flat.specs.UsedLocals.{is_used}
-use Rattle.walrus_flat.proofs.FlatBodies.{refuses_body, is_accepted, composed, refused}
-use Rattle.walrus_flat.proofs.SinkLemmas.{of_whole}
+use Rattle.walrus_flat.proofs.FlatBodies.{refuses_body, is_accepted, composed, composed_front, refused}
+use Rattle.walrus_flat.proofs.SinkLemmas.{of_whole, took_front}
 use Rattle.walrus_flat.proofs.rewriting.write_body.Goals as goal
 
 pub write_checked-requires-clause-accepted : goal.write_checked-requires-clause-accepted
@@ -37,3 +37,15 @@ returns-in-Err-write_checked-clause-err g c =
     let i = source_input s g.V.OpCheck.check (g.V.OpCheck.state a.validator) in
     let used = is_used c.check.new.scratch.used in
     refused g.F.Fn i s.module.now a.target.now.out.now a.target.now.args.now used c.in-Ok.ensures c.in-Err-write_checked.fault c.in-Err-write_checked.ensures.err
+
+pub returns-in-Err-write_checked-clause-leaves : goal.returns-in-Err-write_checked-clause-leaves
+returns-in-Err-write_checked-clause-leaves g c =
+    let a = c.args in
+    let s = a.source.now in
+    let i = source_input s g.V.OpCheck.check (g.V.OpCheck.state a.validator) in
+    let used = is_used c.check.new.scratch.used in
+    elim c.in-Err-write_checked.ensures.leaves [
+      | inl same ↦ inl same
+      | inr front ↦ inr (took_front g.S.ByteSink.takes g.S.ByteSink.refuses a.sink.now c.write_checked.new.sink c.in-Err-write_checked.fault
+          (λ d part. inr (composed_front g.F.Fn i s.module.now a.target.now.out.now a.target.now.args.now used c.in-Ok.ensures a.draft.has_map d part)) front)
+    ]
