@@ -8,7 +8,7 @@ use Rattle.wasm_module.specs.declared.parsed.ParsedModule.{ParsedModule}
 use Rattle.wasm_sections.specs.declared.sections.SectionKind.{SectionKind}
 use Rattle.wasm_sections.specs.declared.sections.SectionKind.TheVariants as section
 use Rattle.wasm_sections.specs.Additions.{AddsItem}
-use Rattle.wasm_sections.specs.MovedFunctions.{AreMovedContents, AreRenumbered, import_of}
+use Rattle.wasm_sections.specs.MovedFunctions.{AreMovedContents, ImportsOneMore, import_of}
 use Rattle.wasm_sections.specs.Sections.{SectionAt, first_with, section_id}
 use Rattle.wasm_sections.specs.GivenContents.{contents_in}
 
@@ -61,13 +61,8 @@ pub record AddsImport (source : ParsedModule) (from name : List ℕ) (ty : ℕ) 
 
 -- One more function is imported: the module is the same, but for the written indices of functions.
 pub record HasOneImportMore (old new : ParsedModule) : Type 0 where
-  pub bytes : new.bytes.now ≡ old.bytes.now
-  pub same_module : new.module ≡ old.module
-  pub indices : new.spaces.indices ≡ old.spaces.indices
-  pub func_types : new.func_types ≡ old.func_types
-  pub imported : new.imported ≡ old.imported
-  pub more : new.spaces.more_imports ≡ old.spaces.more_imports + 1
-  pub numbers : AreRenumbered (length old.func_types.items) old.imported new.spaces.more_imports new.spaces.numbers
+  pub kept : new ≡ record old { spaces = new.spaces }
+  pub imports : ImportsOneMore (length old.func_types.items) old.imported old.spaces new.spaces
 
 -- A function has this index in the module that is written: its id, unless functions were imported besides those of the source.
 pub record IsWrittenFunction (source : ParsedModule) (id index : ℕ) : Type 0 where

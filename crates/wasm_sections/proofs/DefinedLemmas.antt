@@ -1,12 +1,13 @@
 -- Numbers of other spaces where one space gets a number, and data segments that get numbers one after the other.
-use Rattle.std.proofs.Common.{◌≡◌, ◌≤◌, ◌+◌, ◌==◌, ℕ, Bool, true, false, cond, Option, Some, Ok, refl, sym, ap, ◌∙◌, inl, inr, arith}
+use Rattle.std.proofs.Common.{rules, ◌≡◌, ◌≢◌, ◌≤◌, ◌+◌, ◌==◌, ℕ, Bool, true, false, cond, Option, Some, Result, Ok, refl, sym, ap, ◌∙◌, inl, inr, arith}
 use Rattle.std.specs.Ordering.{nat_cmp}
 use Rattle.std.specs.Cmp.{nat_cmp_total, unsigned_tied}
-use Rattle.std.specs.FinMap.{FinMap, get, insert, get-insert}
+use Rattle.std.specs.FinMap.{FinMap, get, insert, len, get-insert}
 use Rattle.std.proofs.lemmas.Bool.{eq-eqb, ne_eqb, cases_eq}
 use Rattle.wasm_numbers.specs.Results.{some_or}
 use Rattle.wasm_operators.specs.declared.types.Space.{Space}
 use Rattle.wasm_operators.specs.declared.types.Space.TheVariants.{Types, Funcs, Tables, Memories, Globals, Tags, Elements, Data}
+use Rattle.wasm_body.specs.declared.error.IndexError.{IndexError}
 use Rattle.wasm_body.specs.declared.error.IndexError.TheVariants.{Unnumbered}
 use Rattle.walrus_maps.specs.declared.ids_to_indices.IdsToIndices.{IdsToIndices}
 use Rattle.walrus_maps.specs.IndexMaps.{numbers_in, number_of, with_numbers, with_next_number, with_number}
@@ -114,3 +115,24 @@ one_numbered count id old middle new same from p d =
 
 pub all_numbered : (reached count : ℕ) (old new : Spaces) → count ≤ reached → NumbersData reached old new → NumbersData count old new
 all_numbered reached count old new h p = record { numbers = λ id low high. p.numbers id low (omega (arith, h, high)); earlier = p.earlier }
+
+-- ---- refusals
+
+-- after one more id got a number, it has the number of ids that had one before
+next_number : (m : FinMap nat_cmp ℕ) (id : ℕ) → get (insert m id (len m)) id ≡ Some (len m)
+next_number m id = got_one m id (len m) id true (eq-eqb id id refl)
+
+module _ (space : Space) (m : FinMap nat_cmp ℕ) (id : ℕ) where
+  -- something is found
+  pub found : some_or (get (insert m id (len m)) id) (Unnumbered space) ≡ Ok (len m)
+  found = ap (λ (o : Option ℕ). some_or o (Unnumbered space)) (next_number m id)
+
+  same_found : (n : ℕ) (r : Result ℕ IndexError) → r ≡ Ok n → r ≡ some_or (get (insert m id (len m)) id) (Unnumbered space) → n ≡ len m
+  same_found n r is by = let both : ◌≡◌ {A = Result ℕ IndexError} (Ok n) (Ok (len m)) = sym is ∙ by ∙ found in ok_same both
+    where
+      ok_same : {E : Type 0} {a b : ℕ} → ◌≡◌ {A = Result ℕ E} (Ok a) (Ok b) → a ≡ b
+      ok_same {E} h = search rules
+
+  -- what is found is another number than the id
+  pub other_next : (n : ℕ) (r : Result ℕ IndexError) → r ≡ Ok n → r ≡ some_or (get (insert m id (len m)) id) (Unnumbered space) → (n ≡ id → ⊥) → len m ≢ id
+  other_next n r is by differs same = differs (same_found n r is by ∙ same)

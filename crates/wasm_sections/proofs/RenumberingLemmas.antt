@@ -1,17 +1,20 @@
 -- Functions that get the next numbers, one after the other; and the numbers of all functions after three such runs.
-use Rattle.std.proofs.Common.{◌≡◌, ℕ, ◌+◌, ◌-◌, ◌<◌, ◌≤◌, Bool, true, false, cond, nat_lt, if◌then◌else◌, Option, Some, None, is_some, Result, Ok, Err, refl, sym, ap, subst, ◌∙◌, inl, inr, arith}
+use Rattle.std.proofs.Common.{◌≡◌, ◌⊎◌, ℕ, ◌+◌, ◌-◌, ◌<◌, ◌≤◌, ◌^◌, Bool, true, false, cond, nat_lt, if◌then◌else◌, Option, Some, None, is_some, Result, Ok, Err, refl, sym, ap, subst, ◌∙◌, inl, inr, arith}
+use Rattle.std.specs.Result.{OnOk, IfErr}
 use Rattle.std.specs.Ordering.{nat_cmp}
 use Rattle.std.specs.Cmp.{nat_cmp_total}
-use Rattle.std.specs.FinMap.{FinMap, empty, get, len, len-insert, len-empty}
+use Rattle.std.specs.FinMap.{FinMap, empty, get, len, len-insert, len-empty, get-empty}
 use Rattle.std.proofs.lemmas.Bool.{eq-eqb, ne_eqb, cases_eq}
 use Rattle.std.proofs.lemmas.Bool.Decides.{nat_tests}
 use Rattle.wasm_numbers.specs.Results.{some_or}
 use Rattle.wasm_operators.specs.declared.types.Space.TheVariants.{Funcs}
+use Rattle.wasm_body.specs.declared.error.IndexError.{IndexError}
 use Rattle.wasm_body.specs.declared.error.IndexError.TheVariants.{Unnumbered}
+use Rattle.wasm_body.specs.declared.error.IndexError.TheVariants as index
 use Rattle.walrus_maps.specs.declared.ids_to_indices.IdsToIndices.{IdsToIndices}
 use Rattle.walrus_maps.specs.IndexMaps.{numbers_in, numbered, number_of}
 use Rattle.walrus_maps.proofs.NumberingLemmas.{get-numbered}
-use Rattle.wasm_sections.specs.MovedFunctions.{ArePushed, AreRenumbered}
+use Rattle.wasm_sections.specs.MovedFunctions.{ArePushed, AreUnnumbered, NoNumbersFor, AreRenumbered, NoImportMore}
 
 abbrev Numbers : Type 0
 Numbers = FinMap nat_cmp ℕ
@@ -91,3 +94,48 @@ module _ (total imported added end : ℕ) (zeroth one two : Numbers) (m : IdsToI
 
   pub renumbered : AreRenumbered total imported added m
   renumbered = record { source = λ id high. of_source id high (nat_lt id imported) refl; more = of_added }
+
+-- the same in maps with these numbers of functions
+pub renumbered_in :
+    (total imported added : ℕ) (m n : IdsToIndices) → numbers_in n Funcs ≡ numbers_in m Funcs → AreRenumbered total imported added m → AreRenumbered total imported added n
+renumbered_in total imported added m n e a =
+    let same : (id : ℕ) → number_of n Funcs id ≡ number_of m Funcs id = λ id. ap (λ (f : Numbers). some_or (get f id) (Unnumbered Funcs)) e in
+    record { source = λ id high. same id ∙ a.source id high; more = λ id high. same (total + id) ∙ a.more id high }
+
+-- ---- refusals
+
+module _ (total imported added end : ℕ) (e : IndexError) (zeroth one two : Numbers) (fits : imported ≤ total) (end_is : end ≡ total + added) (none : zeroth ≡ empty) where
+  free : (id : ℕ) → get zeroth id ≡ None
+  free id = ap (λ (m : Numbers). get m id) none ∙ get-empty nat_cmp id
+
+  no_count : len zeroth ≡ 0
+  no_count = ap len none ∙ len-empty nat_cmp ℕ
+
+  too_many : (count : ℕ) → count ≤ total + added → (e ≡ index.Memory) ⊎ ((e ≡ index.TooMany) × (2 ^ 32 < count)) → NoImportMore total imported added e
+  too_many count most h = elim h [ inl memory ↦ inl memory | inr many ↦ inr (many.0, inr (omega (arith, many.1, most))) ]
+
+  pub first_refused : (AreUnnumbered 0 imported zeroth → NoNumbersFor 0 imported zeroth e) → NoImportMore total imported added e
+  first_refused h = too_many (len zeroth + (imported - 0)) (omega (arith, no_count, fits)) (h (omega arith, λ id low high. free id))
+
+  module _ (p : ArePushed 0 imported zeroth one) where
+    free_after : (id : ℕ) → imported ≤ id → get one id ≡ None
+    free_after id low = p.higher id low ∙ free id
+
+    pub second_refused : (AreUnnumbered total end one → NoNumbersFor total end one e) → NoImportMore total imported added e
+    second_refused h =
+        too_many (len one + (end - total)) (omega (arith, no_count, p.count, fits, end_is)) (h (omega (arith, end_is), λ id low high. free_after id (omega (arith, low, fits))))
+
+    pub third_refused : ArePushed total end one two → (AreUnnumbered imported total two → NoNumbersFor imported total two e) → NoImportMore total imported added e
+    third_refused q h =
+        too_many (len two + (total - imported)) (omega (arith, no_count, p.count, q.count, fits, end_is))
+        (h (fits, λ id low high. q.lower id high ∙ free_after id low))
+
+-- ---- by the result of the last run
+
+pub all_numbered : {U : Type 0} {P Q : Type 0} (r : Result U IndexError) → (P → Q) → OnOk r P → OnOk r Q
+all_numbered (Ok u) f p = f p
+all_numbered (Err e) f p = tt
+
+pub all_refused : {U : Type 0} {P : Type 0} {Q R : IndexError → Type 0} (r : Result U IndexError) → ((e : IndexError) → (P → Q e) → R e) → (P → IfErr r Q) → IfErr r R
+all_refused (Ok u) f h = tt
+all_refused (Err e) f h = f e h

@@ -203,6 +203,15 @@ export_rows = (0, spaces.Funcs) ∷ (1, spaces.Tables) ∷ (2, spaces.Memories) 
 abbrev pub export_space : (kind : ℕ) → Result Space ModuleFault
 export_space kind = some_or (row_at export_rows kind) fault.BadExportKind
 
+-- the kind of an export of something in this index space, if there is one
+abbrev pub kind_of_export : Space → Option ℕ
+kind_of_export spaces.Funcs = Some 0
+kind_of_export spaces.Tables = Some 1
+kind_of_export spaces.Memories = Some 2
+kind_of_export spaces.Globals = Some 3
+kind_of_export spaces.Tags = Some 4
+kind_of_export _ = None
+
 -- an export: its name, and the index space and the index of what it names
 abbrev pub export_part : Part (List ℕ × Space × ℕ)
 export_part = name_part >=> λ name. checked one_byte export_space >=> λ space. number >=> λ index. just (name, space, index)

@@ -1,7 +1,7 @@
 -- Sections in which the indices of functions are others, since functions are imported (WebAssembly core specification 3.0,
 -- binary format, modules). Numbers of items, sizes of names, and indices are written in their shortest encodings; everything else
 -- is the same.
-use Rattle.std.specs.Prelude.{◌≡◌, ◌≢◌, ◌+◌, ◌-◌, ◌<◌, ◌≤◌, ◌%◌, ℕ, zero, suc, Bool, true, false, List, [], ◌∷◌, ◌++◌, length, get_or, ◌==◌, nat_lt, nat_le, if◌then◌else◌, Some, Ok}
+use Rattle.std.specs.Prelude.{◌≡◌, ◌≢◌, ◌⊎◌, ◌+◌, ◌-◌, ◌<◌, ◌≤◌, ◌^◌, ◌%◌, ℕ, zero, suc, Bool, true, false, List, [], ◌∷◌, ◌++◌, length, get_or, ◌==◌, nat_lt, nat_le, if◌then◌else◌, Some, None, Ok}
 use Rattle.std.specs.Ordering.{nat_cmp}
 use Rattle.std.specs.FinMap.{FinMap, get, len}
 use Rattle.wasm_numbers.specs.Numbers.{u32}
@@ -10,9 +10,12 @@ use Rattle.wasm_operators.specs.Shortest.{short_number}
 use Rattle.wasm_operators.specs.Spelling.{Spells}
 use Rattle.wasm_operators.specs.declared.types.Space.TheVariants.{Funcs}
 use Rattle.walrus_maps.specs.declared.ids_to_indices.IdsToIndices.{IdsToIndices}
-use Rattle.walrus_maps.specs.IndexMaps.{numbers_in, number_of}
+use Rattle.walrus_maps.specs.IndexMaps.{numbers_in, with_numbers, number_of}
 use Rattle.wasm_sections.specs.declared.globals.GlobalType.{GlobalType}
+use Rattle.wasm_body.specs.declared.error.IndexError.{IndexError}
+use Rattle.wasm_body.specs.declared.error.IndexError.TheVariants as index
 use Rattle.wasm_sections.specs.declared.sections.SectionKind.{SectionKind}
+use Rattle.wasm_sections.specs.declared.spaces.Spaces.{Spaces}
 use Rattle.wasm_sections.specs.declared.sections.SectionKind.TheVariants as section
 use Rattle.wasm_sections.specs.CodeSections.{entry}
 use Rattle.wasm_sections.specs.Parts.{Part}
@@ -183,12 +186,32 @@ pub record ArePushed (first end : ℕ) (old new : FinMap nat_cmp ℕ) : Type 0 w
   pub lower : (id : ℕ) → id < first → get new id ≡ get old id
   pub higher : (id : ℕ) → end ≤ id → get new id ≡ get old id
 
--- The numbers of functions are the same.
-abbrev pub KeepFunctions : (old new : IdsToIndices) → Type 0
-KeepFunctions old new = numbers_in new Funcs ≡ numbers_in old Funcs
+-- None of these functions has a number.
+abbrev pub AreUnnumbered : (first end : ℕ) → FinMap nat_cmp ℕ → Type 0
+AreUnnumbered first end numbers = (first ≤ end) × ((id : ℕ) → first ≤ id → id < end → get numbers id ≡ None)
+
+-- why these functions don't get numbers: memory ran out, or more than 2^32 functions would have one
+abbrev pub NoNumbersFor : (first end : ℕ) → FinMap nat_cmp ℕ → IndexError → Type 0
+NoNumbersFor first end numbers e = (e ≡ index.Memory) ⊎ ((e ≡ index.TooMany) × (2 ^ 32 < len numbers + (end - first)))
 
 -- The functions of the source, of which so many are imported, have these written indices, and so have those that are imported
 -- besides, whose ids come after all others.
 pub record AreRenumbered (total imported added : ℕ) (m : IdsToIndices) : Type 0 where
   pub source : (id : ℕ) → id < total → number_of m Funcs id ≡ Ok (moved_function imported added id)
   pub more : (id : ℕ) → id < added → number_of m Funcs (total + id) ≡ Ok (imported + id)
+
+-- Why no further function is imported: memory ran out, or there would be more than 2^32 functions. A source has at least as many
+-- functions as it imports.
+abbrev pub NoImportMore : (total imported added : ℕ) → IndexError → Type 0
+NoImportMore total imported added e =
+    (e ≡ index.Memory) ⊎ ((e ≡ index.TooMany) × ((total < imported) ⊎ (2 ^ 32 < total + added)))
+
+-- One more function is imported: functions have the indices that follow, and all else stays.
+pub record ImportsOneMore (total imported : ℕ) (old new : Spaces) : Type 0 where
+  pub indices : new.indices ≡ old.indices
+  pub numbers : AreRenumbered total imported (old.more_imports + 1) new.numbers
+  pub others : new.numbers ≡ with_numbers Funcs (numbers_in new.numbers Funcs) old.numbers
+  pub counts : new.counts ≡ old.counts
+  pub more_imports : new.more_imports ≡ old.more_imports + 1
+  pub more_functions : new.more_functions ≡ old.more_functions
+  pub locals : new.locals ≡ old.locals

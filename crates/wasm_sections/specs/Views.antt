@@ -3,7 +3,6 @@
 use Rattle.std.specs.Prelude.{◌≡◌, ◌≢◌, ◌<◌, ◌⊎◌, ◌+◌, ◌-◌, ℕ, List, [], ◌∷◌, ◌++◌, length, Bool, true, false, nat_lt, option_map, Option, Some, None, Result, Ok, Err}
 use Rattle.wasm_numbers.specs.Numbers.{u32}
 use Rattle.wasm_operators.specs.declared.types.Space.{Space}
-use Rattle.wasm_operators.specs.declared.types.Space.TheVariants as spaces
 use Rattle.wasm_sections.specs.declared.code.Bodies.{Bodies}
 use Rattle.wasm_sections.specs.declared.code.Body.{Body}
 use Rattle.wasm_sections.specs.declared.exports.Export.{Export}
@@ -28,7 +27,7 @@ use Rattle.wasm_sections.specs.declared.tags.DefinedTag.{DefinedTag}
 use Rattle.wasm_sections.specs.declared.tags.Tags.{Tags}
 use Rattle.wasm_sections.specs.declared.items.Items.{Items}
 use Rattle.wasm_sections.specs.CodeSections.{TakesBody}
-use Rattle.wasm_sections.specs.Format.{export_part, import_part, table_part, limits_part, global_part, tag_part}
+use Rattle.wasm_sections.specs.Format.{kind_of_export, export_part, import_part, table_part, limits_part, global_part, tag_part}
 use Rattle.wasm_sections.specs.Parts.{Part}
 use Rattle.wasm_sections.specs.Sections.{SectionAt}
 
@@ -58,12 +57,7 @@ place_of_items s = s.left.end - length s.left.rest.now
 
 -- the kind of an export that names something in this index space
 abbrev pub IsExportKind : Space → (kind : ℕ) → Type 0
-IsExportKind spaces.Funcs kind = kind ≡ 0
-IsExportKind spaces.Tables kind = kind ≡ 1
-IsExportKind spaces.Memories kind = kind ≡ 2
-IsExportKind spaces.Globals kind = kind ≡ 3
-IsExportKind spaces.Tags kind = kind ≡ 4
-IsExportKind _ kind = ⊥
+IsExportKind space kind = kind_of_export space ≡ Some kind
 
 -- ---- exports, imports, tables, memories, globals and tags, by how they are read
 

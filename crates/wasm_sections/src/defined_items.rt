@@ -2,10 +2,11 @@
 //! of the source, so that no body of the source can name it (WebAssembly core specification 3.0,
 //! structure, modules, indices).
 
-ghost use Rattle.std.specs.Prelude.{◌≡◌, OnOk, IfOk, IsErr, IsOk};
+ghost use Rattle.std.specs.Prelude.{◌≡◌, ◌⊎◌, ◌≤◌, ◌^◌, OnOk, IfOk, IfErr, IsErr, IsOk};
+ghost use Rattle.wasm_body.specs.declared.error.IndexError.TheVariants as index;
 ghost use Rattle.wasm_operators.specs.declared.types.Space.TheVariants.{Types, Globals, Data};
 ghost use Rattle.walrus_maps.specs.IndexMaps.{number_of};
-ghost use Rattle.wasm_sections.specs.DefinedItems.{DefinesType, DefinesGlobal, DefinesData, ChangesNumbersOf};
+ghost use Rattle.wasm_sections.specs.DefinedItems.{DefinesType, DefinesGlobal, DefinesData, ChangesNumbersOf, NoNextNumber, NoNextOwnNumber};
 
 use crate::spaces::Spaces;
 use walrus_ir::{DataId, GlobalId, TypeId};
@@ -21,17 +22,13 @@ impl Spaces {
         ensures defined { IsErr (number_of self.old.numbers Types id)
             → OnOk result (DefinesType id self.old self.new) }
         ensures had { IsOk (number_of self.old.numbers Types id) → self.new ≡ self.old }
+        ensures has { IsOk (number_of self.old.numbers Types id) → IsOk result }
+        ensures refused { IfErr result (NoNextNumber Types self.old) }
         ensures kept { ChangesNumbersOf Types self.old self.new }
     {
         match self.numbers.get_type_index(id) {
             Ok(_) => Ok(()),
-            Err(_) => match self.numbers.push_type(id) {
-                Ok(()) => match self.defined_types.push(id) {
-                    Ok(()) => Ok(()),
-                    Err(_) => Err(IndexError::Memory),
-                },
-                Err(error) => Err(error),
-            },
+            Err(_) => self.numbers.push_type(id),
         }
     }
 
@@ -42,6 +39,8 @@ impl Spaces {
     /// `TooMany` if there are 2^32 globals; or `Memory`.
     pub fn define_global(&mut self) -> Result<GlobalId, IndexError>
         ensures defined { IfOk result (λ id. DefinesGlobal id self.old self.new) }
+        ensures refused { IfErr result
+            (NoNextOwnNumber Globals self.old.counts.globals self.old) }
         ensures kept { ChangesNumbersOf Globals self.old self.new }
     {
         let index = self.counts.globals;
@@ -69,6 +68,8 @@ impl Spaces {
     /// `TooMany` if there are 2^32 data segments; or `Memory`.
     pub fn define_data(&mut self) -> Result<DataId, IndexError>
         ensures defined { IfOk result (λ id. DefinesData id self.old self.new) }
+        ensures refused { IfErr result (λ e. (e ≡ index.Memory)
+            ⊎ ((e ≡ index.TooMany) × (2 ^ 32 ≤ self.old.counts.«data»))) }
         ensures kept { ChangesNumbersOf Data self.old self.new }
     {
         let id = DataId::new(self.counts.data);

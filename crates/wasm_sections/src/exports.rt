@@ -1,11 +1,11 @@
 //! Exports (WebAssembly core specification 3.0, binary format, modules).
 
 ghost use Rattle.std.specs.Prelude.{◌≡◌, ◌-◌, length, IfOk, IfSome};
-ghost use Rattle.wasm_sections.specs.Views.{IsExportKind, export_value};
+ghost use Rattle.wasm_sections.specs.Views.{export_value};
 ghost use Rattle.wasm_numbers.specs.Results.{Gives, some_or};
 ghost use Rattle.walrus_maps.specs.IndexMaps.{ids_in};
 ghost use Rattle.wasm_sections.specs.declared.fault.ModuleFault.TheVariants.{BadExportKind};
-ghost use Rattle.wasm_sections.specs.Format.{export_space, id_found, export_part, index_part, known_export_part};
+ghost use Rattle.wasm_sections.specs.Format.{export_space, kind_of_export, id_found, export_part, index_part, known_export_part};
 
 use crate::fault::{ModuleError, ModuleFault};
 use crate::input::Input;
@@ -29,7 +29,7 @@ fn exported_space(kind: u8) -> Option<Space>
 
 /// The kind of an export that names something in this index space; `None` if none does.
 pub fn export_kind(space: Space) -> Option<u8>
-    ensures { IfSome result (λ kind. IsExportKind space kind) }
+    ensures { kind_of_export space ≡ result }
 {
     match space {
         Space::Funcs => Some(0),

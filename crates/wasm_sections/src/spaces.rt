@@ -1,6 +1,6 @@
 //! The index spaces of a module: everything in them keeps its index, unless functions are imported.
 
-ghost use Rattle.std.specs.Prelude.{◌≡◌, ◌<◌, ◌≤◌, ◌+◌, ◌-◌, ◌^◌, ℕ, Ok, length, IsErr, OnOk, OnErr, IfOk, IfErr, IfSome};
+ghost use Rattle.std.specs.Prelude.{◌≡◌, ◌<◌, ◌≤◌, ◌+◌, ◌-◌, ◌^◌, ℕ, Ok, length, IsErr, OnOk, OnErr, IfOk, IfErr, IfSome, IsNone};
 ghost use Rattle.wasm_body.specs.declared.error.IndexError.TheVariants as index;
 ghost use Rattle.wasm_operators.specs.declared.types.Space.TheVariants.{Types, Funcs, Tables, Memories, Globals, Tags, Elements, Data};
 ghost use Rattle.walrus_maps.specs.IndexMaps.{no_ids, ids_in, locals_in, local_of, numbers_in, number_of, with_number, with_next_number};
@@ -48,8 +48,6 @@ pub struct Spaces {
     pub more_imports: usize,
     /// The number of functions with a body that are added to those of the source.
     pub more_functions: usize,
-    /// The types that were added to those of the source, in the order of their written indices.
-    pub defined_types: Vec<TypeId>,
     /// The number of indices of locals with ids, which equal the indices.
     locals: usize,
     ghost local_ids: { locals_in indices 0 ≡ first_numbers locals },
@@ -85,6 +83,7 @@ macro_rules! add {
 fn next_func(total: usize, imports: usize, functions: usize) -> Option<usize>
     ensures sum { IfSome result (λ next. next ≡ total + (imports + functions)) }
     ensures few { IfSome result (λ next. next < 2 ^ 64 - 1) }
+    ensures none { IsNone result → 2 ^ 64 - 1 ≤ total + (imports + functions) }
 {
     let next = total.checked_add(imports.checked_add(functions)?)?;
     next.checked_add(1)?;
@@ -93,6 +92,7 @@ fn next_func(total: usize, imports: usize, functions: usize) -> Option<usize>
 
 impl Spaces {
     ghost use Rattle.wasm_sections.specs.NextItems.{no_counts, HasNextIndex, HasNextNumber, HasItemsOfOthers, NoNextItem};
+    ghost use Rattle.wasm_sections.specs.DefinedItems.{NoNextOwnNumber};
     ghost use Rattle.wasm_sections.specs.OtherLocals.{HasOtherLocals};
 
     /// Empty index spaces. This allocates nothing.
@@ -109,7 +109,6 @@ impl Spaces {
             counts: Counts::default(),
             more_imports: 0,
             more_functions: 0,
-            defined_types: Vec::new(alloc),
             locals: 0,
         }
     }
@@ -151,6 +150,8 @@ impl Spaces {
         ensures more { OnOk result (self.new.more_functions ≡ self.old.more_functions + 1) }
         ensures more_imports { self.new.more_imports ≡ self.old.more_imports }
         ensures indices { self.new.indices ≡ self.old.indices }
+        ensures refused { IfErr result (NoNextOwnNumber Funcs
+            (total + (self.old.more_imports + self.old.more_functions)) self.old) }
     {
         let Some(next) = next_func(total, self.more_imports, self.more_functions) else {
             return Err(IndexError::TooMany);
