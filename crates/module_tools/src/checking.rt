@@ -1,5 +1,11 @@
 //! Checking the bodies of a module, and saying which are refused.
 
+ghost use Rattle.std.specs.Prelude.{◌≡◌, ℕ, List, IfNone, IfOk};
+ghost use Rattle.wasm_sections.specs.CodeSections.{body_at};
+ghost use Rattle.wasm_module.specs.AcceptedModules.{AcceptsBodies};
+ghost use Rattle.wasm_module.specs.ReadFrom.{IsModuleOf};
+ghost use Rattle.wasm_module.specs.RewrittenCode.{Extends, IsAccepted};
+
 use crate::ending::{Attempt, FileFault, Item, ProgramFailure};
 use crate::names::{Bytes, FunctionNames, function_at};
 use crate::progress::Progress;
@@ -115,7 +121,11 @@ fn fault_of<'a>(
     parsed: &mut ParsedModule<'a>,
     body: Body<'a>,
     scratch: &mut Scratch,
-) -> Option<ModuleError> {
+) -> Option<ModuleError>
+    ensures extends { Extends parsed.old parsed.new }
+    ensures accepted { IfNone result
+        (IsAccepted parsed.old body.entry.func (body_at body.entry) parsed.new) }
+{
     match parsed.check(body, scratch) {
         Ok(()) => None,
         Err(error) => Some(error),
@@ -130,10 +140,13 @@ fn check_each<'w, R: Clock + Print + Eprint + AllocGlobal>(
     names: &FunctionNames<'_>,
     path: &'w str,
     progress: &Progress<'_, R>,
-) -> Result<usize, ProgramFailure<'w>> {
+) -> Result<usize, ProgramFailure<'w>>
+    ensures { (source : List ℕ) → IsModuleOf source parsed.old
+        → IfOk result (λ count. count ≡ 0 → AcceptsBodies parsed.old 0) }
+{
     let mut scratch = Scratch::new(rt.alloc());
     let mut count = 0usize;
-    for body in parsed.bodies() {
+    'bodies: for body in parsed.bodies() {
         progress.step();
         if let Some(error) = fault_of(parsed, body, &mut scratch) {
             if matches!(error.fault, ModuleFault::Memory) {
@@ -156,7 +169,10 @@ pub(crate) fn check_bodies<'w, R: Clock + Print + Eprint + AllocGlobal>(
     parsed: &mut ParsedModule<'_>,
     path: &'w str,
     progress: &Progress<'_, R>,
-) -> Result<usize, ProgramFailure<'w>> {
+) -> Result<usize, ProgramFailure<'w>>
+    ensures { (source : List ℕ) → IsModuleOf source parsed.old
+        → IfOk result (λ count. count ≡ 0 → AcceptsBodies parsed.old 0) }
+{
     let names = FunctionNames::read(rt.alloc(), parsed)?;
     check_each(rt, program, parsed, &names, path, progress)
 }

@@ -2,17 +2,17 @@
 use Rattle.std.proofs.Common.{◌≡◌, ℕ, ◌+◌, ◌-◌, ◌<◌, List, [], ◌∷◌, ◌++◌, length, Option, Some, Ok, refl, sym, ap, subst, ◌∙◌, append_assoc, length-append, suc, arith}
 use Rattle.std.proofs.lemmas.List.{append-nil}
 use Rattle.std.specs.Prelude.{◌^◌}
-use Rattle.wasm_numbers.specs.Numbers.{u32, unsigned}
-use Rattle.wasm_numbers.proofs.NumberLaws.{integers_agree}
+use Rattle.std.specs.List.{AllByRecursion}
+use Rattle.wasm_numbers.specs.Numbers.{u32}
 use Rattle.wasm_operators.specs.Shortest.{short_number}
-use Rattle.wasm_operators.proofs.ShortestNumbers.{unsigned_spelt}
 use Rattle.wasm_sections.specs.declared.code.Bodies.{Bodies}
 use Rattle.wasm_sections.specs.declared.code.Body.{Body}
 use Rattle.wasm_module.specs.declared.parsed.ParsedModule.{ParsedModule}
 use Rattle.wasm_sections.specs.CodeSections.{entry, entries, code_section, BodyAt, AreBodies, body_at, body_bytes, place_of, TakesBody}
 use Rattle.wasm_module.specs.RewrittenCode.{Extends}
 use Rattle.wasm_sections.specs.Sections.{SectionAt}
-use Rattle.wasm_module.specs.WrittenModules.{Puts, BodyWriting, AreWritten, HasItemsOf, IsWrittenCode, count_bodies}
+use Rattle.wasm_sections.proofs.NumberLemmas.{short_read}
+use Rattle.wasm_module.specs.WrittenModules.{Puts, FitsSize, BodyWriting, AreWritten, HasItemsOf, IsWrittenCode, count_bodies}
 use Rattle.wasm_module.proofs.WritingLemmas.{puts_then, puts_same}
 
 -- ---- one more after others
@@ -21,9 +21,9 @@ entries_more : (raws : List (List ℕ)) (raw : List ℕ) → entries (raws ++ ra
 entries_more [] raw = append-nil (entry raw)
 entries_more (r ∷ raws) raw = ap (λ (x : List ℕ). entry r ++ x) (entries_more raws raw) ∙ sym (append_assoc (entry r) (entries raws) (entry raw))
 
--- the shortest encoding of a number is read
-pub short_read : (n : ℕ) (following : List ℕ) → n < 2 ^ 32 → u32 (short_number n ++ following) ≡ Ok (n, following)
-short_read n following h = (integers_agree unsigned 32).again n (short_number n) following (unsigned_spelt 9 32 n (omega arith) h)
+fit_more : (raws : List (List ℕ)) (raw : List ℕ) → AllByRecursion FitsSize raws → FitsSize raw → AllByRecursion FitsSize (raws ++ raw ∷ [])
+fit_more [] raw h f = (f, tt)
+fit_more (r ∷ raws) raw h f = (h.0, fit_more raws raw h.1 f)
 
 -- these bodies come first, and then the bytes that are left
 abbrev pub ComeFirst : (end : ℕ) → (text : List ℕ) → List BodyAt → (left : List ℕ) → Type 0
@@ -74,6 +74,7 @@ module _ (writes : BodyWriting) (source : ParsedModule) where
     pub count_is : length bodies ≡ counter
     pub raws : List (List ℕ)
     pub are_written : AreWritten writes source source.imported bodies raws
+    pub fit : AllByRecursion FitsSize raws
     pub puts : Puts old now at end (short_number count ++ entries raws)
 
   pub no_bodies :
@@ -87,14 +88,15 @@ module _ (writes : BodyWriting) (source : ParsedModule) where
     count_is = refl;
     raws = [];
     are_written = tt;
+    fit = tt;
     puts = puts_same old new at end (short_number count) (short_number count ++ []) (sym (append-nil (short_number count))) p;
   }
 
   pub one_more_body :
       (stop : ℕ) (text : List ℕ) (s t : Bodies) (r : Option Body) (b : Body) (counter count : ℕ) (old now later : Option (List ℕ)) (at middle end : ℕ) (raw : List ℕ) →
-      CodeSoFar stop text s counter count old now at middle → r ≡ Some b → TakesBody s r t → writes source b.func (body_at b) raw → Puts now later middle end (entry raw) →
+      CodeSoFar stop text s counter count old now at middle → r ≡ Some b → TakesBody s r t → writes source b.func (body_at b) raw → FitsSize raw → Puts now later middle end (entry raw) →
       CodeSoFar stop text t (counter + 1) count old later at end
-  one_more_body stop text s t r b counter count old now later at middle end raw p i takes w q =
+  one_more_body stop text s t r b counter count old now later at middle end raw p i takes w f q =
       let taken : TakesBody s (Some b) t = subst (λ (o : Option Body). TakesBody s o t) i takes in
       let following = t.left.rest.now in
       let start : place_of b ≡ stop - length (body_bytes b ++ following) =
@@ -107,6 +109,7 @@ module _ (writes : BodyWriting) (source : ParsedModule) where
         count_is = let len = length-append p.bodies (body_at b ∷ []) in let n = p.count_is in omega arith;
         raws = p.raws ++ raw ∷ [];
         are_written = written_more source.imported p.bodies p.raws (body_at b) raw p.are_written b.func (taken.0 ∙ p.next_is) w;
+        fit = fit_more p.raws raw p.fit f;
         puts = puts_same old later at end ((short_number count ++ entries p.raws) ++ entry raw) (short_number count ++ entries (p.raws ++ raw ∷ []))
             (append_assoc (short_number count) (entries p.raws) (entry raw) ∙ ap (λ (l : List ℕ). short_number count ++ l) (sym (entries_more p.raws raw)))
             (puts_then old now later at middle end (short_number count ++ entries p.raws) (entry raw) p.puts q);
@@ -120,8 +123,9 @@ module _ (writes : BodyWriting) (source : ParsedModule) where
       (code : List ℕ) × IsWrittenCode writes source s code × (contents : List ℕ) × HasItemsOf code given contents × Puts old new at end contents
   all_bodies now s text left count more given added old middle new at between end x e n small p done g q =
       let all : length p.bodies ≡ count = p.count_is in
+      let as_many : count ≡ length p.raws = sym all ∙ same_count source.imported p.bodies p.raws p.are_written in
       let code_is : short_number count ++ entries p.raws ≡ code_section p.raws =
-      ap (λ (n : ℕ). short_number n ++ entries p.raws) (sym all ∙ same_count source.imported p.bodies p.raws p.are_written) in
+      ap (λ (n : ℕ). short_number n ++ entries p.raws) as_many in
       let front = short_number (count + more) in (
         short_number count ++ entries p.raws,
         record {
@@ -130,6 +134,8 @@ module _ (writes : BodyWriting) (source : ParsedModule) where
           are_all = all ∙ n ∙ same_bodies source now x;
           raws = p.raws;
           are_written = p.are_written;
+          few = omega (arith, as_many);
+          fit = p.fit;
           code_is = code_is;
         },
         front ++ (entries p.raws ++ added),

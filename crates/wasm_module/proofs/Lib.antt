@@ -9,6 +9,8 @@ pub mod CodeLemmas
 pub mod KeptLemmas
 pub mod NewSectionLemmas
 pub mod SectionLemmas
+-- names of custom sections
+pub mod NameLemmas
 -- a data segment more
 pub mod DataLemmas
 -- function types that are written, and the first one with given lists
@@ -22,3 +24,12 @@ pub mod ReadStepLemmas
 pub mod SectionsReadLemmas
 -- the sections that the bytes of a module are
 pub mod ModuleLawLemmas
+-- what the steps of a reading leave; the code section, and the bodies in it
+pub mod ComponentLemmas
+pub mod ModuleCodeLemmas
+-- bodies one after the other, which are checked, or whose functions are visited
+pub mod PassedLemmas
+pub mod CheckedLemmas
+pub mod VisitedLemmas
+-- the module that is written consists of the same as its source
+pub mod SameModuleLemmas

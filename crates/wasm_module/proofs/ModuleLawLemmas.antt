@@ -28,7 +28,7 @@ known_same : (id v : ℕ) → known_section id ≡ Ok v → v ≡ id
 known_same id v e =
     elim (chosen (nat_le id 13) (Ok id) (Err fault.UnknownSection) (Ok v) e) [ inl x ↦ sym (ok_same id v x.1) | inr x ↦ absurd (let h = x.1 in cc) ]
 
-piece_is : (size end : ℕ) (text : List ℕ) (x : List ℕ × List ℕ) → piece size end text ≡ Ok x → (text ≡ x.0 ++ x.1) × (length x.0 ≡ size)
+pub piece_is : (size end : ℕ) (text : List ℕ) (x : List ℕ × List ℕ) → piece size end text ≡ Ok x → (text ≡ x.0 ++ x.1) × (length x.0 ≡ size)
 piece_is size end text x e =
     elim (chosen (nat_le size (length text)) (Ok (take size text, drop size text)) (Err (fault_here end text fault.Truncated)) (Ok x) e) [
       | inl y ↦
@@ -38,14 +38,14 @@ piece_is size end text x e =
       | inr y ↦ absurd (let h = y.1 in cc)
     ]
 
-read_as : (r : Result (ℕ × List ℕ) ReadFault) (n k : ℕ) (x y : List ℕ) → r ≡ Ok (n, x) → n ≡ k → x ≡ y → r ≡ Ok (k, y)
+pub read_as : (r : Result (ℕ × List ℕ) ReadFault) (n k : ℕ) (x y : List ℕ) → r ≡ Ok (n, x) → n ≡ k → x ≡ y → r ≡ Ok (k, y)
 read_as r n k x y e a b = e ∙ ap (λ (i : ℕ). Ok (i, x)) a ∙ ap (λ (l : List ℕ). Ok (k, l)) b
 
 -- the section of what is read
-abbrev section_of : (end : ℕ) → (text : List ℕ) → (id : ℕ) → (contents rest : List ℕ) → SectionAt
+abbrev pub section_of : (end : ℕ) → (text : List ℕ) → (id : ℕ) → (contents rest : List ℕ) → SectionAt
 section_of end text id contents rest = record { id = id; contents = contents; end = end - length rest; whole = take (length text - length rest) text }
 
-begun_section :
+pub begun_section :
     (end : ℕ) (text : List ℕ) (id : ℕ) (contents rest : List ℕ) → section_part end text ≡ Ok ((id, contents), rest) →
     BeginsSection end text (section_of end text id contents rest) rest × (length rest < length text)
 begun_section end text id contents rest e =
@@ -103,11 +103,11 @@ sections_are (suc most) r m end (b ∷ bytes) n enough e =
 
 -- ---- there is no other way
 
-split_one : (a b x y : List ℕ) → length a ≡ length b → a ++ x ≡ b ++ y → a ≡ b
+pub split_one : (a b x y : List ℕ) → length a ≡ length b → a ++ x ≡ b ++ y → a ≡ b
 split_one a b x y long e =
     sym (take-append_seam a x) ∙ ap (λ (l : List ℕ). take (length a) l) e ∙ ap (λ (k : ℕ). take k (b ++ y)) long ∙ take-append_seam b y
 
-split_two : (a b x y : List ℕ) → length a ≡ length b → a ++ x ≡ b ++ y → x ≡ y
+pub split_two : (a b x y : List ℕ) → length a ≡ length b → a ++ x ≡ b ++ y → x ≡ y
 split_two a b x y long e =
     sym (drop-append_seam a x) ∙ ap (λ (l : List ℕ). drop (length a) l) e ∙ ap (λ (k : ℕ). drop k (b ++ y)) long ∙ drop-append_seam b y
 
@@ -116,7 +116,7 @@ section_parts s t a b c d =
     ap (λ (x : ℕ). let y : SectionAt = record s { id = x } in y) a ∙ ap (λ (x : List ℕ). let y : SectionAt = record s { id = t.id; contents = x } in y) b
     ∙ ap (λ (x : ℕ). let y : SectionAt = record t { end = x; whole = s.whole } in y) c ∙ ap (λ (x : List ℕ). let y : SectionAt = record t { whole = x } in y) d
 
-same_section :
+pub same_section :
     (end : ℕ) (text : List ℕ) (s t : SectionAt) (f g : List ℕ) → BeginsSection end text s f → BeginsSection end text t g → (s ≡ t) × (f ≡ g)
 same_section end text s t f g p q =
     let front : s.id ∷ p.sized ≡ t.id ∷ q.sized = sym p.id_is ∙ q.id_is in
@@ -162,7 +162,7 @@ marked size mark f end text x e =
     ] in
     (piece_is size end text a.0 a.1).0 ∙ ap (λ (l : List ℕ). l ++ a.0.1) same ∙ ap (λ (p : Unit {0} × List ℕ). mark ++ p.1) (ok_same (b.0, a.0.1) x b.2)
 
-preamble_is : (end : ℕ) (file : List ℕ) (x : Unit {0} × List ℕ) → preamble_part end file ≡ Ok x → file ≡ preamble ++ x.1
+pub preamble_is : (end : ℕ) (file : List ℕ) (x : Unit {0} × List ℕ) → preamble_part end file ≡ Ok x → file ≡ preamble ++ x.1
 preamble_is end file x e =
     let magic : List ℕ = 0x00 ∷ 0x61 ∷ 0x73 ∷ 0x6d ∷ [] in
     let version : List ℕ = 0x01 ∷ 0x00 ∷ 0x00 ∷ 0x00 ∷ [] in

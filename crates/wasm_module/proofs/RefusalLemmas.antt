@@ -117,7 +117,7 @@ fault_then source a now function b at e p = record {
   place = p.place;
 }
 
-refused_then : (source a now : ParsedModule) (function : ℕ) (b : BodyAt) (e : ModuleError) → Extends source a → IsRefusedBody a function b now e → IsRefusedBody source function b now e
+pub refused_then : (source a now : ParsedModule) (function : ℕ) (b : BodyAt) (e : ModuleError) → Extends source a → IsRefusedBody a function b now e → IsRefusedBody source function b now e
 refused_then source a now function b e extends r =
     elim r [
       | inl memory ↦ inl memory

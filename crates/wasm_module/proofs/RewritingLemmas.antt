@@ -17,7 +17,7 @@ use Rattle.walrus_parser.specs.Bodies.{AcceptsBody, body_input, body_setting, bo
 use Rattle.walrus_body.specs.EmittedInstructions.{LentPairs, Left}
 use Rattle.walrus_numbering.specs.NumberMaps.{numbers_by}
 use Rattle.walrus_emit_state.specs.Emission.{Output}
-use Rattle.walrus_rewrite.specs.RawBodies.{EmitInput, emit_input, IsRawBodyOf, AppendsRawBody}
+use Rattle.walrus_rewrite.specs.RawBodies.{EmitInput, emit_input, IsRawBodyOf, AppendsPairs, AppendsRawBody}
 use Rattle.walrus_rewrite.specs.RewrittenBodies.{Rewrites}
 use Rattle.walrus_flat.specs.RewrittenFlat.{RewritesFlat}
 use Rattle.wasm_module.specs.declared.body_writer.Measured.{Measured}
@@ -25,21 +25,21 @@ use Rattle.wasm_module.specs.declared.parsed.ParsedModule.{ParsedModule}
 use Rattle.wasm_sections.specs.CodeSections.{BodyAt}
 use Rattle.wasm_sections.specs.Declarations.{parameters_of_type, HaveLocals, first_numbers}
 use Rattle.wasm_sections.specs.LocalsBelow.{locals_below}
-use Rattle.wasm_module.specs.RewrittenCode.{Extends, Enters, Entered, IsRewrittenAs, IsRewritten, IsAccepted, IsParsed, OneChange, IsChanged}
+use Rattle.wasm_module.specs.RewrittenCode.{Extends, Enters, Entered, IsRewrittenAs, IsRewritten, IsRewrittenWith, IsAccepted, IsParsed, OneChange, IsChanged}
 use Rattle.wasm_module.proofs.ModuleLemmas.{Alike, extends_then, extends_kept}
 
 -- no location function
 abbrev no_location_function : (F : Type 0) → Option (Bor F)
 no_location_function F = None
 
--- bytes that are appended to an empty list
+-- bytes that are appended to an empty list, and pairs that are appended to a list, if there is one
 pub rewritten :
     {F Z : Type 0} {calls : Shared F (Bor ℕ × Unit {0}) ℕ} {made : Function} {mapping : List (ℕ × ℕ)} {entry : Option (LentPairs Z)} {exit : Left (LentPairs Z)}
     (source now : ParsedModule) (function : ℕ) (b : BodyAt) (type id : ℕ) (args : List ℕ) (count : ℕ) (body : FunctionBody) (old raw : List ℕ) →
     Enters source function b now type args count body → id ≡ 0 → old ≡ [] →
     Rewrites calls (body_input now.module now.spaces.indices id type body (no_location_function F) locals_below count)
     (record { to = numbers_by now.module.types now.spaces.numbers []; types = now.module.locals; args = args }) made mapping old raw entry exit →
-    IsRewritten source function b raw
+    (r : IsRewritten source function b raw) × AppendsPairs r.pairs entry exit
 rewritten {F} {Z} {calls} {made} {mapping} {entry} {exit} source now function b type id args count body old raw enters is_first none r =
     let At : ℕ → Type 0 =
     λ n. Rewrites calls (body_input now.module now.spaces.indices n type body (no_location_function F) locals_below count)
@@ -48,12 +48,13 @@ rewritten {F} {Z} {calls} {made} {mapping} {entry} {exit} source now function b 
     let all : x.raw ≡ raw = sym (x.bytes ∙ ap (λ (l : List ℕ). l ++ x.raw) none) in
     let is_rewritten : IsRewrittenAs now type args count body x.raw x.pairs =
     record { body = x.accepts.body; accepted = x.accepts.accepted; is_raw_body = x.is_raw_body; keeps = x.keeps } in
-    record {
+    let it : IsRewritten source function b raw = record {
       now = now;
       entered = record { type = type; args = args; count = count; body = body; enters = enters };
       pairs = x.pairs;
       is_rewritten = subst (λ (l : List ℕ). IsRewrittenAs now type args count body l x.pairs) all is_rewritten;
-    }
+    } in
+    (it, x.appends_pairs)
 
 -- the same, without a tree
 pub rewritten_flat :
@@ -62,7 +63,7 @@ pub rewritten_flat :
     Enters source function b now type args count body → id ≡ 0 → given ≡ args → old ≡ [] →
     RewritesFlat calls (body_input now.module now.spaces.indices id type body (no_location_function F) locals_below count)
     (record { to = numbers_by now.module.types now.spaces.numbers []; types = now.module.locals; args = given }) old raw entry exit →
-    IsRewritten source function b raw
+    (r : IsRewritten source function b raw) × AppendsPairs r.pairs entry exit
 rewritten_flat {F} {Z} {calls} {entry} {exit} source now function b type id given args count body old raw enters is_first args_are none r =
     let At : ℕ → List ℕ → Type 0 =
     λ n xs. RewritesFlat calls (body_input now.module now.spaces.indices n type body (no_location_function F) locals_below count)
@@ -71,12 +72,13 @@ rewritten_flat {F} {Z} {calls} {entry} {exit} source now function b type id give
     let all : x.raw ≡ raw = sym (x.bytes ∙ ap (λ (l : List ℕ). l ++ x.raw) none) in
     let is_rewritten : IsRewrittenAs now type args count body x.raw x.pairs =
     record { body = x.body; accepted = x.accepted; is_raw_body = x.is_raw_body; keeps = x.keeps } in
-    record {
+    let it : IsRewritten source function b raw = record {
       now = now;
       entered = record { type = type; args = args; count = count; body = body; enters = enters };
       pairs = x.pairs;
       is_rewritten = subst (λ (l : List ℕ). IsRewrittenAs now type args count body l x.pairs) all is_rewritten;
-    }
+    } in
+    (it, x.appends_pairs)
 
 -- the function that a parse returns
 pub parsed :
@@ -164,6 +166,19 @@ pub rewritten_ok :
     OnOk r (IsRewritten source function b raw)
 rewritten_ok source a function b raw (Ok x) e p = rewritten_then source a function b raw e p
 rewritten_ok source a function b raw (Err x) e p = tt
+
+pub rewritten_with_ok :
+    {E R : Type 0} (source a : ParsedModule) (function : ℕ) (b : BodyAt) (raw : List ℕ) (pairs : List Pair) (r : Result R E) → Extends source a →
+    OnOk r (IsRewrittenWith a function b raw pairs) → OnOk r (IsRewrittenWith source function b raw pairs)
+unfolding rewritten_then
+rewritten_with_ok source a function b raw pairs (Ok x) e p = record { rewritten = rewritten_then source a function b raw e p.rewritten; pairs_are = p.pairs_are }
+rewritten_with_ok source a function b raw pairs (Err x) e p = tt
+
+-- the list was empty before
+pub rewritten_with :
+    (source : ParsedModule) (function : ℕ) (b : BodyAt) (raw : List ℕ) (old new : List Pair) (r : IsRewritten source function b raw) → old ≡ [] → new ≡ old ++ r.pairs →
+    IsRewrittenWith source function b raw new
+rewritten_with source function b raw old new r none e = record { rewritten = r; pairs_are = e ∙ ap (λ l. l ++ r.pairs) none }
 
 -- of bytes of which something else is known
 pub rewritten_to :

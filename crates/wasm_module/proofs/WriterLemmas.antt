@@ -33,6 +33,8 @@ module _ (v w : BodyWriting) (source now : ParsedModule) (x : Extends source now
     are_all = h.are_all ∙ same_bodies source now x;
     raws = h.raws;
     are_written = subst (λ (n : ℕ). AreWritten w source n h.bodies h.raws) x.imported (bodies_as now.imported h.bodies h.raws h.are_written);
+    few = h.few;
+    fit = h.fit;
     code_is = h.code_is;
   }
 

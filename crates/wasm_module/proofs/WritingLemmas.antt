@@ -1,5 +1,5 @@
 -- The bytes that are written, piece by piece.
-use Rattle.std.proofs.Common.{◌≡◌, ℕ, ◌+◌, List, [], ◌++◌, length, Option, Result, Ok, Err, IfOk, ap, subst, ◌∙◌, length-append, arith}
+use Rattle.std.proofs.Common.{◌≡◌, ℕ, ◌+◌, List, [], ◌++◌, length, Option, Result, Ok, Err, IfOk, OnOk, ap, subst, ◌∙◌, length-append, arith}
 use Rattle.std.specs.Io.KnownBytes.{Appends}
 use Rattle.wasm_operators.specs.Shortest.{short_number}
 use Rattle.wasm_sections.specs.CodeSections.{entry}
@@ -43,3 +43,7 @@ appends_section a b at end id contents others e p = subst (λ (l : List ℕ). Ap
 pub if_so : {A E : Type 0} {P Q : A → Type 0} (r : Result A E) → IfOk r P → ((a : A) → P a → Q a) → IfOk r Q
 if_so (Ok a) p f = f a p
 if_so (Err e) p f = tt
+
+pub ok_so : {A E X Y : Type 0} (r : Result A E) → OnOk r X → (X → Y) → OnOk r Y
+ok_so (Ok a) x f = f x
+ok_so (Err e) x f = tt

@@ -18,3 +18,11 @@ pub mod KeptCode
 -- what a module that was read consists of, and the steps in which it is read; and what this tells of the bytes
 pub mod ReadModules
 pub mod ReadFrom
+-- the sections of a module that was read, in order; the code section, and the bodies in it
+pub mod ReadSections
+pub mod ModuleCode
+-- modules whose bodies are accepted, and functions that are visited
+pub mod AcceptedModules
+pub mod VisitedFunctions
+-- the module that is written consists of the same as its source
+pub mod SameModules

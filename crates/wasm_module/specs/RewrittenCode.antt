@@ -78,6 +78,11 @@ pub record IsRewritten (source : ParsedModule) (function : ℕ) (b : BodyAt) (ra
   pub pairs : List Pair
   pub is_rewritten : IsRewrittenAs now entered.type entered.args entered.count entered.body raw pairs
 
+-- The same, with these location pairs.
+pub record IsRewrittenWith (source : ParsedModule) (function : ℕ) (b : BodyAt) (raw : List ℕ) (pairs : List Pair) : Type 0 where
+  pub rewritten : IsRewritten source function b raw
+  pub pairs_are : pairs ≡ rewritten.pairs
+
 -- ---- one body that is checked, or whose function is changed before it is written
 
 -- The operators of this function's body, parsed with these declarations, are accepted.

@@ -1,8 +1,9 @@
 -- Modules that are written (WebAssembly core specification 3.0, binary format, modules), section by section. Each is unchanged,
 -- except the code section, sections that are given new contents, custom sections that are changed along with the code, and
 -- custom sections that are left out.
-use Rattle.std.specs.Prelude.{◌≡◌, ◌≢◌, ◌⊎◌, ◌+◌, ◌-◌, ℕ, zero, suc, List, [], ◌∷◌, ◌++◌, length, Bool, true, false, ◌&&◌, nat_lt, if◌then◌else◌, Option, Some, None, Ok, codes}
+use Rattle.std.specs.Prelude.{◌≡◌, ◌≢◌, ◌⊎◌, ◌+◌, ◌-◌, ◌<◌, ◌^◌, ℕ, zero, suc, List, [], ◌∷◌, ◌++◌, length, Bool, true, false, ◌&&◌, nat_lt, if◌then◌else◌, Option, Some, None, Ok, codes}
 use Rattle.std.specs.Io.KnownBytes.{Appends}
+use Rattle.std.specs.List.{AllByRecursion}
 use Rattle.wasm_numbers.specs.Numbers.{u32}
 use Rattle.wasm_operators.specs.Shortest.{short_number}
 use Rattle.wasm_sections.specs.declared.changes.Changes.{Changes}
@@ -19,6 +20,16 @@ use Rattle.wasm_sections.specs.Sections.{preamble, section, SectionAt, IsModule,
 pub record Puts (old new : Option (List ℕ)) (at end : ℕ) (bytes : List ℕ) : Type 0 where
   pub appends : Appends old new bytes
   pub end_is : end ≡ at + length bytes
+
+-- ---- sizes
+
+-- A size has 32 bits.
+abbrev pub FitsSize : (bytes : List ℕ) → Type 0
+FitsSize bytes = length bytes < 2 ^ 32
+
+-- The text is the section with this id and these contents.
+abbrev pub IsSection : (id : ℕ) → (contents text : List ℕ) → Type 0
+IsSection id contents text = FitsSize contents × (text ≡ section id contents)
 
 -- ---- sections that are given contents
 
@@ -56,10 +67,14 @@ HasFollowedName contents =
 abbrev pub url_contents : (url : List ℕ) → List ℕ
 url_contents url = entry (codes "sourceMappingURL") ++ entry url
 
--- These contents are written in place of those of a section that isn't the code section. Nothing is said about the new contents
--- of custom sections.
+-- The contents of two custom sections begin with the same name.
+abbrev pub HasSameName : (old new : List ℕ) → Type 0
+HasSameName old new = (name : List ℕ) × BeginsWithName old name × BeginsWithName new name
+
+-- These contents are written in place of those of a section that isn't the code section. Those of a custom section begin with the
+-- same name; nothing is said about what follows it.
 pub data IsReplacedBy (changes : Changes) (s : SectionAt) (contents : List ℕ) : Type 0 where
-  followed : s.id ≡ 0 → HasFollowedName s.contents → IsReplacedBy changes s contents
+  followed : s.id ≡ 0 → HasFollowedName s.contents → HasSameName s.contents contents → IsReplacedBy changes s contents
   given_so : s.id ≢ 0 → contents_in changes.given.items s.id ≡ Some contents → IsReplacedBy changes s contents
 
 -- Or the section is written unchanged: it is a custom one, or no contents are given for it.
@@ -118,6 +133,8 @@ module _ (writes : BodyWriting) (source : ParsedModule) where
     pub are_all : length bodies ≡ count_bodies source
     pub raws : List (List ℕ)
     pub are_written : AreWritten source.imported bodies raws
+    pub few : length raws < 2 ^ 32
+    pub fit : AllByRecursion FitsSize raws
     pub code_is : code ≡ code_section raws
 
   -- ---- sections
@@ -127,9 +144,9 @@ module _ (writes : BodyWriting) (source : ParsedModule) where
     pub data IsWrittenFor (s : SectionAt) (text : List ℕ) : Type 0 where
       code :
           (bodies contents : List ℕ) → s.id ≡ 10 → IsWrittenCode s bodies → HasItemsOf bodies (added_bodies changes) contents →
-          text ≡ section 10 contents → IsWrittenFor s text
+          IsSection 10 contents text → IsWrittenFor s text
       replaced :
-          (contents : List ℕ) → s.id ≢ 10 → IsNotOmitted left_out s → IsReplacedBy changes s contents → text ≡ section s.id contents →
+          (contents : List ℕ) → s.id ≢ 10 → IsNotOmitted left_out s → IsReplacedBy changes s contents → IsSection s.id contents text →
           IsWrittenFor s text
       carried_over : s.id ≢ 10 → IsNotOmitted left_out s → IsCarriedOver changes s → text ≡ s.whole → IsWrittenFor s text
       omitted : IsOmitted left_out s → text ≡ [] → IsWrittenFor s text

@@ -4,7 +4,7 @@ ghost use Rattle.std.specs.Prelude.{◌≡◌, ℕ, List, [], length, bytes_eq, 
 ghost use Rattle.walrus_emit_state.specs.Emission.{Output};
 ghost use Rattle.walrus_rewrite.specs.RawBodies.{emit_input, IsRawBodyOf};
 ghost use Rattle.wasm_sections.specs.CodeSections.{body_at, body_bytes};
-ghost use Rattle.wasm_module.specs.RewrittenCode.{Extends, IsRewritten, IsParsed};
+ghost use Rattle.wasm_module.specs.RewrittenCode.{Extends, IsRewritten, IsRewrittenWith, IsParsed};
 ghost use Rattle.wasm_module.specs.Refusals.{IsRefusedBody, IsNotRewritten};
 
 use crate::body_context::BodyContext;
@@ -54,43 +54,28 @@ impl Scratch {
     }
 }
 
-/// The list for location pairs, if they are needed.
-fn list_if<T>(needs_pairs: bool, pairs: &mut Vec<T>) -> Option<&mut Vec<T>> {
-    if needs_pairs { Some(pairs) } else { None }
-}
-
-impl<'a> ParsedModule<'a> {
-    /// Rewrites a body without its tree, in the module as it is.
-    fn rewrite_flat_once(
-        &mut self,
-        body: Body<'a>,
-        needs_pairs: bool,
-        scratch: &mut Scratch,
-    ) -> Result<(), ModuleError>
-        ensures extends { Extends self.old self.new }
-        ensures rewritten { OnOk result
-            (IsRewritten self.old body.entry.func (body_at body.entry) scratch.new.raw.items) }
-        ensures refused { IfErr result
-            (IsNotRewritten self.old body.entry.func (body_at body.entry) self.new) }
-    {
+/// Rewrites a body without its tree, in the module as it is. Its location pairs go to this list, if
+/// there is one; the scratch's own has the name that is given for it.
+macro_rules! rewritten_flat {
+    ($parsed:ident, $body:ident, $scratch:ident, $pairs:ident, $map:expr) => {{
         let Scratch {
             flat,
             raw,
-            pairs,
+            pairs: $pairs,
             ..
-        } = scratch;
+        } = $scratch;
         raw.clear();
-        pairs.clear();
+        $pairs.clear();
         let BodyContext {
             ty,
             args,
             body: source,
             locals,
-        } = self.enter(body)?;
-        let lists = self.spaces.local_lists();
+        } = $parsed.enter($body)?;
+        let lists = $parsed.spaces.local_lists();
         let rewritten = rewrite_flat(
-            &self.module,
-            &self.spaces.indices,
+            &$parsed.module,
+            &$parsed.spaces.indices,
             lists,
             ty,
             args.as_slice(),
@@ -98,22 +83,63 @@ impl<'a> ParsedModule<'a> {
             // A location is the operator's place in the file.
             None::<&fn(&usize) -> InstrLocId>,
             LocalsBelow(locals),
-            &self.spaces.numbers,
+            &$parsed.spaces.numbers,
             flat,
             raw,
-            list_if(needs_pairs, pairs),
+            $map,
         );
         match rewritten {
             Ok(()) => Ok(()),
-            Err(error) => Err(body_error(error, body.start())),
+            Err(error) => Err(body_error(error, $body.start())),
         }
-    }
+    }};
+}
 
-    /// The same, after the types that the body needs are added, if the module lacks one.
-    fn rewrite_flat_with_types(
+/// The same by its tree, with the list of instructions that is lent.
+macro_rules! rewritten {
+    ($parsed:ident, $body:ident, $instrs:ident, $scratch:ident, $pairs:ident, $map:expr) => {{
+        let Scratch {
+            raw,
+            pairs: $pairs,
+            ..
+        } = $scratch;
+        raw.clear();
+        $pairs.clear();
+        $instrs.clear();
+        let BodyContext {
+            ty,
+            args,
+            body: source,
+            locals,
+        } = $parsed.enter($body)?;
+        let lists = $parsed.spaces.local_lists();
+        let rewritten = rewrite_body(
+            &$parsed.module,
+            &$parsed.spaces.indices,
+            lists,
+            ty,
+            args,
+            source,
+            // A location is the operator's place in the file.
+            None::<&fn(&usize) -> InstrLocId>,
+            LocalsBelow(locals),
+            $instrs,
+            &$parsed.spaces.numbers,
+            raw,
+            $map,
+        );
+        match rewritten {
+            Ok(function) => Ok(function),
+            Err(error) => Err(body_error(error, $body.start())),
+        }
+    }};
+}
+
+impl<'a> ParsedModule<'a> {
+    /// Rewrites a body without its tree, in the module as it is.
+    fn rewrite_flat_once(
         &mut self,
         body: Body<'a>,
-        needs_pairs: bool,
         scratch: &mut Scratch,
     ) -> Result<(), ModuleError>
         ensures extends { Extends self.old self.new }
@@ -122,11 +148,28 @@ impl<'a> ParsedModule<'a> {
         ensures refused { IfErr result
             (IsNotRewritten self.old body.entry.func (body_at body.entry) self.new) }
     {
-        with_types!(
+        rewritten_flat!(
             self,
             body,
-            self.rewrite_flat_once(body, needs_pairs, scratch)
+            scratch,
+            pairs,
+            None::<&mut Vec<(InstrLocId, usize)>>
         )
+    }
+
+    /// The same, with its location pairs.
+    fn rewrite_flat_once_with_pairs(
+        &mut self,
+        body: Body<'a>,
+        scratch: &mut Scratch,
+    ) -> Result<(), ModuleError>
+        ensures extends { Extends self.old self.new }
+        ensures rewritten { OnOk result (IsRewrittenWith self.old body.entry.func
+            (body_at body.entry) scratch.new.raw.items scratch.new.pairs.items) }
+        ensures refused { IfErr result
+            (IsNotRewritten self.old body.entry.func (body_at body.entry) self.new) }
+    {
+        rewritten_flat!(self, body, scratch, pairs, Some(pairs))
     }
 
     /// Rewrites a body as `rewrite` does, without its tree: the same bytes, at less cost.
@@ -141,7 +184,7 @@ impl<'a> ParsedModule<'a> {
         ensures refused { IfErr result
             (IsNotRewritten self.old body.entry.func (body_at body.entry) self.new) }
     {
-        self.rewrite_flat_with_types(body, false, scratch)
+        with_types!(self, body, self.rewrite_flat_once(body, scratch))
     }
 
     /// The same as `rewrite_flat`, with its location pairs.
@@ -155,12 +198,12 @@ impl<'a> ParsedModule<'a> {
         scratch: &mut Scratch,
     ) -> Result<(), ModuleError>
         ensures extends { Extends self.old self.new }
-        ensures rewritten { OnOk result
-            (IsRewritten self.old body.entry.func (body_at body.entry) scratch.new.raw.items) }
+        ensures rewritten { OnOk result (IsRewrittenWith self.old body.entry.func
+            (body_at body.entry) scratch.new.raw.items scratch.new.pairs.items) }
         ensures refused { IfErr result
             (IsNotRewritten self.old body.entry.func (body_at body.entry) self.new) }
     {
-        self.rewrite_flat_with_types(body, true, scratch)
+        with_types!(self, body, self.rewrite_flat_once_with_pairs(body, scratch))
     }
 
     /// Rewrites a body without its tree, as `rewrite_flat`, to a sink, which takes its bytes, and its
@@ -263,7 +306,6 @@ impl<'a> ParsedModule<'a> {
     fn rewrite_once(
         &mut self,
         body: Body<'a>,
-        needs_pairs: bool,
         instrs: &mut Vec<(Instr, InstrLocId)>,
         scratch: &mut Scratch,
     ) -> Result<LocalFunction, ModuleError>
@@ -277,61 +319,34 @@ impl<'a> ParsedModule<'a> {
             (IsNotRewritten self.old body.entry.func (body_at body.entry) self.new) }
         ensures instrs { instrs.new.items ≡ [] }
     {
-        let Scratch { raw, pairs, .. } = scratch;
-        raw.clear();
-        pairs.clear();
-        instrs.clear();
-        let BodyContext {
-            ty,
-            args,
-            body: source,
-            locals,
-        } = self.enter(body)?;
-        let lists = self.spaces.local_lists();
-        let rewritten = rewrite_body(
-            &self.module,
-            &self.spaces.indices,
-            lists,
-            ty,
-            args,
-            source,
-            // A location is the operator's place in the file.
-            None::<&fn(&usize) -> InstrLocId>,
-            LocalsBelow(locals),
-            instrs,
-            &self.spaces.numbers,
-            raw,
-            list_if(needs_pairs, pairs),
-        );
-        match rewritten {
-            Ok(function) => Ok(function),
-            Err(error) => Err(body_error(error, body.start())),
-        }
-    }
-
-    /// The same, after the types that the body needs are added, if the module lacks one.
-    fn rewrite_with_types(
-        &mut self,
-        body: Body<'a>,
-        needs_pairs: bool,
-        instrs: &mut Vec<(Instr, InstrLocId)>,
-        scratch: &mut Scratch,
-    ) -> Result<LocalFunction, ModuleError>
-        ensures extends { Extends self.old self.new }
-        ensures rewritten { OnOk result
-            (IsRewritten self.old body.entry.func (body_at body.entry) scratch.new.raw.items) }
-        // The function that is returned is the parsed one.
-        ensures parsed { IfOk result
-            (IsParsed self.old body.entry.func (body_at body.entry) self.new) }
-        ensures refused { IfErr result
-            (IsNotRewritten self.old body.entry.func (body_at body.entry) self.new) }
-        ensures instrs { instrs.new.items ≡ [] }
-    {
-        with_types!(
+        rewritten!(
             self,
             body,
-            self.rewrite_once(body, needs_pairs, instrs, scratch)
+            instrs,
+            scratch,
+            pairs,
+            None::<&mut Vec<(InstrLocId, usize)>>
         )
+    }
+
+    /// The same, with its location pairs.
+    fn rewrite_once_with_pairs(
+        &mut self,
+        body: Body<'a>,
+        instrs: &mut Vec<(Instr, InstrLocId)>,
+        scratch: &mut Scratch,
+    ) -> Result<LocalFunction, ModuleError>
+        ensures extends { Extends self.old self.new }
+        ensures rewritten { OnOk result (IsRewrittenWith self.old body.entry.func
+            (body_at body.entry) scratch.new.raw.items scratch.new.pairs.items) }
+        // The function that is returned is the parsed one.
+        ensures parsed { IfOk result
+            (IsParsed self.old body.entry.func (body_at body.entry) self.new) }
+        ensures refused { IfErr result
+            (IsNotRewritten self.old body.entry.func (body_at body.entry) self.new) }
+        ensures instrs { instrs.new.items ≡ [] }
+    {
+        rewritten!(self, body, instrs, scratch, pairs, Some(pairs))
     }
 
     /// Rewrites a body: its declarations of locals and its operators, as
@@ -360,7 +375,7 @@ impl<'a> ParsedModule<'a> {
             (IsNotRewritten self.old body.entry.func (body_at body.entry) self.new) }
         ensures instrs { instrs.new.items ≡ [] }
     {
-        self.rewrite_with_types(body, false, instrs, scratch)
+        with_types!(self, body, self.rewrite_once(body, instrs, scratch))
     }
 
     /// The same as `rewrite`, with its location pairs.
@@ -375,8 +390,8 @@ impl<'a> ParsedModule<'a> {
         scratch: &mut Scratch,
     ) -> Result<LocalFunction, ModuleError>
         ensures extends { Extends self.old self.new }
-        ensures rewritten { OnOk result
-            (IsRewritten self.old body.entry.func (body_at body.entry) scratch.new.raw.items) }
+        ensures rewritten { OnOk result (IsRewrittenWith self.old body.entry.func
+            (body_at body.entry) scratch.new.raw.items scratch.new.pairs.items) }
         // The function that is returned is the parsed one.
         ensures parsed { IfOk result
             (IsParsed self.old body.entry.func (body_at body.entry) self.new) }
@@ -384,7 +399,11 @@ impl<'a> ParsedModule<'a> {
             (IsNotRewritten self.old body.entry.func (body_at body.entry) self.new) }
         ensures instrs { instrs.new.items ≡ [] }
     {
-        self.rewrite_with_types(body, true, instrs, scratch)
+        with_types!(
+            self,
+            body,
+            self.rewrite_once_with_pairs(body, instrs, scratch)
+        )
     }
 
     fn parse_once(

@@ -2,9 +2,9 @@
 //! WebAssembly core specification 3.0, name section; tool conventions). They are changed along with
 //! the code.
 
-ghost use Rattle.std.specs.Prelude.{◌≡◌, List, IsTrue, OnOk};
+ghost use Rattle.std.specs.Prelude.{◌≡◌, List, IsTrue, IfSome, OnOk};
 ghost use Rattle.wasm_sections.specs.Sections.{SectionAt, IsModule, Each, section_at};
-ghost use Rattle.wasm_module.specs.WrittenModules.{HasFollowedName, IsLinked};
+ghost use Rattle.wasm_module.specs.WrittenModules.{HasFollowedName, HasSameName, IsLinked};
 
 pub(crate) mod labels;
 
@@ -486,9 +486,31 @@ pub(crate) struct Followed {
 }
 
 /// The new contents of the section at this place of the source, if it has some.
-pub(crate) fn contents_at(followed: &[Followed], at: usize) -> Option<&[u8]> {
+fn contents_at(followed: &[Followed], at: usize) -> Option<&[u8]> {
     followed
         .iter()
         .find(|followed| followed.at == at)
         .map(|followed| followed.contents.as_slice())
+}
+
+/// Whether these contents begin with the name of a custom section.
+fn has_name_of(contents: &[u8], section: &Section<'_>) -> bool
+    ensures { IsTrue result → HasSameName section.now.contents.rest.now contents.now }
+{
+    match section.named_input() {
+        Ok((_, following)) => contents.starts_with(section.contents.until(&following)),
+        Err(_) => false,
+    }
+}
+
+/// The new contents of a custom section that is changed along with the code, if it has some. They
+/// begin with the same name; those of a section with another name, at the same place of another
+/// module, aren't taken.
+pub(crate) fn contents_for<'f>(followed: &'f [Followed], section: &Section<'_>) -> Option<&'f [u8]>
+    ensures { IfSome result (λ contents. HasSameName section.now.contents.rest.now contents.now) }
+{
+    match contents_at(followed, section.at) {
+        Some(contents) if has_name_of(contents, section) => Some(contents),
+        _ => None,
+    }
 }

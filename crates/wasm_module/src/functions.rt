@@ -1,6 +1,10 @@
 //! The functions of a module, parsed one after the other.
 
+ghost use Rattle.std.specs.Prelude.{◌⊎◌, ℕ, List, Ok, IfErr, OnOk};
+ghost use Rattle.wasm_sections.specs.CodeSections.{body_at};
+ghost use Rattle.wasm_module.specs.ReadFrom.{IsModuleOf};
 ghost use Rattle.wasm_module.specs.RewrittenCode.{Extends};
+ghost use Rattle.wasm_module.specs.VisitedFunctions.{IsVisited, StopsVisits, VisitsFunctions, VisitsFunctionsUpTo};
 
 use crate::parsed::ParsedModule;
 use walrus_body::LocalFunction;
@@ -18,6 +22,10 @@ impl<'a> ParsedModule<'a> {
         requires { F.IsAlwaysCallable visit.old }
         ensures extends { Extends self.old self.new }
         ensures callable { F.IsAlwaysCallable visit.new }
+        ensures visited { OnOk result (IsVisited F.step self.old visit.old body.entry.func
+            (body_at body.entry) (Ok tt) visit.new) }
+        ensures stops { IfErr result
+            (StopsVisits F.step self.old visit.old body.entry.func (body_at body.entry)) }
     {
         match self.parse(body, instrs) {
             Ok(function) => visit(body.func, &function),
@@ -48,7 +56,11 @@ impl<'a> ParsedModule<'a> {
         mut visit: F,
     ) -> Result<(), ModuleError>
         requires { F.IsAlwaysCallable visit }
-        ensures { Extends self.old self.new }
+        ensures extends { Extends self.old self.new }
+        ensures visited { (source : List ℕ) → IsModuleOf source self.old
+            → OnOk result ((last : F) × VisitsFunctions F.step self.old visit last) }
+        ensures stops { (source : List ℕ) → IsModuleOf source self.old
+            → IfErr result (VisitsFunctionsUpTo F.step self.old visit) }
     {
         let mut instrs = Vec::new(self.alloc);
         'bodies: for body in self.bodies() {

@@ -1,17 +1,22 @@
 //! Laws of modules that are read and of bodies that are kept, each stated as the contract of a function
 //! that does nothing.
 
-ghost use Rattle.std.specs.Prelude.{◌≡◌, ℕ, List, Ok};
+ghost use Rattle.std.specs.Prelude.{◌≡◌, ℕ, List, [], Ok};
 ghost use Rattle.wasm_module.specs.declared.changing.kept_bodies.KeptBodies.{KeptBodies as Kept};
 ghost use Rattle.wasm_module.specs.declared.parsed.ParsedModule.{ParsedModule as Parsed};
 ghost use Rattle.wasm_module.specs.KeptCode.{IsKept, AreKept, IsChangedCode};
+ghost use Rattle.wasm_module.specs.ModuleCode.{HasCode};
 ghost use Rattle.wasm_module.specs.RewrittenCode.{Extends};
 ghost use Rattle.wasm_module.specs.ReadModules.{HasOneSpelling};
+ghost use Rattle.wasm_module.specs.ReadSections.{IsOfSections};
+ghost use Rattle.wasm_module.specs.SameModules.{IsSameModule};
+ghost use Rattle.wasm_sections.specs.declared.changes.Changes.{Changes as NewSections};
+ghost use Rattle.wasm_sections.specs.declared.omissions.OmittedSections.{OmittedSections as Omitted};
 ghost use Rattle.wasm_sections.specs.Components.{Components, module_of};
-ghost use Rattle.wasm_sections.specs.Sections.{SectionAt};
-ghost use Rattle.wasm_module.specs.WrittenModules.{IsWrittenCode};
+ghost use Rattle.wasm_sections.specs.Sections.{SectionAt, IsModule};
+ghost use Rattle.wasm_module.specs.WrittenModules.{IsWrittenCode, IsWrittenModule};
 
-use crate::body_writer::ChangeFunction;
+use crate::body_writer::{BodyWriter, ChangeFunction};
 
 /// The code section that `write_module` writes from what `change_all` kept is that of the source with
 /// all functions changed, each once, in order, from the state of the change before `change_all` to
@@ -26,4 +31,29 @@ pub fn law_changed_code<C: ChangeFunction>()
 /// Bytes that spell a module are one list of sections, and no other.
 pub fn law_module(bytes: &[u8])
     ensures { (m : Components) → module_of bytes.now ≡ Ok m → HasOneSpelling bytes.now }
+{}
+
+/// What the bytes of a module spell is what its sections spell, read one after the other; and they are
+/// in order.
+pub fn law_sections(bytes: &[u8])
+    ensures { (m : Components) (sections : List SectionAt) → module_of bytes.now ≡ Ok m
+        → IsModule bytes.now sections → IsOfSections bytes.now m sections }
+{}
+
+/// At most one of the sections of a module is a code section. The code that its bytes spell is that of
+/// this section: a body for each function that isn't imported. Without such a section there is no code,
+/// and no such function.
+pub fn law_code(bytes: &[u8])
+    ensures { (m : Components) (sections : List SectionAt) → module_of bytes.now ≡ Ok m
+        → IsModule bytes.now sections → HasCode m sections }
+{}
+
+/// The module that is written for a source, without sections that are given contents, consists of
+/// the same as the source: only its bodies are others, as these write them, and custom sections that
+/// are changed along with them or are left out.
+pub fn law_written_module<B: BodyWriter>(bodies: &B)
+    ensures { (source : Parsed) (m : Components) (changes : NewSections) (omitted : Omitted)
+        (new : List ℕ) → module_of source.bytes.now ≡ Ok m → changes.given.items ≡ []
+        → IsWrittenModule (B.writes bodies.now) source changes omitted new
+        → IsSameModule (B.writes bodies.now) source m new }
 {}

@@ -10,7 +10,7 @@ ghost use Rattle.wasm_module.specs.WrittenModules.{new_contents_in, IsReplacedBy
 
 use crate::bodies::Scratch;
 use crate::body_writer::{BodyWriter, Measured, Needed, Rewriting};
-use crate::custom::{Followed, Followers, Note, contents_at, follows_code};
+use crate::custom::{Followed, Followers, Note, contents_for, follows_code};
 use crate::parsed::ParsedModule;
 use wasm_sections::{
     Body, Changes, ModuleError, OmittedSections, Section, SectionKind, number_len,
@@ -50,7 +50,7 @@ impl<B> RewrittenModule<'_, B> {
             (section_at section.now)) }
     {
         match section.kind {
-            SectionKind::Custom if follows_code(section) => contents_at(&self.followed, section.at),
+            SectionKind::Custom if follows_code(section) => contents_for(&self.followed, section),
             SectionKind::Custom => None,
             kind => self.changes.contents_of(kind),
         }

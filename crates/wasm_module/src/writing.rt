@@ -1,7 +1,7 @@
 //! Writing a module (WebAssembly core specification 3.0, binary format, modules): section by
 //! section, each unchanged, except those that are given new contents, and the code.
 
-ghost use Rattle.std.specs.Prelude.{◌≡◌, ◌+◌, ℕ, List, [], ◌∷◌, length, IfOk, OnOk};
+ghost use Rattle.std.specs.Prelude.{◌≡◌, ◌+◌, ◌<◌, ◌^◌, ℕ, List, [], ◌∷◌, length, Ok, IfOk, OnOk};
 ghost use Rattle.std.specs.Io.KnownBytes.{Appends};
 ghost use Rattle.wasm_operators.specs.Shortest.{short_number};
 ghost use Rattle.wasm_module.specs.declared.parsed.ParsedModule.{ParsedModule as Parsed};
@@ -9,7 +9,9 @@ ghost use Rattle.wasm_sections.specs.CodeSections.{body_at, entry};
 ghost use Rattle.wasm_module.specs.RewrittenCode.{Extends};
 ghost use Rattle.wasm_sections.specs.Sections.{section_id, section as whole_section, section_at, SectionAt, IsModule};
 ghost use Rattle.wasm_sections.specs.GivenContents.{added_bodies};
-ghost use Rattle.wasm_module.specs.WrittenModules.{Puts, new_contents_in, between, new_after, HasItemsOf, IsWrittenCode, IsWrittenFor, IsWrittenAt, IsWrittenModule};
+ghost use Rattle.wasm_module.specs.SameModules.{IsSameModule};
+ghost use Rattle.wasm_sections.specs.Components.{Components, module_of};
+ghost use Rattle.wasm_module.specs.WrittenModules.{Puts, FitsSize, new_contents_in, between, new_after, HasItemsOf, IsWrittenCode, IsWrittenFor, IsWrittenAt, IsWrittenModule};
 
 use crate::bodies::Scratch;
 use crate::body_writer::{BodyWriter, Needed};
@@ -81,8 +83,9 @@ fn put_number<W: Write>(
     at: usize,
     out: &mut W,
 ) -> Result<usize, WriteError>
-    ensures { IfOk result
+    ensures written { IfOk result
         (λ end. Puts (W.contents out.old) (W.contents out.new) at end (short_number number)) }
+    ensures fits { OnOk result (number < 2 ^ 32) }
 {
     let mut bytes = Vec::new(alloc);
     write_number(&mut bytes, number)?;
@@ -97,8 +100,9 @@ fn put_header<W: Write>(
     at: usize,
     out: &mut W,
 ) -> Result<usize, WriteError>
-    ensures { IfOk result (λ end. Puts (W.contents out.old) (W.contents out.new) at end
+    ensures written { IfOk result (λ end. Puts (W.contents out.old) (W.contents out.new) at end
         (section_id kind ∷ short_number len)) }
+    ensures fits { OnOk result (len < 2 ^ 32) }
 {
     let at = put(&[kind.id()], at, out)?;
     put_number(alloc, len, at, out)
@@ -112,8 +116,9 @@ pub(crate) fn put_section<W: Write>(
     at: usize,
     out: &mut W,
 ) -> Result<usize, WriteError>
-    ensures { IfOk result (λ end. Puts (W.contents out.old) (W.contents out.new) at end
+    ensures written { IfOk result (λ end. Puts (W.contents out.old) (W.contents out.new) at end
         (whole_section (section_id kind) contents.now)) }
+    ensures fits { OnOk result (FitsSize contents.now) }
 {
     let at = put_header(alloc, kind, contents.len(), at, out)?;
     put(contents, at, out)
@@ -197,6 +202,7 @@ impl<'a> ParsedModule<'a> {
         ensures written { (source : Parsed) → Extends source self.old
             → IfOk result (λ end. (raw : List ℕ)
             × B.writes body.now.writer.now source body.now.from.func (body_at body.now.from) raw
+            × FitsSize raw
             × Puts (W.contents out.old) (W.contents out.new) at end (entry raw)) }
     {
         let measured = body.writer.measure_large_body(self, body.from, scratch)?;
@@ -230,6 +236,7 @@ impl<'a> ParsedModule<'a> {
         ensures written { (source : Parsed) → Extends source self.old
             → IfOk result (λ end. (raw : List ℕ)
             × B.writes body.now.writer.now source body.now.from.func (body_at body.now.from) raw
+            × FitsSize raw
             × Puts (W.contents out.old) (W.contents out.new) at end (entry raw)) }
     {
         if body.from.is_large() {
@@ -299,6 +306,7 @@ impl<'a> ParsedModule<'a> {
             → IfOk result (λ end. (code : List ℕ)
             × IsWrittenCode (B.writes rewritten.now.bodies) source (section_at section.now) code
             × (contents : List ℕ) × HasItemsOf code (added_bodies rewritten.now.changes) contents
+            × FitsSize contents
             × Puts (W.contents out.old) (W.contents out.new) at end (whole_section 10 contents)) }
     {
         let at = put_header(self.alloc, SectionKind::Code, rewritten.code.len, at, out)?;
@@ -404,7 +412,9 @@ impl<'a> ParsedModule<'a> {
 
     /// Writes the module: its sections in order, unchanged ones byte for byte, new ones in their
     /// places; and each body after its size, as it is rewritten, or as it is kept after a change.
-    /// Custom sections are left out if `omit_debug` or another such call chose them.
+    /// Custom sections are left out if `omit_debug` or another such call chose them. Where no section
+    /// is given contents, the bytes that are written are read as a module of the same types, functions
+    /// and other items.
     ///
     /// # Errors
     ///
@@ -421,6 +431,10 @@ impl<'a> ParsedModule<'a> {
         ensures written { OnOk result ((new : List ℕ)
             × IsWrittenModule (B.writes rewritten.now.bodies) self.old rewritten.now.changes
             rewritten.now.omitted new
+            × Appends (W.contents out.old) (W.contents out.new) new) }
+        ensures same { (m : Components) → module_of self.old.bytes.now ≡ Ok m
+            → new_contents_in rewritten.now ≡ [] → OnOk result ((new : List ℕ)
+            × IsSameModule (B.writes rewritten.now.bodies) self.old m new
             × Appends (W.contents out.old) (W.contents out.new) new) }
     {
         self.write_with_sink(rewritten, &mut NoMap, out)

@@ -4,6 +4,7 @@ pub mod Leaving
 -- parts of a module, one after the other, and repeated
 pub mod PartLemmas
 pub mod RepeatedLemmas
+pub mod PartPlaces
 pub mod ConstantLemmas
 -- declarations of locals, group by group; indices of locals, one more at a time
 pub mod LocalLemmas
@@ -22,5 +23,10 @@ pub mod RenumberingLemmas
 pub mod DefinedLemmas
 -- the types of a section, item by item
 pub mod TypeReadingLemmas
+-- modules that consist of the same, whatever bodies they have: what sections add to them, and sections that are replaced
+pub mod SameComponentLemmas
+pub mod SameContentLemmas
+pub mod SameSectionLemmas
+pub mod OtherContentLemmas
 -- examples that fix the definitions of a module and of its parts: modules and parts by hand, computed
 pub mod Examples

@@ -179,20 +179,20 @@ element_type_follows flags =
 abbrev pub AtAnyEnd : {A : Type 0} → Part A → Type 0
 AtAnyEnd {A} part = (a b : ℕ) (text : List ℕ) (x : A) (rest : List ℕ) → part a text ≡ Ok (x, rest) → part b text ≡ Ok (x, rest)
 
-byte_anywhere : AtAnyEnd one_byte
+pub byte_anywhere : AtAnyEnd one_byte
 byte_anywhere a b [] x rest e = absurd cc
 byte_anywhere a b (c ∷ cs) x rest e = e
 
-item_anywhere : {A : Type 0} (read : Reader A) → AtAnyEnd (item read)
+pub item_anywhere : {A : Type 0} (read : Reader A) → AtAnyEnd (item read)
 item_anywhere {A} read a b text x rest e = ap (with_fault (item_fault b text)) (with_fault_ok (item_fault a text) (read text) (x, rest) e)
 
-checked_anywhere : {A B : Type 0} (part : Part A) (check : A → Result B ModuleFault) → AtAnyEnd part → AtAnyEnd (checked part check)
+pub checked_anywhere : {A B : Type 0} (part : Part A) (check : A → Result B ModuleFault) → AtAnyEnd part → AtAnyEnd (checked part check)
 checked_anywhere {A} {B} part check f a b text x rest e =
     let p = bind_ok (part a text) (λ x. with_fault (fault_here a text) (check x.0) >>= λ v. Ok (v, x.1)) (x, rest) e in
     let q = bind_ok (with_fault (fault_here a text) (check p.0.0)) (λ v. Ok (v, p.0.1)) (x, rest) p.2 in
     checked_ok part check b text p.0.0 q.0 p.0.1 (f a b text p.0.0 p.0.1 p.1) (with_fault_ok (fault_here a text) (check p.0.0) q.0 q.1) ∙ q.2
 
-reference_anywhere : AtAnyEnd reference_part
+pub reference_anywhere : AtAnyEnd reference_part
 reference_anywhere = checked_anywhere value_part reference_alone (item_anywhere value_type)
 
 element_kind_anywhere : (is_type : Bool) → AtAnyEnd (element_kind_part is_type)
@@ -201,7 +201,7 @@ element_kind_anywhere true a b text x rest e =
     ap (λ (r : Result (ValType ℕ × List ℕ) ModuleError). r >>= λ x. just tt b x.1) (reference_anywhere a b text p.0.0 p.0.1 p.1) ∙ p.2
 element_kind_anywhere false a b text x rest e = checked_anywhere one_byte element_kind_byte byte_anywhere a b text x rest e
 
-either_anywhere : {A : Type 0} (c : Bool) (first second : Part A) → AtAnyEnd first → AtAnyEnd second → AtAnyEnd (if c then first else second)
+pub either_anywhere : {A : Type 0} (c : Bool) (first second : Part A) → AtAnyEnd first → AtAnyEnd second → AtAnyEnd (if c then first else second)
 either_anywhere true first second f g = f
 either_anywhere false first second f g = g
 

@@ -11,6 +11,8 @@ pub mod CodeSections
 pub mod Parts
 pub mod Format
 pub mod Components
+-- when two modules consist of the same, whatever bodies they have
+pub mod SameComponents
 -- parts of a type section, and how many types it has; one more item of an index space
 pub mod TypeParts
 pub mod NextItems

@@ -1,6 +1,6 @@
 //! Numbers and vectors of bytes, as they are written (WebAssembly core specification 3.0, binary
 //! format, values).
-ghost use Rattle.std.specs.Prelude.{◌≡◌, ◌++◌, ◌≤◌, OnOk};
+ghost use Rattle.std.specs.Prelude.{◌≡◌, ◌++◌, ◌≤◌, ◌<◌, ◌^◌, OnOk};
 ghost use Rattle.wasm_operators.specs.Shortest.{short_number};
 ghost use Rattle.wasm_sections.specs.CodeSections.{entry};
 
@@ -26,7 +26,8 @@ pub fn number_len(number: usize) -> usize
 ///
 /// `TooGreat` if it doesn't fit 32 bits; or `Memory`.
 pub fn write_number(out: &mut Vec<u8>, number: usize) -> Result<(), ModuleError>
-    ensures { OnOk result (out.new.items ≡ out.old.items ++ short_number number) }
+    ensures written { OnOk result (out.new.items ≡ out.old.items ++ short_number number) }
+    ensures fits { OnOk result (number < 2 ^ 32) }
 {
     if number > u32::MAX as usize {
         return Err(ModuleError {

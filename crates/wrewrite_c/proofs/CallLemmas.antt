@@ -1,5 +1,5 @@
 -- What calls make, step by step.
-use Rattle.std.proofs.Common.{◌≡◌, ◌==◌, ℕ, ◌+◌, ◌<◌, List, [], ◌++◌, length, get_or, take, Bool, true, false, cond, not, ◌||◌, ◌&&◌, Result, Ok, Err, IfOk, IfErr, OnOk, inr, refl, sym, ap, subst, ◌∙◌}
+use Rattle.std.proofs.Common.{◌≡◌, ◌==◌, ℕ, ◌+◌, ◌<◌, ◌≤◌, List, [], ◌++◌, length, get_or, take, Bool, true, false, cond, not, ◌||◌, ◌&&◌, Option, Some, Result, Ok, Err, IfOk, IfErr, OnOk, inr, refl, sym, ap, subst, ◌∙◌}
 use Rattle.std.proofs.Math.Bool.{and-true}
 use Rattle.std.proofs.lemmas.List.Folds.{list_any_more}
 use Rattle.std.specs.List.{list_any}
@@ -7,12 +7,20 @@ use Rattle.std.specs.HashSet.{HashSet, IsEmpty, contains}
 use Rattle.wasm_sections.specs.declared.changes.Changes.{Changes}
 use Rattle.wasm_sections.specs.declared.omissions.OmittedSections.{OmittedSections}
 use Rattle.wasm_sections.specs.Omissions.{OmitsNothing, texts_of, has_name, names_debug, names_source_map}
+use Rattle.wasm_sections.specs.declared.code.Bodies.{Bodies}
+use Rattle.wasm_sections.specs.declared.code.Body.{Body}
+use Rattle.wasm_sections.specs.declared.fault.ModuleError.{ModuleError}
+use Rattle.wasm_sections.specs.CodeSections.{body_at, TakesBody}
 use Rattle.wasm_module.specs.declared.parsed.ParsedModule.{ParsedModule}
 use Rattle.wasm_module.specs.declared.changing.kept_bodies.KeptBodies.{KeptBodies}
 use Rattle.wasm_module.specs.KeptCode.{IsKept, AreKeptAs}
 use Rattle.wasm_module.specs.RewrittenCode.{Extends, IsRewritten}
 use Rattle.wasm_module.specs.WrittenModules.{BodyWriting, IsWrittenModule}
+use Rattle.wasm_module.specs.AcceptedModules.{AcceptsBodies}
 use Rattle.wasm_module.specs.ReadFrom.{IsModuleOf}
+use Rattle.wasm_module.specs.Refusals.{IsRefusedBody}
+use Rattle.wasm_module.proofs.CheckedLemmas.{CheckedSoFar}
+use Rattle.wasm_module.proofs.PassedLemmas.{one_passed}
 use Rattle.wasm_module.proofs.RewritingLemmas.{rewritten_then}
 use Rattle.wasm_module.proofs.WriterLemmas.{module_as, kept_module}
 use Rattle.wrewrite_c.specs.declared.options.Options.{Options}
@@ -20,7 +28,7 @@ use Rattle.wrewrite_c.specs.declared.outcome.Named.{Named}
 use Rattle.wrewrite_c.specs.declared.outcome.Stop.{Stop}
 use Rattle.wrewrite_c.specs.declared.outcome.Stop.TheVariants.{Refused, NoFunction}
 use Rattle.wrewrite_c.specs.Made.{without_debug, without_all, LeavesOut, IsMadeFrom, IsMadeOf, IsSnippedFrom, IsSnippedOf, is_among, HasFunctions, AddsIndex}
-use Rattle.wrewrite_c.specs.Outcomes.{IsMissingIn, LacksFunctionIn, LacksFunction, IsNamedFunction, IsNamedIn, IsOfBodies, IsOfCheck}
+use Rattle.wrewrite_c.specs.Outcomes.{IsMissingIn, LacksFunctionIn, LacksFunction, IsNamedFunction, IsNamedIn, IsOfFunction, IsOfBodies, IsOfCheck, IsAcceptedFrom}
 
 -- ---- what is left out
 
@@ -168,3 +176,26 @@ pub if_of_bodies :
     IfErr r (IsOfCheck source first)
 if_of_bodies (Ok x) source parsed first reads h = tt
 if_of_bodies (Err stop) source parsed first reads h = inr (parsed, reads, h)
+
+pub if_accepted :
+    {A E : Type 0} (r : Result A E) (source : List ℕ) (parsed : ParsedModule) (first : ℕ) → IsModuleOf source parsed → OnOk r (AcceptsBodies parsed first) →
+    OnOk r (IsAcceptedFrom source first)
+if_accepted r source parsed first reads h = on_ok r (λ a. (parsed, reads, a)) h
+
+-- the next body is refused
+pub first_refused :
+    (parsed now : ParsedModule) (first : ℕ) (s t : Bodies) (r : Option Body) (b : Body) (e : ModuleError) → CheckedSoFar parsed first s → r ≡ Some b → TakesBody s r t →
+    first ≤ b.func → IsRefusedBody parsed b.func (body_at b) now e → IsOfFunction parsed first e b.func
+first_refused parsed now first s t r b e p i takes follows refused =
+    let next = one_passed parsed p.passed s t r b p.left_is i takes in
+    record {
+      follows = follows;
+      before = p.passed;
+      body = body_at b;
+      after = next.after;
+      are_bodies = next.are_bodies;
+      are_accepted = p.are_accepted;
+      function_is = next.function_is;
+      now = now;
+      is_refused = refused;
+    }

@@ -1,11 +1,14 @@
 -- How calls end.
-use Rattle.std.specs.Prelude.{◌≡◌, ◌≢◌, ◌⊎◌, ◌<◌, ◌≤◌, ◌-◌, ◌^◌, ℕ, List, [], ◌++◌, length, drop, Bool, true, false, Option, None, MatchOption}
+use Rattle.std.specs.Prelude.{◌≡◌, ◌≢◌, ◌⊎◌, ◌<◌, ◌≤◌, ◌+◌, ◌-◌, ◌^◌, ℕ, List, [], ◌∷◌, ◌++◌, length, drop, Bool, true, false, Option, None, MatchOption}
 use Rattle.wasm_sections.specs.declared.fault.ModuleError.{ModuleError}
 use Rattle.wasm_sections.specs.declared.fault.ModuleFault.{ModuleFault}
 use Rattle.wasm_sections.specs.declared.fault.ModuleFault.TheVariants.{Memory, TooGreat}
 use Rattle.wasm_module.specs.declared.parsed.ParsedModule.{ParsedModule}
 use Rattle.wasm_sections.specs.CodeSections.{BodyAt}
+use Rattle.wasm_module.specs.AcceptedModules.{AreAcceptedFrom, AcceptsBodies}
+use Rattle.wasm_module.specs.ModuleCode.{AreBodiesOf}
 use Rattle.wasm_module.specs.ReadFrom.{IsModuleOf, IsOfReading}
+use Rattle.wasm_module.specs.ReadModules.{components_of}
 use Rattle.wasm_module.specs.Refusals.{IsRefusedBody}
 use Rattle.wrewrite_c.specs.declared.options.Options.{Options}
 use Rattle.wrewrite_c.specs.declared.outcome.Outcome.{Outcome}
@@ -120,10 +123,15 @@ abbrev pub IsNotRead : (source : List ℕ) → Stop → Type 0
 IsNotRead source (Refused r) = (r.function ≡ None) × IsOfReading source r.error
 IsNotRead source (NoFunction index) = ⊥
 
--- This function, from the first that is looked at on, is refused for this fault.
+-- This function is refused for this fault, from the first that is looked at on: the bodies before its own are accepted.
 pub record IsOfFunction (parsed : ParsedModule) (first : ℕ) (error : ModuleError) (function : ℕ) : Type 0 where
   pub follows : first ≤ function
+  pub before : List BodyAt
   pub body : BodyAt
+  pub after : List BodyAt
+  pub are_bodies : AreBodiesOf (components_of parsed) (before ++ body ∷ after)
+  pub are_accepted : AreAcceptedFrom parsed first parsed.imported before
+  pub function_is : function ≡ parsed.imported + length before
   pub now : ParsedModule
   pub is_refused : IsRefusedBody parsed function body now error
 
@@ -136,9 +144,13 @@ IsOfBodies parsed first (NoFunction index) = ⊥
 abbrev pub IsOfCheck : (source : List ℕ) → (first : ℕ) → Stop → Type 0
 IsOfCheck source first stop = IsNotRead source stop ⊎ ((parsed : ParsedModule) × IsModuleOf source parsed × IsOfBodies parsed first stop)
 
+-- The bytes spell a module, and each of its functions from this one on that has a body is accepted.
+abbrev pub IsAcceptedFrom : (source : List ℕ) → (first : ℕ) → Type 0
+IsAcceptedFrom source first = (parsed : ParsedModule) × IsModuleOf source parsed × AcceptsBodies parsed first
+
 -- A check finds nothing that is refused, or this.
 pub data IsChecked (source : List ℕ) (first : ℕ) (o : Outcome) : Type 0 where
-  accepted : o.status ≡ 0 → HasSizes 0 0 o → IsChecked source first o
+  accepted : o.status ≡ 0 → IsAcceptedFrom source first → HasSizes 0 0 o → IsChecked source first o
   refused : (stop : Stop) → IsOfCheck source first stop → IsStopped stop o → HasSizes 0 0 o → IsChecked source first o
 
 -- A search by name finds a function with a body, or none, or several; or the module isn't read.

@@ -1,10 +1,12 @@
 //! Modules that are checked: nothing is made of their bodies, and nothing is written.
 
-ghost use Rattle.std.specs.Prelude.{IfErr, IfSome};
+ghost use Rattle.std.specs.Prelude.{ℕ, List, IfErr, IfNone, IfSome, OnOk};
 ghost use Rattle.wasm_sections.specs.CodeSections.{body_at};
-ghost use Rattle.wasm_module.specs.RewrittenCode.{Extends};
+ghost use Rattle.wasm_module.specs.AcceptedModules.{AcceptsBodies};
+ghost use Rattle.wasm_module.specs.ReadFrom.{IsModuleOf};
+ghost use Rattle.wasm_module.specs.RewrittenCode.{Extends, IsAccepted};
 ghost use Rattle.wasm_module.specs.Refusals.{IsRefusedBody};
-ghost use Rattle.wrewrite_c.specs.Outcomes.{IsOfBodies, IsOfCheck};
+ghost use Rattle.wrewrite_c.specs.Outcomes.{IsOfBodies, IsOfCheck, IsAcceptedFrom};
 
 use crate::outcome::{RefusedModule, Stop};
 use crate::reading::read;
@@ -18,6 +20,8 @@ fn fault_of<'a>(
     scratch: &mut Scratch,
 ) -> Option<ModuleError>
     ensures extends { Extends parsed.old parsed.new }
+    ensures accepted { IfNone result
+        (IsAccepted parsed.old body.entry.func (body_at body.entry) parsed.new) }
     ensures refused { IfSome result
         (IsRefusedBody parsed.old body.entry.func (body_at body.entry) parsed.new) }
 {
@@ -33,7 +37,10 @@ fn check_bodies(
     first: usize,
     scratch: &mut Scratch,
 ) -> Result<(), Stop>
-    ensures { IfErr result (IsOfBodies parsed.old first) }
+    ensures accepted { (source : List ℕ) → IsModuleOf source parsed.old
+        → OnOk result (AcceptsBodies parsed.old first) }
+    ensures refused { (source : List ℕ) → IsModuleOf source parsed.old
+        → IfErr result (IsOfBodies parsed.old first) }
 {
     'bodies: for body in parsed.bodies() {
         if body.func < first {
@@ -51,7 +58,8 @@ fn check_bodies(
 
 /// Checks the bodies of a module, from that of this function on.
 pub(crate) fn check(alloc: Global, source: &[u8], first: usize) -> Result<(), Stop>
-    ensures { IfErr result (IsOfCheck source.now first) }
+    ensures accepted { OnOk result (IsAcceptedFrom source.now first) }
+    ensures refused { IfErr result (IsOfCheck source.now first) }
 {
     let mut parsed = match read(alloc, source) {
         Ok(parsed) => parsed,

@@ -21,7 +21,7 @@ given-preserved g c =
       | then-ranks-rank+then-rank-ranks+in_ok-end w ↦
           let p : first < r = omega (arith, c.rank-rank.ensures) in
           let q : r < second = omega (arith, c.rank-rank.ensures) in
-          let puts = subst (λ (l : List ℕ). Puts (contents at.out) (contents w.put_section.new.out) at.end w.in_ok-end.end (section (section_id item.kind) l)) w.deref.ensures.value w.in_ok-end.ensures in
+          let puts = subst (λ (l : List ℕ). Puts (contents at.out) (contents w.put_section.new.out) at.end w.in_ok-end.end (section (section_id item.kind) l)) w.deref.ensures.value w.in_ok-end.ensures.written in
           one_new first second gs at.given-index item within is (contents c.args.out.now) (contents at.out) (contents w.put_section.new.out) (contents c.if-ranks-rank.out)
           c.args.at at.end w.in_ok-end.end c.if-ranks-rank.end at.invariant (is_within_ranks first r second p q) puts (cc w.out-is) (cc w.end-is)
       | else-ranks-rank w ↦

@@ -8,8 +8,8 @@ returns-in-Ok-clause-written c = λ source e.
 
 pub returns-in-Ok-rewrite_flat_with_pairs-clause-written : goal.returns-in-Ok-rewrite_flat_with_pairs-clause-written
 returns-in-Ok-rewrite_flat_with_pairs-clause-written c = λ source e.
-    rewritten_then source c.args.parsed.now c.args.body.func (body_at c.args.body) c.rewrite_flat_with_pairs.new.scratch.raw.items e c.in-Ok-rewrite_flat_with_pairs.ensures.rewritten
+    rewritten_then source c.args.parsed.now c.args.body.func (body_at c.args.body) c.rewrite_flat_with_pairs.new.scratch.raw.items e c.in-Ok-rewrite_flat_with_pairs.ensures.rewritten.rewritten
 
 pub returns-in-Ok-rewrite_with_pairs-clause-written : goal.returns-in-Ok-rewrite_with_pairs-clause-written
 returns-in-Ok-rewrite_with_pairs-clause-written c = λ source e.
-    rewritten_then source c.args.parsed.now c.args.body.func (body_at c.args.body) c.rewrite_with_pairs.new.scratch.raw.items e c.in-Ok-rewrite_with_pairs.ensures.rewritten
+    rewritten_then source c.args.parsed.now c.args.body.func (body_at c.args.body) c.rewrite_with_pairs.new.scratch.raw.items e c.in-Ok-rewrite_with_pairs.ensures.rewritten.rewritten

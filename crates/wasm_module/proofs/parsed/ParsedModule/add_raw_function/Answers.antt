@@ -9,5 +9,5 @@ returns-in-Ok-add_item c = λ all m. record {
   adds_body = c.in-Ok.ensures;
   adds_type =
       subst (λ (l : List ℕ). AddsItem all c.add_body.new.self c.add_item.new.changes 3 l)
-      (c.deref.ensures.value ∙ from_empty _ _ _ c.new-item.ensures.items c.in-Ok-write_number.ensures) (c.in-Ok-add_item.ensures.ok all m);
+      (c.deref.ensures.value ∙ from_empty _ _ _ c.new-item.ensures.items c.in-Ok-write_number.ensures.written) (c.in-Ok-add_item.ensures.ok all m);
 }

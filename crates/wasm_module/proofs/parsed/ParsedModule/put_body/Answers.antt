@@ -1,5 +1,6 @@
-use Rattle.std.proofs.Common.{◌≡◌, ℕ, List, length, ap}
+use Rattle.std.proofs.Common.{◌≡◌, ℕ, List, length, ap, subst}
 use Rattle.wasm_operators.specs.Shortest.{short_number}
+use Rattle.wasm_module.specs.WrittenModules.{FitsSize}
 use Rattle.wasm_module.proofs.WritingLemmas.{puts_then, puts_same, if_so}
 use Rattle.wasm_module.proofs.parsed.ParsedModule.put_body.Goals as goal
 
@@ -17,7 +18,8 @@ returns-clause-written g c = λ source e.
     if_so c.put.result c.put.ensures (λ end puts. (
       raw,
       c.in_ok-write_body.ensures.written source e,
+      subst FitsSize is_raw c.in_ok-start.ensures.fits,
       puts_then before sized after c.args.at start end (short_number (length raw)) raw
-          (puts_same before sized c.args.at start (short_number given) (short_number (length raw)) len c.in_ok-start.ensures)
+          (puts_same before sized c.args.at start (short_number given) (short_number (length raw)) len c.in_ok-start.ensures.written)
           (puts_same sized after start end c.as_slice-raw.result.now raw is_raw puts),
     ))

@@ -16,7 +16,7 @@ bodies-init g c =
       extends = extends_same c.args.self.now;
       so_far = λ source e.
           no_bodies (g.B.BodyWriter.writes c.args.rewritten.now.bodies) source c.args.self.now at.source (at.count + c.in_ok-more.more) (contents c.args.out.now) (contents c.put_number.new.out) c.args.at c.in_ok-end.end
-          c.args.section.now.contents.end at.source.left.rest.now e refl at.ensures.end (at.ensures.first ∙ c.imported.ensures) c.in_ok-end.ensures;
+          c.args.section.now.contents.end at.source.left.rest.now e refl at.ensures.end (at.ensures.first ∙ c.imported.ensures) c.in_ok-end.ensures.written;
     }
 
 pub bodies-preserved : goal.bodies-preserved
@@ -29,7 +29,7 @@ bodies-preserved g c =
           let w = c.in_ok-end-2.ensures.written source (extends_then source c.args.self.now at.self e at.invariant.extends) in
           one_more_body (g.B.BodyWriter.writes c.args.rewritten.now.bodies) source c.args.section.now.contents.end c.in_ok-count.source.left.rest.now at.source c.next.new.self c.next.result c.in-Some.from
           at.counter (c.in_ok-count.count + c.in_ok-more.more) (contents c.args.out.now) (contents at.out) (contents c.put_body.new.out) c.args.at at.end c.in_ok-end-2.end w.0
-          (at.invariant.so_far source e) c.in-Some.is c.next.ensures.steps w.1 w.2;
+          (at.invariant.so_far source e) c.in-Some.is c.next.ensures.steps w.1 w.2 w.3;
     }
 
 pub returns-clause-written : goal.returns-clause-written

@@ -2,13 +2,14 @@ use Rattle.std.proofs.Common.{◌≡◌, ◌≢◌, refl, rules}
 use Rattle.wasm_sections.specs.Sections.{section_id, section}
 use Rattle.wasm_module.specs.WrittenModules.IsWrittenFor.{code, replaced, carried_over}
 use Rattle.wasm_module.proofs.ModuleLemmas.{extends_same, then_ok}
+use Rattle.wasm_module.proofs.WriterLemmas.{if_both}
 use Rattle.wasm_module.proofs.WritingLemmas.{if_so}
 use Rattle.wasm_module.proofs.parsed.ParsedModule.put_in_place.Goals as goal
 
 pub returns-then-eq-clause-written : goal.returns-then-eq-clause-written
 returns-then-eq-clause-written g c = λ source e.
     let is_code : section_id c.args.section.now.kind ≡ 10 = search rules in
-    if_so c.put_code_section.result (c.put_code_section.ensures.written source e) (λ end w. (section 10 w.2, code w.0 w.2 is_code w.1 w.3 refl, w.4))
+    if_so c.put_code_section.result (c.put_code_section.ensures.written source e) (λ end w. (section 10 w.2, code w.0 w.2 is_code w.1 w.3 (w.4, refl), w.5))
 
 pub returns-in-Some-clause-extends : goal.returns-in-Some-clause-extends
 returns-in-Some-clause-extends g c = then_ok c.put_section.result (extends_same c.args.self.now)
@@ -21,7 +22,7 @@ returns-in-Some-clause-written g c = λ source e.
     let kind = c.args.section.now.kind in
     let contents = c.in-Some.contents.now in
     let not_code : section_id kind ≢ 10 = search rules in
-    if_so c.put_section.result c.put_section.ensures (λ end p. (section (section_id kind) contents, replaced contents not_code (c.in_ok-omits.ensures.no c.if-branch.false) c.in-Some.ensures.some refl, p))
+    if_both c.put_section.result c.put_section.ensures.fits c.put_section.ensures.written (λ end fits p. (section (section_id kind) contents, replaced contents not_code (c.in_ok-omits.ensures.no c.if-branch.false) c.in-Some.ensures.some (fits, refl), p))
 
 pub returns-then-branch-clause-extends : goal.returns-then-branch-clause-extends
 returns-then-branch-clause-extends g c = extends_same c.args.self.now

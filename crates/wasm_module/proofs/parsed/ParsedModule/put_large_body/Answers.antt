@@ -19,6 +19,7 @@ returns-clause-written g c = λ source e.
     if_so c.place_after.result c.place_after.ensures (λ end is. (
       made.0,
       made.1,
+      omega (arith, count, c.in_ok-start.ensures.fits),
       puts_entry (contents c.args.out.now) (contents c.put_number.new.out) (contents c.put_in_pieces.new.out) c.args.at c.in_ok-start.start end known made.0
-          c.in_ok-start.ensures count made.3 (omega (arith, is, same)),
+          c.in_ok-start.ensures.written count made.3 (omega (arith, is, same)),
     ))

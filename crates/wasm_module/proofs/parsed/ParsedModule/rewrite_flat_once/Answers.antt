@@ -16,8 +16,8 @@ returns-clause-extends c =
 pub returns-in-Ok-clause-rewritten : goal.returns-in-Ok-clause-rewritten
 returns-in-Ok-clause-rewritten c =
     let made = c.in_ok-ty.field-0 in
-    rewritten_flat c.args.self.now c.enter.new.self c.args.body.func (body_at c.args.body) made.ty c.local_lists-lists.result c.as_slice.result.now made.args.items made.locals made.body _
-    c.rewrite_flat-rewritten.new.dst.items c.in_ok-ty.ensures.enters c.local_lists-lists.ensures c.as_slice.ensures.value c.clear.ensures.items c.in-Ok.ensures.rewritten
+    (rewritten_flat c.args.self.now c.enter.new.self c.args.body.func (body_at c.args.body) made.ty c.local_lists-lists.result c.as_slice.result.now made.args.items made.locals made.body _
+    c.rewrite_flat-rewritten.new.dst.items c.in_ok-ty.ensures.enters c.local_lists-lists.ensures c.as_slice.ensures.value c.clear.ensures.items c.in-Ok.ensures.rewritten).0
 
 pub returns-clause-refused : goal.returns-clause-refused
 returns-clause-refused c =

@@ -18,8 +18,8 @@ returns-in-Ok-clause-rewritten g c =
     let made = c.in_ok-ty.field-0 in
     let h = c.in-Ok.ensures.rewritten in (
       h.0,
-      rewritten_flat c.args.self.now c.enter.new.self c.args.body.func (body_at c.args.body) made.ty c.local_lists-lists.result c.as_slice.result.now made.args.items made.locals made.body [] h.0.bytes
-          c.in_ok-ty.ensures.enters c.local_lists-lists.ensures c.as_slice.ensures.value refl h.2.rewrites,
+      (rewritten_flat c.args.self.now c.enter.new.self c.args.body.func (body_at c.args.body) made.ty c.local_lists-lists.result c.as_slice.result.now made.args.items made.locals made.body [] h.0.bytes
+          c.in_ok-ty.ensures.enters c.local_lists-lists.ensures c.as_slice.ensures.value refl h.2.rewrites).0,
       h.1,
     )
 

@@ -16,8 +16,8 @@ returns-in-Err-clause-extends c =
 pub returns-in-Ok-clause-rewritten : goal.returns-in-Ok-clause-rewritten
 returns-in-Ok-clause-rewritten c =
     let made = c.in_ok-ty.field-0 in
-    rewritten c.args.self.now c.enter.new.self c.args.body.func (body_at c.args.body) made.ty c.local_lists-lists.result made.args.items made.locals made.body _
-    c.rewrite_body-rewritten.new.dst.items c.in_ok-ty.ensures.enters c.local_lists-lists.ensures c.clear.ensures.items c.in-Ok.ensures.rewritten
+    (rewritten c.args.self.now c.enter.new.self c.args.body.func (body_at c.args.body) made.ty c.local_lists-lists.result made.args.items made.locals made.body _
+    c.rewrite_body-rewritten.new.dst.items c.in_ok-ty.ensures.enters c.local_lists-lists.ensures c.clear.ensures.items c.in-Ok.ensures.rewritten).0
 
 pub returns-in-Ok-clause-parsed : goal.returns-in-Ok-clause-parsed
 returns-in-Ok-clause-parsed c =

@@ -20,5 +20,5 @@ pub returns : goal.returns
 returns c =
     let at = c.types in
     let end : length c.args.types.now ≤ at.ty-index = omega arith in
-    all_written c.args.self.now.spaces.numbers c.args.types.now at.ty-index c.args.out.now.items c.write_number.new.out.items at.out.items end c.in-Ok.ensures
+    all_written c.args.self.now.spaces.numbers c.args.types.now at.ty-index c.args.out.now.items c.write_number.new.out.items at.out.items end c.in-Ok.ensures.written
     at.invariant

@@ -2,7 +2,7 @@ use Rattle.wasm_sections.specs.CodeSections.{body_at}
 use Rattle.wasm_module.proofs.ModuleLemmas.{extends_then}
 use Rattle.wasm_module.proofs.RefusalLemmas.{if_not_rewritten_then}
 use Rattle.wasm_module.proofs.RewritingLemmas.{rewritten_ok, parsed_ok}
-use Rattle.wasm_module.proofs.parsed.ParsedModule.rewrite_with_types.Goals as goal
+use Rattle.wasm_module.proofs.parsed.ParsedModule.rewrite.Goals as goal
 
 pub returns-in_ok-add_missing_types-in-Err-clause-extends : goal.returns-in_ok-add_missing_types-in-Err-clause-extends
 returns-in_ok-add_missing_types-in-Err-clause-extends c =
