@@ -125,3 +125,15 @@ fn looks_up_locations(rt: HostRuntime) -> Result<(), Fail> {
     }
     Ok(())
 }
+
+/// 00 06 40 18 00 0b is written as it is: the `try` was at 101 and the `end` at 105. The `delegate`
+/// has no location of its own.
+#[test]
+fn looks_up_a_delegate(rt: HostRuntime) -> Result<(), Fail> {
+    let bytes = [0x00, 0x06, 0x40, 0x18, 0x00, 0x0b];
+    let none = InstrLocId::default().data();
+    for (place, expected) in [(1, Some(101)), (3, Some(none)), (5, Some(105))] {
+        assert_eq!(rt; located(rt.alloc(), &bytes, place)?, expected, "at {place}");
+    }
+    Ok(())
+}
