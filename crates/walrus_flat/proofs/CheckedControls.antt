@@ -19,7 +19,7 @@ use Rattle.walrus_flat.specs.Controls.{control_listed}
 use Rattle.walrus_flat.specs.Checked.{env_of_checker, StaysSame, ChecksAtOnce}
 use Rattle.walrus_flat.specs.Checkers.{ClosesInner, OpensSequence, BeginsConstruct}
 use Rattle.walrus_flat.proofs.NoParts.{at_opener}
-use Rattle.walrus_flat.proofs.CheckerOperators.{at_block, at_loop, at_if, at_end, same_opening, same_end}
+use Rattle.walrus_flat.proofs.CheckerOperators.{at_block, at_loop, at_if, at_end, at_nop, same_opening, same_end}
 
 -- sequences of which one is the last
 some_with : {A : Type 0} (xs : List A) (x : A) → xs ++ x ∷ [] ≢ []
@@ -104,3 +104,7 @@ module _ (old new : Checker) where
         by_result : (r : Bool) → OnTrue r (ClosesInner old new) → OnTrue r (new.«open».items ≢ [])
         by_result true closes = closes.2
         by_result false closes = tt
+
+-- `nop`
+pub nop_at_once : (old : Checker) → old.«open».items ≢ [] → (c : Control) → c ≡ control.Nop → ChecksAtOnce old old (meaning (control_listed c)) true
+nop_at_once old some c is = subst (λ d. ChecksAtOnce old old (meaning (control_listed d)) true) (sym is) (at_nop old some op.Nop refl, refl)

@@ -9,19 +9,21 @@ use Rattle.wasm_operators.specs.declared.operator.Op.TheVariants as op
 use Rattle.wasm_operators.specs.Meaning.{Listed, meaning}
 use Rattle.wasm_operators.specs.Operations.{block, operation}
 use Rattle.wasm_operators.specs.Shortest.{short_number}
-use Rattle.wasm_body.specs.Flat.{Kept, Live, flat_state, innermost, around}
+use Rattle.wasm_body.specs.Flat.{Kept, Dropped, Live, Unreachable, flat_state, innermost, around}
+use Rattle.walrus_from_operators.specs.OperatorKinds.{is_instruction}
+use Rattle.walrus_parser.specs.OperatorKinds.{makes_unreachable}
 use Rattle.walrus_emit_state.specs.TreeWriting.Drafts.{with_bytes}
 use Rattle.walrus_flat.specs.declared.writer.Writer.{Writer}
 use Rattle.walrus_flat.specs.declared.sequences.Next.TheVariants as next
 use Rattle.walrus_flat.specs.declared.control.Control.{Control}
 use Rattle.walrus_flat.specs.declared.control.Control.TheVariants as control
 use Rattle.walrus_flat.specs.Controls.{control_listed}
-use Rattle.walrus_flat.specs.Written.{opens_of, mode_of, is_unreachable_next, waiting_location, end_if, end_pieces, state_after_end}
-use Rattle.walrus_flat.specs.Writers.{numbers_of_writer, IsSameWriter, IsPicked, needs_one, PutsAsIs, Goes, WritesOpener, OpensUnless, StepsWriter, OpensEmpty, ClosesShort}
+use Rattle.walrus_flat.specs.Written.{opens_of, flat_state_of, mode_of, mode_if, is_unreachable_next, waiting_location, end_if, end_pieces, state_after_end}
+use Rattle.walrus_flat.specs.Writers.{numbers_of_writer, IsSameWriter, IsPicked, needs_one, PutsAsIs, Goes, WritesUnless, WritesOpener, OpensUnless, StepsWriter, OpensEmpty, ClosesShort}
 use Rattle.walrus_flat.proofs.Drafts.{nothing_waits}
 use Rattle.walrus_flat.proofs.TypeBytes.{without_result}
 use Rattle.walrus_flat.proofs.WriterShort.{opener_written}
-use Rattle.walrus_flat.proofs.WriterOperators.{at_block, at_loop, at_if, at_end}
+use Rattle.walrus_flat.proofs.WriterOperators.{at_block, at_loop, at_if, at_end, at_nop, at_other}
 
 module _ (old new : Writer) (location : ℕ) (live : old.«open».next ≡ next.Live) where
   -- ---- openers
@@ -110,3 +112,41 @@ module _ (old new : Writer) (location : ℕ) (live : old.«open».next ≡ next.
 
     pub end_at_once : c ≡ control.End → OnTrue b (ClosesShort old new location) → Steps c
     end_at_once is done = subst Steps (sym is) (when (λ h. at_end old new op.End location (Ok tt) refl (closed h) tt) b done)
+
+-- `nop`
+pub nop_at_once : (old : Writer) (c : Control) (location : ℕ) → c ≡ control.Nop → StepsWriter old old (meaning (control_listed c)) location (Ok tt)
+nop_at_once old c location is = subst (λ d. StepsWriter old old (meaning (control_listed d)) location (Ok tt)) (sym is) (at_nop old op.Nop location refl)
+
+-- ---- in unreachable code
+
+module _ (old new : Writer) (location : ℕ) (dead : is_unreachable_next old.«open».next ≡ true) (c : Control) (b : Bool) where
+  abbrev Skips : Control → Type 0
+  Skips d = OnTrue b (StepsWriter old new (meaning (control_listed d)) location (Ok tt))
+
+  abbrev OpensDropped : Type 0
+  OpensDropped = Goes old new (flat_state Unreachable (Dropped ∷ opens_of old.«open»)) []
+
+  opens_dropped : (o : Listed) (is_if : Bool) → OpensDropped → OpensUnless (is_unreachable_next old.«open».next) old new (meaning o) Empty is_if location (Ok tt)
+  opens_dropped o is_if goes = subst (λ d. OpensUnless d old new (meaning o) Empty is_if location (Ok tt)) (sym dead) goes
+
+  skipped : {P Q : Type 0} → (P → Q) → (r : Bool) → OnTrue r P → OnTrue r Q
+  skipped f true p = f p
+  skipped f false p = tt
+
+  pub block_skipped : c ≡ control.Block → OnTrue b OpensDropped → Skips c
+  block_skipped is done = subst Skips (sym is) (skipped (λ h. at_block old new (op.Block Empty) location (Ok tt) Empty refl (opens_dropped (op.Block Empty) false h)) b done)
+
+  pub loop_skipped : c ≡ control.Loop → OnTrue b OpensDropped → Skips c
+  loop_skipped is done = subst Skips (sym is) (skipped (λ h. at_loop old new (op.Loop Empty) location (Ok tt) Empty refl (opens_dropped (op.Loop Empty) false h)) b done)
+
+  pub if_skipped : c ≡ control.If → OnTrue b OpensDropped → Skips c
+  if_skipped is done = subst Skips (sym is) (skipped (λ h. at_if old new (op.If Empty) location (Ok tt) Empty refl (opens_dropped (op.If Empty) true h)) b done)
+
+  pub end_skipped : c ≡ control.End → OnTrue b (Goes old new (state_after_end (mode_of old.«open».next) (opens_of old.«open»)) (end_pieces (mode_of old.«open».next) (innermost (opens_of old.«open»)) location)) → Skips c
+  end_skipped is done = subst Skips (sym is) (skipped (λ h. at_end old new op.End location (Ok tt) refl h tt) b done)
+
+-- a common operator
+pub common_skipped : (old : Writer) (x : Listed) (location : ℕ) → is_instruction x ≡ true → is_unreachable_next old.«open».next ≡ true → StepsWriter old old (meaning x) location (Ok tt)
+common_skipped old x location alone dead = at_other old old x location (Ok tt) alone
+    (subst (λ d. WritesUnless d old old (meaning x) (Simple None) location (flat_state_of old.«open») (flat_state (mode_if (makes_unreachable x)) (opens_of old.«open»)) (Ok tt)) (sym dead)
+    (record { same = record { «module» = refl; indices = refl; function = refl; ty = refl; out = refl; locals = refl }; draft = refl; state_is = refl }))

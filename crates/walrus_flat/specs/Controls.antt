@@ -13,6 +13,7 @@ control_listed control.Block = operator.Block Empty
 control_listed control.Loop = operator.Loop Empty
 control_listed control.If = operator.If Empty
 control_listed control.End = operator.End
+control_listed control.Nop = operator.Nop
 
 -- An operator is at the front of the bytes, and these follow it.
 abbrev pub HasFront : (bytes rest : List ℕ) → Type 0

@@ -76,6 +76,7 @@ fn check_operator<V: OpCheck>(
         Control::Loop => validator.op(at, &Operator::Loop { ty }),
         Control::If => validator.op(at, &Operator::If { ty }),
         Control::End => validator.op(at, &Operator::End),
+        Control::Nop => validator.op(at, &Operator::Nop),
     }
 }
 

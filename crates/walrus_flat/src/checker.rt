@@ -517,6 +517,7 @@ impl Checker<'_> {
             Control::Loop => self.open_empty(BlockKind::Loop),
             Control::If => self.open_empty(BlockKind::If),
             Control::End => self.close_inner(),
+            Control::Nop => true,
         }
     }
 

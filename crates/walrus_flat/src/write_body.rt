@@ -1,8 +1,8 @@
 //! The second pass: a body that was checked is read again, and written.
-ghost use Rattle.std.specs.Prelude.{◌≡◌, ◌≤◌, ◌<◌, ◌+◌, length};
+ghost use Rattle.std.specs.Prelude.{◌≡◌, ◌≤◌, ◌<◌, ◌+◌, ℕ, length, true};
 ghost use Rattle.walrus_validators.specs.Locating.{MayCall};
 ghost use Rattle.wasm_body.specs.Flat.{first_state};
-ghost use Rattle.walrus_flat.specs.Written.{flat_state_of};
+ghost use Rattle.walrus_flat.specs.Written.{flat_state_of, is_unreachable_next};
 ghost use Rattle.walrus_flat.specs.declared.sequences.Next.TheVariants.{Live as LiveNext};
 ghost use Rattle.walrus_flat.specs.Writers.{env_at, numbers_of_writer};
 ghost use Rattle.walrus_flat.specs.WrittenBody.{again, IsAcceptedBody, WritesOperators, WritesNextAtOnce, WritesSome};
@@ -32,9 +32,45 @@ fn write_control(writer: &mut Writer<'_>, reader: &mut Cursor<'_>, location: Ins
     true
 }
 
-/// Writes the next operator at once if it is a common one in live code, and returns whether it did.
-/// It doesn't if an `else` waits, a part of the operator has no number or memory runs out; then
-/// nothing is changed, and the operator is written as any other.
+/// Skips the next operator at once if it is one of the frequent control operators, as
+/// `write_at_once`, in unreachable code.
+fn skip_control(writer: &mut Writer<'_>, reader: &mut Cursor<'_>) -> bool
+    requires { is_unreachable_next writer.old.open.next ≡ true }
+    ensures { (location : ℕ) → WritesNextAtOnce reader.old reader.new writer.old writer.new
+        location result }
+{
+    let Some((control, rest)) = reader.peek_control() else {
+        return false;
+    };
+    if !writer.skip_control(control) {
+        return false;
+    }
+    reader.pass(rest);
+    true
+}
+
+/// Skips the next operator at once if it is a common one or a frequent control operator in unreachable
+/// code, as `write_at_once`. It isn't inlined, so that the way of an operator that is written stays
+/// short.
+#[inline(never)]
+fn skip_at_once(writer: &mut Writer<'_>, reader: &mut Cursor<'_>) -> bool
+    ensures { (location : ℕ) → WritesNextAtOnce reader.old reader.new writer.old writer.new
+        location result }
+{
+    show_ids!(writer);
+    if !writer.is_unreachable() {
+        return false;
+    }
+    let Some((_common, rest)) = reader.peek_common() else {
+        return skip_control(writer, reader);
+    };
+    reader.pass(rest);
+    true
+}
+
+/// Writes the next operator at once if it is a frequent one, or skips it in unreachable code, and
+/// returns whether it did. It doesn't if an `else` waits, a part of the operator has no number or
+/// memory runs out; then nothing is changed, and the operator is written as any other.
 #[inline(always)]
 fn write_at_once(writer: &mut Writer<'_>, reader: &mut Cursor<'_>, location: InstrLocId) -> bool
     ensures { WritesNextAtOnce reader.old reader.new writer.old writer.new location result }
@@ -43,7 +79,7 @@ fn write_at_once(writer: &mut Writer<'_>, reader: &mut Cursor<'_>, location: Ins
     // This is tested before the operator is read, so that each kind of operator has a way of its own
     // from there.
     if !writer.is_live() {
-        return false;
+        return skip_at_once(writer, reader);
     }
     let Some((common, rest)) = reader.peek_common() else {
         return write_control(writer, reader, location);

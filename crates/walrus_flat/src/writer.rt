@@ -1,11 +1,11 @@
 //! The operators of a body, written one by one.
-ghost use Rattle.std.specs.Prelude.{◌≡◌, ◌≤◌, ◌∷◌, [], OnOk, IfErr, IfSome, false, None, Ok};
+ghost use Rattle.std.specs.Prelude.{◌≡◌, ◌≤◌, ◌∷◌, [], ℕ, OnOk, IfErr, IfSome, true, false, None, Ok};
 ghost use Rattle.walrus_ir.specs.Locations.{default_location};
 ghost use Rattle.walrus_ir.specs.declared.val_type.InstrSeqType.TheVariants.{Simple as SimpleType};
 ghost use Rattle.wasm_operators.specs.Meaning.{meaning};
 ghost use Rattle.wasm_encode.specs.Writable.{IsWritable};
 ghost use Rattle.wasm_body.specs.declared.error.EmitError.TheVariants.{Memory};
-ghost use Rattle.wasm_body.specs.Flat.{Kept as KeptOpen, Live as LiveMode, Unreachable as UnreachableMode, innermost, around, mode_of_else, flat_state};
+ghost use Rattle.wasm_body.specs.Flat.{Kept as KeptOpen, Dropped as DroppedOpen, Live as LiveMode, Unreachable as UnreachableMode, innermost, around, mode_of_else, flat_state};
 ghost use Rattle.walrus_parser.specs.OperatorKinds.{makes_unreachable};
 ghost use Rattle.walrus_flat.specs.declared.sequences.Next.TheVariants.{Live as LiveNext};
 ghost use Rattle.std.specs.Bool.{OnTrue, OnFalse};
@@ -654,6 +654,13 @@ impl Writer<'_> {
         self.open.is_live()
     }
 
+    /// Whether what follows isn't written.
+    pub fn is_unreachable(&self) -> bool
+        ensures { OnTrue result (is_unreachable_next self.now.open.next ≡ true) }
+    {
+        self.open.is_unreachable()
+    }
+
     /// Takes a common operator where what follows is written and no `else` waits, and returns whether it
     /// did. Otherwise nothing is changed: a part of the operator has no number, or memory ran out.
     #[inline(always)]
@@ -720,6 +727,57 @@ impl Writer<'_> {
             Control::Loop => self.open_empty(0x03, location),
             Control::If => self.open_empty(0x04, location),
             Control::End => self.close_short(location),
+            Control::Nop => true,
+        }
+    }
+
+    /// Opens the first sequence of a construct in unreachable code. Returns whether it did; if not,
+    /// nothing is changed: there is no room for it.
+    fn open_dropped(&mut self) -> bool
+        requires { is_unreachable_next self.old.open.next ≡ true }
+        ensures done { OnTrue result (Goes self.old self.new
+            (flat_state UnreachableMode (DroppedOpen ∷ opens_of self.old.open)) []) }
+        ensures unchanged { OnFalse result (self.new ≡ self.old) }
+    {
+        show_ids!(self);
+        if !self.open.has_room() {
+            return false;
+        }
+        self.open.enter_reserved(Written::Dropped);
+        true
+    }
+
+    /// Closes a sequence of a construct in unreachable code. Returns whether the innermost one is such a
+    /// sequence; if not, nothing is changed.
+    fn close_dropped(&mut self) -> bool
+        ensures done { (location : ℕ) → OnTrue result (Goes self.old self.new
+            (state_after_end (mode_of self.old.open.next) (opens_of self.old.open))
+            (end_pieces (mode_of self.old.open.next) (innermost (opens_of self.old.open))
+            location)) }
+        ensures unchanged { OnFalse result (self.new ≡ self.old) }
+    {
+        show_ids!(self);
+        if !self.open.ends_dropped() {
+            return false;
+        }
+        self.open.leave();
+        true
+    }
+
+    /// Takes one of the frequent control operators in unreachable code, where nothing is written of it.
+    /// Returns whether it did; if not, nothing is changed.
+    pub fn skip_control(&mut self, control: Control) -> bool
+        requires { is_unreachable_next self.old.open.next ≡ true }
+        ensures done { (location : ℕ) → OnTrue result (StepsWriter self.old self.new
+            (meaning (control_listed control)) location (Ok tt)) }
+        ensures unchanged { OnFalse result (self.new ≡ self.old) }
+    {
+        match control {
+            Control::Block => self.open_dropped(),
+            Control::Loop => self.open_dropped(),
+            Control::If => self.open_dropped(),
+            Control::End => self.close_dropped(),
+            Control::Nop => true,
         }
     }
 

@@ -22,3 +22,6 @@ returns c =
       c.pass.ensures.moves,
       at_other a.writer.now new x a.location (Ok tt) (is_alone common) taken,
     )
+
+pub returns-then-not-is_live : goal.returns-then-not-is_live
+returns-then-not-is_live c = c.skip_at_once.ensures c.args.location

@@ -1,6 +1,5 @@
-use Rattle.std.proofs.Common.{inl, ◌≡◌, ◌<◌, ◌+◌, suc, length, arith, rules, refl, subst, ℕ}
+use Rattle.std.proofs.Common.{inl, ◌≡◌, suc, length, rules, refl, subst}
 use Rattle.std.specs.Bool.{OnTrue, OnFalse}
-use Rattle.walrus_validators.specs.Locating.{MayCall}
 use Rattle.walrus_flat.specs.Sinks.{IsLeft, IsLast}
 use Rattle.walrus_flat.specs.Writers.{env_at}
 use Rattle.walrus_flat.specs.WrittenBody.{again}

@@ -1,4 +1,4 @@
-use Rattle.std.proofs.Common.{◌≡◌, ◌<◌, ◌≤◌, ◌+◌, inl, inr, length, List, arith, Bool, true, false, zero, suc, Ok, Err, refl, sym, ap, subst, ◌∙◌, ℕ}
+use Rattle.std.proofs.Common.{◌≡◌, ◌<◌, ◌+◌, inl, inr, length, List, arith, suc, Ok, Err, refl, sym, subst, ℕ}
 use Rattle.std.specs.Prelude.{IfOk, IfErr}
 use Rattle.std.proofs.lemmas.Result.{IfOk-at_ok, IfErr-at_err}
 use Rattle.wasm_ops.specs.Position.{Position, IsAfter}
@@ -8,7 +8,7 @@ use Rattle.wasm_operators.specs.Meaning.{meaning}
 use Rattle.walrus_validators.specs.Locating.{MayCall, Locates, HasNoLocation}
 use Rattle.walrus_parser.proofs.Mappings.{may_call_next}
 use Rattle.walrus_flat.specs.declared.writer.Writer.{Writer}
-use Rattle.walrus_flat.specs.WrittenBody.{WritesNextAtOnce, WritesNumber}
+use Rattle.walrus_flat.specs.WrittenBody.{WritesNextAtOnce}
 use Rattle.walrus_flat.specs.Writers.{StepsWriter}
 use Rattle.walrus_flat.proofs.WrittenLoop.{number_moves, some_number}
 use Rattle.walrus_flat.proofs.write_body.write_some.Goals as goal

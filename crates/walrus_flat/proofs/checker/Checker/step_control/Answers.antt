@@ -1,5 +1,5 @@
 use Rattle.walrus_ir.specs.declared.control.BlockKind.TheVariants as kind
-use Rattle.walrus_flat.proofs.CheckedControls.{block_at_once, loop_at_once, if_at_once, end_at_once, opens_inside, closes_inside}
+use Rattle.walrus_flat.proofs.CheckedControls.{block_at_once, loop_at_once, if_at_once, end_at_once, opens_inside, closes_inside, nop_at_once}
 use Rattle.walrus_flat.proofs.checker.Checker.step_control.Goals as goal
 
 pub returns-in-Block-clause-step : goal.returns-in-Block-clause-step
@@ -25,3 +25,6 @@ returns-in-If-clause-inside c = let done = c.open_empty-in-If in opens_inside c.
 
 pub returns-in-End-clause-inside : goal.returns-in-End-clause-inside
 returns-in-End-clause-inside c = let done = c.close_inner in closes_inside c.args.self.now done.new.self c.requires c.args.control done.result done.ensures.done
+
+pub returns-in-Nop-clause-step : goal.returns-in-Nop-clause-step
+returns-in-Nop-clause-step c = nop_at_once c.args.self.now c.requires c.args.control c.in-Nop.is
