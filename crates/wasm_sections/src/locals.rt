@@ -226,6 +226,13 @@ impl OpCheck for LocalsBelow {
             Operator::Select => Ok(()),
             Operator::F32Const { .. } => Ok(()),
             Operator::F64Const { .. } => Ok(()),
+            Operator::Nop => Ok(()),
+            Operator::Try { .. } => Ok(()),
+            Operator::CatchAll => Ok(()),
+            Operator::CallIndirect { .. } => Ok(()),
+            Operator::BrTable(_) => Ok(()),
+            Operator::MemoryCopy { .. } => Ok(()),
+            Operator::MemoryFill { .. } => Ok(()),
             _ => self.check_any(op),
         }
     }
