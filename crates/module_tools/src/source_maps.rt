@@ -5,18 +5,20 @@ use crate::files::read_file;
 use crate::locks::LockFiles;
 use crate::program::Task;
 use crate::writing::create_target;
-use source_map::{Move, SourceMap, moved};
+use source_map::{MappingsError, Move, MovingSourceMap, SourceMap};
 use std::alloc::{AllocError, Global};
 use std::io;
 use std::io::Write;
 use std::rt::Files;
 use wasm_module::{MapLines, MapSink, WrittenBody};
 
-/// The operators of the source that are kept, with their places, if they are wanted.
+/// The source map that follows a module, if one is wanted, as far as bodies were written. Its mappings
+/// move along with the operators of the source that are kept.
 #[derive(Drop)]
-pub(crate) struct Moves {
-    list: Vec<Move>,
-    are_needed: bool,
+pub(crate) struct Moves<'s> {
+    text: Option<MovingSourceMap<'s>>,
+    /// The greatest old place of an operator so far.
+    last: u32,
 }
 
 /// A place that fits 32 bits, as those of a source map do.
@@ -27,28 +29,48 @@ fn short_place(place: usize) -> io::Result<u32> {
     }
 }
 
-impl Moves {
-    /// None so far.
-    pub fn new(alloc: Global, are_needed: bool) -> Moves {
-        Moves {
-            list: Vec::new(alloc),
-            are_needed,
-        }
+/// The error of a listener. A source map that was read can be read again.
+fn error_of(error: MappingsError) -> io::Error {
+    match error {
+        MappingsError::Memory => io::Error::from(io::ErrorKind::OutOfMemory),
+        MappingsError::Fault(_) => io::Error::from(io::ErrorKind::InvalidData),
+    }
+}
+
+impl<'s> Moves<'s> {
+    /// None of the operators of this source map is named yet.
+    ///
+    /// # Errors
+    ///
+    /// Out of memory.
+    pub fn new(alloc: Global, source: &'s Option<SourceMap>) -> Result<Moves<'s>, AllocError> {
+        let text = match source {
+            None => None,
+            Some(map) => match MovingSourceMap::new(alloc, map) {
+                Ok(text) => Some(text),
+                Err(_) => return Err(AllocError),
+            },
+        };
+        Ok(Moves { text, last: 0 })
     }
 
-    /// Appends an operator that is kept. One that was before the last one in the source is passed
-    /// over, so that the old places ascend.
+    /// Names an operator that is kept. One that was before the last one in the source is passed over,
+    /// so that the old places ascend.
     fn add(&mut self, step: Move) -> io::Result<()> {
-        match self.list.last() {
-            Some(last) if last.old > step.old => Ok(()),
-            _ => {
-                self.list.push(step)?;
-                Ok(())
-            }
+        if step.old < self.last {
+            return Ok(());
+        }
+        self.last = step.old;
+        match &mut self.text {
+            None => Ok(()),
+            Some(text) => match text.add(step) {
+                Ok(()) => Ok(()),
+                Err(error) => Err(error_of(error)),
+            },
         }
     }
 
-    /// Appends the operators of a body that are ones of the source.
+    /// Names the operators of a body that are ones of the source.
     fn add_body(&mut self, written: WrittenBody<'_>) -> io::Result<()> {
         let body = short_place(written.old_start)?;
         for (location, place) in written.pairs {
@@ -62,29 +84,29 @@ impl Moves {
     }
 }
 
-impl MapSink for Moves {
+impl MapSink for Moves<'_> {
     fn needs_pairs(&self) -> bool {
-        self.are_needed
+        self.text.is_some()
     }
 
     fn record_body(&mut self, body: WrittenBody<'_>) -> io::Result<()> {
-        match self.are_needed {
+        match self.needs_pairs() {
             true => self.add_body(body),
             false => Ok(()),
         }
     }
 }
 
-/// A listener that collects the operators that are kept, and writes the lines of a location map.
+/// A listener that moves the mappings of a source map, and writes the lines of a location map.
 #[derive(Drop)]
-pub(crate) struct MovesAndLines<'m, M> {
-    /// The operators that are kept.
-    pub moves: &'m mut Moves,
+pub(crate) struct MovesAndLines<'m, 's, M> {
+    /// The source map, whose mappings move along.
+    pub moves: &'m mut Moves<'s>,
     /// The lines of the location map.
     pub lines: MapLines<'m, M>,
 }
 
-impl<M: Write> MapSink for MovesAndLines<'_, M> {
+impl<M: Write> MapSink for MovesAndLines<'_, '_, M> {
     fn needs_pairs(&self) -> bool {
         true
     }
@@ -110,12 +132,6 @@ pub(crate) fn read_source_map<'w, R: Files + Input + AllocGlobal>(
     }
 }
 
-/// The text of the source map whose mappings follow these operators.
-fn moved_text(alloc: Global, map: &SourceMap, moves: &[Move]) -> Result<Vec<u8>, AllocError> {
-    let mappings = moved(alloc, moves, map.mappings())?;
-    map.text_with(alloc, &mappings)
-}
-
 /// Writes a text to a file, whole or not at all.
 fn write_text<'w, R: LockFiles + Print + AllocGlobal + Drop>(
     rt: &'w R,
@@ -138,13 +154,12 @@ fn write_text<'w, R: LockFiles + Print + AllocGlobal + Drop>(
 pub(crate) fn write_source_map<'w, R: LockFiles + Print + AllocGlobal + Drop>(
     rt: &'w R,
     task: &Task<'w>,
-    source: &Option<SourceMap>,
-    moves: &Moves,
+    moves: Moves<'_>,
 ) -> Result<(), ProgramFailure<'w>> {
-    let (Some(map), Some(paths)) = (source, task.source_map) else {
+    let (Some(text), Some(paths)) = (moves.text, task.source_map) else {
         return Ok(());
     };
-    match moved_text(rt.alloc(), map, &moves.list) {
+    match text.finish() {
         Ok(text) => write_text(rt, task, paths.output, &text),
         Err(_) => Err(ProgramFailure::Memory),
     }

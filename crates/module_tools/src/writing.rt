@@ -97,7 +97,7 @@ where
     fn write_with_lines<W: Write, M: Write>(
         &self,
         parsed: &mut ParsedModule<'_>,
-        moves: &mut Moves,
+        moves: &mut Moves<'_>,
         target: &mut W,
         map: &mut M,
     ) -> Result<(), WriteError> {
@@ -113,7 +113,7 @@ where
     fn write_both_buffered<W: Write>(
         &self,
         parsed: &mut ParsedModule<'_>,
-        moves: &mut Moves,
+        moves: &mut Moves<'_>,
         target: &mut W,
         map_target: &mut W,
     ) -> Result<(), WriteError> {
@@ -130,9 +130,11 @@ where
         target: &mut Target<'w, R>,
     ) -> Result<(), ProgramFailure<'w>> {
         let (rt, task) = (self.rt, self.task);
-        let mut moves = Moves::new(rt.alloc(), self.source.is_some());
+        let Ok(mut moves) = Moves::new(rt.alloc(), self.source) else {
+            return Err(ProgramFailure::Memory);
+        };
         match self.write_buffered(parsed, &mut moves, target) {
-            Ok(()) => write_source_map(rt, task, self.source, &moves),
+            Ok(()) => write_source_map(rt, task, moves),
             Err(error) => Err(failure_of(rt.alloc(), task.input, target.path(), error)),
         }
     }
@@ -146,9 +148,11 @@ where
         map: &mut Target<'w, R>,
     ) -> Result<(), ProgramFailure<'w>> {
         let (rt, task) = (self.rt, self.task);
-        let mut moves = Moves::new(rt.alloc(), self.source.is_some());
+        let Ok(mut moves) = Moves::new(rt.alloc(), self.source) else {
+            return Err(ProgramFailure::Memory);
+        };
         match self.write_both_buffered(parsed, &mut moves, target, map) {
-            Ok(()) => write_source_map(rt, task, self.source, &moves),
+            Ok(()) => write_source_map(rt, task, moves),
             Err(error) => {
                 let failed = match map.has_failed() {
                     true => map.path(),

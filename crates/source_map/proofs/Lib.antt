@@ -12,6 +12,7 @@ pub mod Short
 -- loops: over segments, and over moves
 pub mod Loops
 pub mod Moves
+pub mod MovingTexts
 -- the JSON text of a source map
 pub mod Views
 pub mod Pieces

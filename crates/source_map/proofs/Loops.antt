@@ -12,6 +12,7 @@ use Rattle.source_map.specs.Spelling.{fields_after}
 use Rattle.wasm_numbers.specs.Results.{◌>>=◌}
 use Rattle.source_map.specs.Reading.{segment_at, segments_at}
 use Rattle.source_map.specs.Shortest.{short_segment, short_segments}
+use Rattle.source_map.specs.MovingText.{after_commas}
 use Rattle.source_map.proofs.Steps.{test_false}
 
 -- ---- the first comma
@@ -47,30 +48,30 @@ regroup : (front : List Mapping) (m : Mapping) (read : Result (List Mapping) Map
 regroup front m (Ok ms) = ap (λ (x : List Mapping). Ok x) (simp append_assoc)
 regroup front m (Err f) = refl
 
-pub continues : (front : List Mapping) (s : Fields) (t : List ℕ) (ts : List (List ℕ)) (m : Mapping) (total : Result (List Mapping) MappingsFault) → segment_at s t ≡ Ok m
-    → with_front front (segments_at s (t ∷ ts)) ≡ total → with_front (front ++ m ∷ []) (segments_at (fields_after s m) ts) ≡ total
+-- no segment is left, or the first one is read
+pub none_read : (s : Fields) → segments_at s [] ≡ Ok []
 unfolding segments_at
-continues front s t ts m total h so_far =
-    let one : with_front front (segments_at s (t ∷ ts)) ≡ with_front (front ++ m ∷ []) (segments_at (fields_after s m) ts) = rw h (regroup front m (segments_at (fields_after s m) ts)) in
-    sym one ∙ so_far
+none_read s = refl
 
-pub ends : (front : List Mapping) (s : Fields) (t : List ℕ) (ts : List (List ℕ)) (f : MappingsFault) (total : Result (List Mapping) MappingsFault) → segment_at s t ≡ Err f
-    → with_front front (segments_at s (t ∷ ts)) ≡ total → total ≡ Err f
+pub one_read : (s : Fields) (t : List ℕ) (ts : List (List ℕ)) (m : Mapping) → segment_at s t ≡ Ok m → segments_at s (t ∷ ts) ≡ (segments_at (fields_after s m) ts >>= λ ms. Ok (m ∷ ms))
 unfolding segments_at
-ends front s t ts f total h so_far =
-    let one : with_front front (segments_at s (t ∷ ts)) ≡ Err f = rw h refl in
-    sym so_far ∙ one
+one_read s t ts m h = rw h refl
 
-pub is_done : (front : List Mapping) (s : Fields) (total : Result (List Mapping) MappingsFault) → with_front front (segments_at s []) ≡ total → total ≡ Ok front
+pub one_refused : (s : Fields) (t : List ℕ) (ts : List (List ℕ)) (f : MappingsFault) → segment_at s t ≡ Err f → segments_at s (t ∷ ts) ≡ Err f
 unfolding segments_at
-is_done front s total so_far = sym so_far ∙ ap (λ (x : List Mapping). Ok x) (append-nil front)
+one_refused s t ts f h = rw h refl
+
+-- the next mapping is read; or none is left; or it can't be read
+pub goes_on : (front : List Mapping) (m : Mapping) (old new total : Result (List Mapping) MappingsFault) → old ≡ (new >>= λ ms. Ok (m ∷ ms)) → with_front front old ≡ total → with_front (front ++ m ∷ []) new ≡ total
+goes_on front m old new total e so_far = sym (regroup front m new) ∙ (ap (with_front front) (sym e) ∙ so_far)
+
+pub are_all : (front : List Mapping) (old total : Result (List Mapping) MappingsFault) → old ≡ Ok [] → with_front front old ≡ total → total ≡ Ok front
+are_all front old total e so_far = sym so_far ∙ (ap (with_front front) e ∙ ap (λ (x : List Mapping). Ok x) (append-nil front))
+
+pub is_fault : (front : List Mapping) (old total : Result (List Mapping) MappingsFault) (f : MappingsFault) → old ≡ Err f → with_front front old ≡ total → total ≡ Err f
+is_fault front old total f e so_far = sym so_far ∙ ap (with_front front) e
 
 -- ---- segments that are written
-
--- each segment after a comma
-abbrev pub after_commas : List (List ℕ) → List ℕ
-after_commas [] = []
-after_commas (t ∷ ts) = 44 ∷ (t ++ after_commas ts)
 
 joined_is : (t : List ℕ) (ts : List (List ℕ)) → join_with_byte 44 (t ∷ ts) ≡ t ++ after_commas ts
 joined_is t [] = sym (append-nil t)

@@ -112,7 +112,7 @@ after_fits : (s : Fields) (g : ℕ) (o : Option Original) → FitsFields s → g
 after_fits s g None p h q = record { generated = h; source = p.source; line = p.line; column = p.column; name = p.name }
 after_fits s g (Some o) p h q = record { generated = h; source = q.source; line = q.line; column = q.column; name = name_fits o.name s.name q.name p.name }
 
-after_generated : (s : Fields) (g : ℕ) (o : Option Original) → g ≡ (after_original s g o).generated
+pub after_generated : (s : Fields) (g : ℕ) (o : Option Original) → g ≡ (after_original s g o).generated
 after_generated s g None = refl
 after_generated s g (Some o) = refl
 

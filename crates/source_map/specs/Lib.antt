@@ -7,6 +7,7 @@ pub mod Reading
 pub mod Shortest
 -- mappings of a program whose operators have moved
 pub mod Moving
+pub mod MovingText
 -- which JSON texts are source maps
 pub mod SourceMaps
 -- why a text is refused

@@ -1,9 +1,10 @@
 -- Reading mappings from left to right: the first part that can't be read is the fault.
-use Rattle.std.specs.Prelude.{◌≡◌, ℕ, ◌+◌, ◌-◌, ◌*◌, ◌/◌, ◌%◌, List, [], ◌∷◌, ◌==◌, nat_lt, nat_le, if◌then◌else◌, Option, Some, None, Result, Ok, Err}
+use Rattle.std.specs.Prelude.{◌≡◌, ℕ, suc, ◌+◌, ◌-◌, ◌*◌, ◌/◌, ◌%◌, List, [], ◌∷◌, ◌==◌, length, nat_lt, nat_le, if◌then◌else◌, Option, Some, None, option_map, Result, Ok, Err}
 use Rattle.std.specs.List.{slice_split}
 use Rattle.source_map.specs.declared.mapping.Original.{Original}
 use Rattle.source_map.specs.declared.mapping.Mapping.{Mapping}
 use Rattle.source_map.specs.declared.fields.Fields.{Fields}
+use Rattle.source_map.specs.declared.unread_segments.UnreadSegments.{UnreadSegments}
 use Rattle.source_map.specs.declared.fault.MappingsFault.{MappingsFault}
 use Rattle.source_map.specs.declared.fault.MappingsFault.TheVariants.{BadDigit, CutNumber, LongNumber, FieldCount, FieldOutOfRange, UnsortedColumn, SecondLine}
 use Rattle.source_map.specs.declared.fault.MappingsError.{MappingsError}
@@ -93,3 +94,21 @@ some_text (c ∷ cs) = Some (c ∷ cs)
 
 unfoldable pub mappings_at : List ℕ → Result (List Mapping) MappingsFault
 mappings_at text = segments_at no_fields (comma_parts (some_text text))
+
+-- ---- the segments that aren't read yet
+
+abbrev pub mappings_left : UnreadSegments → Result (List Mapping) MappingsFault
+mappings_left s = segments_at s.fields (comma_parts (option_map (λ x. x.now) s.left))
+
+-- the mapping that was found, before others; or nothing
+abbrev pub before_others : Option Mapping → Result (List Mapping) MappingsFault → Result (List Mapping) MappingsFault
+before_others None others = Ok []
+before_others (Some m) others = others >>= λ ms. Ok (m ∷ ms)
+
+-- how much of a text is left, if anything is
+abbrev pub some_length : Option (List ℕ) → ℕ
+some_length None = 0
+some_length (Some text) = suc (length text)
+
+abbrev pub length_left : UnreadSegments → ℕ
+length_left s = some_length (option_map (λ x. x.now) s.left)

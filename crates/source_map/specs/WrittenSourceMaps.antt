@@ -6,6 +6,7 @@ use Rattle.json.specs.Find.{get_member}
 use Rattle.json.specs.Print.{print, escape}
 use Rattle.json.specs.Tree.{json_tokens}
 use Rattle.source_map.specs.declared.json_text.source_map.SourceMap.{SourceMap}
+use Rattle.source_map.specs.declared.mapping.Mapping.{Mapping}
 use Rattle.source_map.specs.Spelling.{SpellsMappings}
 use Rattle.source_map.specs.SourceMaps.{IsSourceMap}
 
@@ -47,9 +48,9 @@ object_text members = print (json_tokens (object members))
 -- What a source map keeps of a text that it was read from: its mappings, and what is before and after their text in the texts that
 -- are written.
 pub record IsReadFrom (source : List ℕ) (members : Members) (map : SourceMap) : Type 0 where
-  pub mappings : List ℕ
-  pub is_source_map : IsSourceMap source members mappings
-  pub spells : SpellsMappings map.mappings.items mappings
+  pub is_source_map : IsSourceMap source members map.mappings.items
+  pub all : List Mapping
+  pub spells : SpellsMappings all map.mappings.items
   pub front_is_utf8 : IsUtf8 map.front.items
   pub back_is_utf8 : IsUtf8 map.back.items
   pub parts : (text : List ℕ) → escape text ≡ text → map.front.items ++ (text ++ map.back.items) ≡ object_text (with_mappings members text)

@@ -11,8 +11,10 @@ mod json_text;
 mod law;
 mod mapping;
 mod moving;
+mod moving_text;
 mod number;
 mod reading;
+mod unread_segments;
 mod writing;
 
 pub use fault::{MappingsError, MappingsFault};
@@ -20,5 +22,6 @@ pub use json_text::{SourceMap, SourceMapError, SourceMapFault, SourceMapFaultNam
 pub use law::{law_one_reading, law_spelt};
 pub use mapping::{Mapping, Original};
 pub use moving::{Move, moved};
+pub use moving_text::MovingSourceMap;
 pub use reading::decode;
 pub use writing::encode;

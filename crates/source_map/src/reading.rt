@@ -11,6 +11,7 @@ use crate::fault::{MappingsError, MappingsFault};
 use crate::fields::Fields;
 use crate::mapping::{Mapping, Original};
 use crate::number::{read_column, read_field};
+use crate::unread_segments::UnreadSegments;
 use std::alloc::Global;
 
 /// The name at the end of a segment, if it has one.
@@ -63,7 +64,7 @@ fn read_original_or_none(fields: Fields, text: &[u8]) -> Result<Option<Original>
 
 /// The mapping of a segment.
 #[tactic(auto, unfolding(crate::specs::Reading::segment_at))]
-fn read_segment(fields: Fields, text: &[u8]) -> Result<Mapping, MappingsFault>
+pub(crate) fn read_segment(fields: Fields, text: &[u8]) -> Result<Mapping, MappingsFault>
     ensures { Gives (λ x. x) result (segment_at fields text.now) }
 {
     let (generated, rest) = read_column(fields.generated, text)?;
@@ -74,36 +75,19 @@ fn read_segment(fields: Fields, text: &[u8]) -> Result<Mapping, MappingsFault>
     })
 }
 
-/// The text up to the first comma, and the text after the comma.
-fn first_segment(text: &[u8]) -> (&[u8], Option<&[u8]>)
-    ensures parts { slice_split (λ b. b == 44) text.now
-        ≡ result.0.now ∷ comma_parts (option_map (λ x. x.now) result.1) }
-    ensures shorter { IfSome result.1 (λ following. length following.now < length text.now) }
-{
-    for (at, byte) in text.iter().enumerate() {
-        if *byte == b',' {
-            return (&text[..at], Some(&text[at + 1..]));
-        }
-    }
-    (text, None)
-}
-
 /// The mappings of all segments.
-#[tactic(auto, unfolding(crate::specs::Reading::mappings_at))]
 fn read_all(alloc: Global, text: &[u8]) -> Result<Vec<Mapping>, MappingsError>
     ensures { ReadsOrMemory (λ v. v.items) result (mappings_at text.now) }
 {
     let mut mappings = Vec::new(alloc);
-    let mut fields = Fields::start();
-    let mut left = if text.is_empty() { None } else { Some(text) };
-    while let Some(part) = left {
-        let (segment, following) = first_segment(part);
-        let mapping = read_segment(fields, segment)?;
-        mappings.push(mapping)?;
-        fields = fields.after(mapping);
-        left = following;
+    let mut segments = UnreadSegments::of(text);
+    loop {
+        match segments.read() {
+            Ok(Some(mapping)) => mappings.push(mapping)?,
+            Ok(None) => return Ok(mappings),
+            Err(fault) => return Err(MappingsError::Fault(fault)),
+        }
     }
-    Ok(mappings)
 }
 
 /// Reads the text of `mappings`, of a generated program of one line.

@@ -36,7 +36,11 @@ fn write_original(
 }
 
 /// Appends a segment.
-fn write_segment(out: &mut Vec<u8>, fields: Fields, mapping: Mapping) -> Result<(), AllocError>
+pub(crate) fn write_segment(
+    out: &mut Vec<u8>,
+    fields: Fields,
+    mapping: Mapping,
+) -> Result<(), AllocError>
     ensures { OnOk result (out.new.items ≡ out.old.items ++ short_segment fields mapping) }
 {
     write_field(out, fields.generated, mapping.generated)?;

@@ -5,15 +5,16 @@ ghost use Rattle.json.specs.Find.{get, as_object};
 ghost use Rattle.json.specs.Json.{Members, document, string};
 ghost use Rattle.json.specs.Tree.{HasNumbers};
 ghost use Rattle.json.specs.Value.{value_view};
+ghost use Rattle.source_map.specs.declared.mapping.Mapping.{Mapping as AMapping};
 ghost use Rattle.source_map.specs.Spelling.{SpellsMappings};
 ghost use Rattle.source_map.specs.Refusals.{HasVersion3, IsErrorOf};
 ghost use Rattle.source_map.specs.WrittenSourceMaps.{IsReadFrom};
 
+use crate::fault::MappingsError;
 use crate::json_text::fault::{SourceMapError, SourceMapFault};
 use crate::json_text::parts::{back_of, front_of};
 use crate::json_text::source_map::SourceMap;
-use crate::mapping::Mapping;
-use crate::reading::decode;
+use crate::unread_segments::check;
 use json::{Error as JsonError, MAX_DEPTH, Reader, Scratch, Value};
 use std::alloc::Global;
 
@@ -53,12 +54,12 @@ fn is_version_3(value: &Value<'_>) -> bool
     }
 }
 
-/// The mappings of a JSON object, which has the version 3.
-fn read_mappings(alloc: Global, value: &Value<'_>) -> Result<Vec<Mapping>, SourceMapError>
+/// The text of the mappings of a JSON object, which has the version 3. They can be read.
+fn mappings_of<'v>(value: &'v Value<'_>) -> Result<&'v [u8], SourceMapError>
     requires { IsSome (as_object (value_view value.now)) }
-    ensures mappings { IfOk result (λ v. (text : List ℕ) × HasVersion3 (value_view value.now)
-        × (get (codes "mappings") (value_view value.now) ≡ Some (string text))
-        × SpellsMappings v.items text) }
+    ensures mappings { IfOk result (λ text. HasVersion3 (value_view value.now)
+        × (get (codes "mappings") (value_view value.now) ≡ Some (string text.now))
+        × (all : List AMapping) × SpellsMappings all text.now) }
     ensures refused { IfErr result (λ e. (source : List ℕ)
         → document source ≡ Some (value_view value.now) → IsErrorOf source e) }
 {
@@ -68,9 +69,10 @@ fn read_mappings(alloc: Global, value: &Value<'_>) -> Result<Vec<Mapping>, Sourc
     let Some(Value::String(text)) = value.get("mappings") else {
         return Err(SourceMapError::Fault(SourceMapFault::NoMappings));
     };
-    match decode(alloc, text.as_bytes()) {
-        Ok(mappings) => Ok(mappings),
-        Err(error) => Err(SourceMapError::from(error)),
+    let text = text.as_bytes();
+    match check(text) {
+        Ok(()) => Ok(text),
+        Err(fault) => Err(SourceMapError::from(MappingsError::Fault(fault))),
     }
 }
 
@@ -86,9 +88,12 @@ fn source_map_of(alloc: Global, value: &Value<'_>) -> Result<SourceMap, SourceMa
     let Value::Object(members) = value else {
         return Err(SourceMapError::Fault(SourceMapFault::NotASourceMap));
     };
-    let mappings = match read_mappings(alloc, value) {
-        Ok(mappings) => mappings,
+    let text = match mappings_of(value) {
+        Ok(text) => text,
         Err(error) => return Err(error),
+    };
+    let Ok(mappings) = Vec::from_slice(alloc, text) else {
+        return Err(SourceMapError::Memory);
     };
     let front = match front_of(alloc, value) {
         Ok(front) => front,

@@ -1,7 +1,7 @@
 use Rattle.std.proofs.Common.{◌+◌}
 use Rattle.std.proofs.lemmas.List.{take_rest}
 use Rattle.source_map.proofs.Loops.{no_comma, first_comma}
-use Rattle.source_map.proofs.reading.first_segment.Goals as goal
+use Rattle.source_map.proofs.unread_segments.first_segment.Goals as goal
 
 pub returns-then-byte-eq44-clause-parts : goal.returns-then-byte-eq44-clause-parts
 returns-then-byte-eq44-clause-parts c =
