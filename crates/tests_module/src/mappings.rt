@@ -1,7 +1,10 @@
 //! The text of mappings, and mappings whose operators move. Expected values were worked out by
 //! hand, from the digits of ECMA-426, and compared with those of a script in Python.
 
-use source_map::{Mapping, MappingsError, MappingsFault, Move, Original, decode, encode, moved};
+use source_map::{
+    Mapping, MappingsError, MappingsFault, Move, MovingSourceMap, Original, SourceMap, decode,
+    encode, moved,
+};
 use std::test::*;
 
 /// A mapping of one field.
@@ -100,5 +103,26 @@ fn mappings_follow_operators(rt: HostRuntime) -> Result<(), Fail> {
     let expected_places = [12, 12, 12, 14, 14, 18, 18, 22].map(unmapped);
     let found = moved(rt.alloc(), &moves, &places)?;
     assert_eq!(rt; found.as_slice(), expected_places.as_slice());
+    Ok(())
+}
+
+#[test]
+fn a_source_map_follows_operators(rt: HostRuntime) -> Result<(), Fail> {
+    // Columns 9, 11, 12, 16, 18 and 27. No operator that remains follows the first and the last two in their bodies.
+    let source =
+        b"{\"version\":3,\"sources\":[\"a\"],\"names\":[],\"mappings\":\"SAAA,EACA,CACA,IACA,E,SACA\",\"x\":1}";
+    let wanted =
+        b"{\"version\":3,\"sources\":[\"a\"],\"names\":[],\"mappings\":\"YACA,AACA,EACA\",\"x\":1}";
+    let map = SourceMap::read(rt.alloc(), source)
+        .ok()
+        .ok_or("it is not read")?;
+    let mut moving = MovingSourceMap::new(rt.alloc(), &map)
+        .ok()
+        .ok_or("no memory")?;
+    for operator in [step(12, 12), step(16, 14), step(22, 18), step(26, 22)] {
+        moving.add(operator).ok().ok_or("no memory")?;
+    }
+    let text = moving.finish()?;
+    assert_eq!(rt; text.as_slice(), wanted.as_slice());
     Ok(())
 }
