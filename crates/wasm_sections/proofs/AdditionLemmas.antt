@@ -1,13 +1,14 @@
 -- Sections that are given contents: what is given for each after one is put into the list.
-use Rattle.std.proofs.Common.{◌≡◌, ◌≢◌, ◌<◌, ◌≤◌, ◌+◌, ◌-◌, ℕ, suc, Bool, true, false, ◌==◌, List, [], ◌∷◌, ◌++◌, length, take, drop, get_or, if◌then◌else◌, Option, Some, None, Result, Ok, Err, OnOk, OnErr, refl, sym, subst, ap, ◌∙◌, eq-eqb, ne_eqb, arith}
+use Rattle.std.proofs.Common.{◌≡◌, ◌≢◌, ◌<◌, ◌≤◌, ◌+◌, ◌-◌, ℕ, suc, Bool, true, false, ◌==◌, List, [], ◌∷◌, ◌++◌, length, take, drop, get_or, if◌then◌else◌, Option, Some, None, Result, Ok, Err, OnOk, OnErr, IfErr, refl, sym, subst, ap, ◌∙◌, eq-eqb, ne_eqb, arith}
 use Rattle.std.proofs.Math.Seq.{drop-cons}
 use Rattle.std.proofs.Math.ListN.{set}
 use Rattle.std.proofs.lemmas.List.{take-append-drop, set_split, take_more, get_or_default, set-get_or, take_all, drop_all, append-nil, length-append, length-drop, drop-append-le}
 use Rattle.wasm_numbers.specs.Numbers.{u32, unsigned}
 use Rattle.wasm_operators.specs.Shortest.{short_number}
+use Rattle.wasm_sections.specs.declared.fault.ModuleError.{ModuleError}
 use Rattle.wasm_sections.specs.declared.changes.Changes.{Changes}
 use Rattle.wasm_sections.specs.declared.changes.NewContents.{NewContents}
-use Rattle.wasm_sections.specs.Additions.{IsGivenAt, SetsContents, AreUnchanged, HasOneMore, given_or, AddsAfter}
+use Rattle.wasm_sections.specs.Additions.{IsGivenAt, SetsContents, AreUnchanged, HasOneMore, given_or, AddsAfter, IsNotAdded}
 use Rattle.wasm_sections.specs.Sections.{section_id}
 use Rattle.wasm_sections.specs.GivenContents.{contents_in}
 use Rattle.wasm_sections.proofs.NumberLemmas.{number_takes}
@@ -172,6 +173,15 @@ after_given old new id at others item found within f g f_is kind more items impo
           (sym (found_there gs at id found within ∙ ap (λ (x : NewContents). Some x.contents.items) (sym same))) more;
       sets = subst (λ (i : ℕ). SetsContents old new i g.contents.items) is_id (replaces old new at g there within items imports);
     }
+
+-- What isn't added to the contents at a position of the list isn't added to those that are given.
+pub not_added_there :
+    (r : Result (Unit {0}) ModuleError) (given : List NewContents) (id at : ℕ) (others : List ℕ) (found : IsGivenAt given id at) → at < length given →
+    (f : NewContents) → f ≡ get_or given at f → IfErr r (IsNotAdded f.contents.items) → IfErr r (IsNotAdded (given_or (contents_in given id) others))
+not_added_there r given id at others found within f f_is h =
+    let same : f ≡ found.one = f_is ∙ get_or_default given at f found.one within ∙ sym found.is_there in
+    subst (λ (o : Option (List ℕ)). IfErr r (IsNotAdded (given_or o others)))
+    (sym (found_there given at id found within ∙ ap (λ (x : NewContents). Some x.contents.items) (sym same))) h
 
 -- Nothing was given, and one item more is there than in these contents.
 pub after_others : (old new : Changes) (id : ℕ) (others item contents : List ℕ) → contents_in old.given.items id ≡ None → HasOneMore others item contents

@@ -12,6 +12,8 @@ pub mod LaneLocals
 pub mod SpaceLemmas
 -- the first section with an id
 pub mod ViewLemmas
+-- names of exports, one export after the other
+pub mod ExportNameLemmas
 -- names of custom sections that are left out, and one more
 pub mod OmissionLemmas
 -- sections that are given contents, and one more
@@ -19,6 +21,9 @@ pub mod AdditionLemmas
 -- sections in which the indices of functions are others, item by item; and the indices of functions
 pub mod MovedLemmas
 pub mod RenumberingLemmas
+-- the functions to which parts and sections refer
+pub mod ReferenceLemmas
+pub mod ReferencesReadLemmas
 -- numbers where an item is added to a module that was read
 pub mod DefinedLemmas
 -- the types of a section, item by item

@@ -30,7 +30,7 @@ one_section end text s t following after p q =
     let bytes : s.whole ≡ t.whole = append_cancel_right s.whole t.whole following both in
     (λ i. record { id = id i; contents = contents i; end = stop i; whole = bytes i }, rest)
 
-first_left :
+pub first_left :
     (end : ℕ) (text : List ℕ) (left : List SectionAt) (x : SectionAt) (following : List ℕ) → AreSections end text left → BeginsSection end text x following →
     (ys : List SectionAt) × (left ≡ x ∷ ys) × AreSections end following ys
 first_left end text [] x following a b = let e : [] ≡ x.id ∷ b.sized = sym a ∙ b.id_is in absurd cc
@@ -75,7 +75,7 @@ module _ (all : List SectionAt) (id : ℕ) (s t : Sections) (o : Option (Result 
       sym p.same ∙ ap (λ (ss : List SectionAt). first_with id ss) f.1 ∙ first_of true e f.0
 
 -- if no section is left
-nothing_left : (end : ℕ) (text : List ℕ) (left : List SectionAt) → AreSections end text left → text ≡ [] → left ≡ []
+pub nothing_left : (end : ℕ) (text : List ℕ) (left : List SectionAt) → AreSections end text left → text ≡ [] → left ≡ []
 nothing_left end text [] a e = refl
 nothing_left end text (y ∷ ys) a e = let e : [] ≡ y.id ∷ a.1.sized = sym e ∙ a.1.id_is in absurd cc
 

@@ -1,13 +1,24 @@
 -- Sections that are given new contents, and items that are added after those of a section (WebAssembly core specification 3.0,
 -- binary format, modules: the contents of most sections are a vector of items).
-use Rattle.std.specs.Prelude.{◌≡◌, ◌≢◌, ◌+◌, ℕ, List, [], ◌∷◌, ◌++◌, take, get_or, Option, Some, None, Ok}
+use Rattle.std.specs.Prelude.{◌≡◌, ◌≢◌, ◌⊎◌, ◌+◌, ℕ, List, [], ◌∷◌, ◌++◌, length, take, get_or, Option, Some, None, Ok, Err}
 use Rattle.wasm_numbers.specs.Numbers.{u32}
 use Rattle.wasm_operators.specs.Shortest.{short_number}
 use Rattle.wasm_sections.specs.declared.changes.Changes.{Changes}
 use Rattle.wasm_sections.specs.declared.changes.NewContents.{NewContents}
+use Rattle.wasm_sections.specs.declared.fault.ModuleError.{ModuleError}
+use Rattle.wasm_sections.specs.declared.fault.ModuleFault.TheVariants as fault
+use Rattle.wasm_sections.specs.Parts.{number}
 use Rattle.wasm_sections.specs.Sections.{SectionAt, first_with, section_id}
 use Rattle.wasm_sections.specs.CodeSections.{entry}
 use Rattle.wasm_sections.specs.GivenContents.{contents_in, added_bodies}
+
+-- Why nothing is written: memory ran out, or a number doesn't fit 32 bits.
+abbrev pub IsTooMuch : ModuleError → Type 0
+IsTooMuch e = (e.fault ≡ fault.Memory) ⊎ (e.fault ≡ fault.TooGreat)
+
+-- Why no item is added to these contents: the same, or they don't begin with the number of their items.
+abbrev pub IsNotAdded : (contents : List ℕ) → ModuleError → Type 0
+IsNotAdded contents e = IsTooMuch e ⊎ (number (length contents) contents ≡ Err e)
 
 -- At this position of the list are the first contents that are given for the section with this id.
 pub record IsGivenAt (given : List NewContents) (id at : ℕ) : Type 0 where

@@ -25,6 +25,8 @@ pub mod Constants
 -- the index spaces of a module, of which only the locals change; the contents of sections in which indices of functions are others,
 -- and the written indices of functions
 pub mod OtherLocals
+-- the functions to which the sections of a module refer
+pub mod References
 -- items that are added to a module that was read
 pub mod DefinedItems
 pub mod MovedFunctions

@@ -1,6 +1,6 @@
 -- Views of a module that was read: the items of its sections, as they are in the file (WebAssembly core specification 3.0,
 -- binary format, modules).
-use Rattle.std.specs.Prelude.{◌≡◌, ◌≢◌, ◌<◌, ◌⊎◌, ◌+◌, ◌-◌, ℕ, List, [], ◌∷◌, ◌++◌, length, Bool, true, false, nat_lt, option_map, Option, Some, None, Result, Ok, Err}
+use Rattle.std.specs.Prelude.{◌≡◌, ◌≢◌, ◌<◌, ◌⊎◌, ◌+◌, ◌-◌, ℕ, zero, suc, List, [], ◌∷◌, ◌++◌, length, Bool, true, false, nat_lt, option_map, Option, Some, None, Result, Ok, Err}
 use Rattle.wasm_numbers.specs.Numbers.{u32}
 use Rattle.wasm_operators.specs.declared.types.Space.{Space}
 use Rattle.wasm_sections.specs.declared.code.Bodies.{Bodies}
@@ -58,6 +58,18 @@ place_of_items s = s.left.end - length s.left.rest.now
 -- the kind of an export that names something in this index space
 abbrev pub IsExportKind : Space → (kind : ℕ) → Type 0
 IsExportKind space kind = kind_of_export space ≡ Some kind
+
+-- Of so many exports, with which the text begins, one has this name; those before it can be read.
+abbrev pub IsAmongExports : (name : List ℕ) → (count end : ℕ) → (text : List ℕ) → Type 0
+IsAmongExports name zero end text = ⊥
+IsAmongExports name (suc count) end text =
+    (x : List ℕ × Space × ℕ) × (following : List ℕ) × (export_part end text ≡ Ok (x, following))
+    × ((x.0 ≡ name) ⊎ IsAmongExports name count end following)
+
+-- An export of these contents of an export section, which end at this place, has this name.
+abbrev pub HasExport : (name : List ℕ) → (end : ℕ) → (contents : List ℕ) → Type 0
+HasExport name end contents =
+    (count : ℕ) × (items : List ℕ) × (u32 contents ≡ Ok (count, items)) × IsAmongExports name count end items
 
 -- ---- exports, imports, tables, memories, globals and tags, by how they are read
 

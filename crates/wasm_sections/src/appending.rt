@@ -1,10 +1,11 @@
 //! One more item after those of a section (WebAssembly core specification 3.0, binary format,
 //! modules).
-ghost use Rattle.std.specs.Prelude.{◌≡◌, ◌≤◌, ◌+◌, ◌-◌, ◌++◌, ℕ, List, length, drop, Ok, OnOk, OnErr, IfOk};
+ghost use Rattle.std.specs.Prelude.{◌≡◌, ◌<◌, ◌≤◌, ◌+◌, ◌-◌, ◌^◌, ◌++◌, ℕ, List, length, drop, Ok, Err, OnOk, OnErr, IfOk, IfErr};
 ghost use Rattle.std.specs.Vec.{vec_len, vec_capacity};
 ghost use Rattle.wasm_numbers.specs.Numbers.{u32};
 ghost use Rattle.wasm_operators.specs.Shortest.{short_number};
-ghost use Rattle.wasm_sections.specs.Additions.{HasOneMore};
+ghost use Rattle.wasm_sections.specs.Additions.{HasOneMore, IsTooMuch, IsNotAdded};
+ghost use Rattle.wasm_sections.specs.Parts.{number as number_part};
 
 use crate::fault::{ModuleError, ModuleFault};
 use crate::input::Input;
@@ -19,7 +20,8 @@ pub(crate) fn with_item(
     item: &[u8],
     room: usize,
 ) -> Result<Vec<u8>, ModuleError>
-    ensures { IfOk result (λ made. HasOneMore contents.now item.now made.items) }
+    ensures made { IfOk result (λ made. HasOneMore contents.now item.now made.items) }
+    ensures refused { IfErr result (IsNotAdded contents.now) }
 {
     let mut items = Input::new(contents);
     let count = items.number()?;
@@ -30,7 +32,10 @@ pub(crate) fn with_item(
 }
 
 /// `TooGreat` if a section can't have so many bytes.
-pub(crate) fn check_len(len: usize) -> Result<(), ModuleError> {
+pub(crate) fn check_len(len: usize) -> Result<(), ModuleError>
+    ensures fits { OnOk result (len < 2 ^ 32) }
+    ensures refused { IfErr result IsTooMuch }
+{
     if len > u32::MAX as usize {
         return Err(ModuleError {
             fault: ModuleFault::TooGreat,
@@ -42,8 +47,10 @@ pub(crate) fn check_len(len: usize) -> Result<(), ModuleError> {
 
 /// The number of items with which the contents of a section begin, and how many bytes it takes.
 fn counted(contents: &[u8]) -> Result<(u32, usize), ModuleError>
-    ensures { IfOk result (λ x. (items : List ℕ) × (u32 contents.now ≡ Ok (x.0, items))
+    ensures count { IfOk result (λ x. (items : List ℕ) × (u32 contents.now ≡ Ok (x.0, items))
         × (x.1 ≡ length contents.now - length items)) }
+    ensures refused { IfErr result
+        (λ error. number_part (length contents.now) contents.now ≡ Err error) }
 {
     let mut items = Input::new(contents);
     match items.number() {
@@ -54,7 +61,8 @@ fn counted(contents: &[u8]) -> Result<(u32, usize), ModuleError>
 
 /// A number in its shortest encoding.
 fn encoded(alloc: Global, number: usize) -> Result<Vec<u8>, ModuleError>
-    ensures { IfOk result (λ made. made.items ≡ short_number number) }
+    ensures written { IfOk result (λ made. made.items ≡ short_number number) }
+    ensures refused { IfErr result IsTooMuch }
 {
     let mut made = Vec::new(alloc);
     match write_number(&mut made, number) {
@@ -90,6 +98,7 @@ fn append_in_place(contents: &mut Vec<u8>, number: &[u8], item: &[u8])
 pub(crate) fn append_item(contents: &mut Vec<u8>, item: &[u8]) -> Result<(), ModuleError>
     ensures ok { OnOk result (HasOneMore contents.old.items item.now contents.new.items) }
     ensures err { OnErr result (contents.new ≡ contents.old) }
+    ensures refused { IfErr result (IsNotAdded contents.old.items) }
 {
     let alloc = *contents.allocator();
     let (count, len) = counted(contents)?;
@@ -116,8 +125,9 @@ fn write_items(
     items: &[u8],
     item: &[u8],
 ) -> Result<(), ModuleError>
-    ensures { OnOk result (out.new.items
+    ensures written { OnOk result (out.new.items
         ≡ out.old.items ++ (short_number count ++ (items.now ++ item.now))) }
+    ensures refused { IfErr result IsTooMuch }
 {
     match write_number(out, count) {
         Ok(()) => {}

@@ -1,7 +1,7 @@
 //! New contents of the sections of a module.
 
 ghost use Rattle.std.specs.Prelude.{◌≡◌, ◌<◌, ◌≤◌, [], length, take, Some, None, IfSome, IfNone, IfOk, IfErr, OnOk, OnErr};
-ghost use Rattle.wasm_sections.specs.Additions.{AddsAfter, AreUnchanged, IsGivenAt, SetsContents};
+ghost use Rattle.wasm_sections.specs.Additions.{AddsAfter, AreUnchanged, IsGivenAt, SetsContents, given_or, IsTooMuch, IsNotAdded};
 ghost use Rattle.wasm_sections.specs.Sections.{section_id};
 ghost use Rattle.wasm_sections.specs.GivenContents.{contents_in};
 
@@ -81,6 +81,7 @@ impl Changes {
         ensures sets { OnOk result (SetsContents self.old self.new (section_id given.kind)
             given.contents.items) }
         ensures refused { OnErr result (AreUnchanged self.old self.new) }
+        ensures memory { IfErr result IsTooMuch }
     {
         match self.place_of(given.kind) {
             Ok(at) => {
@@ -98,7 +99,8 @@ impl Changes {
     ///
     /// # Errors
     ///
-    /// `TooGreat` if the number of bytes or of items doesn't fit 32 bits; or `Memory`.
+    /// `TooGreat` if the number of bytes or of items doesn't fit 32 bits; the fault of the number with which
+    /// contents begin that were given before; or `Memory`.
     pub fn add_after(
         &mut self,
         kind: SectionKind,
@@ -107,6 +109,8 @@ impl Changes {
     ) -> Result<(), ModuleError>
         ensures ok { OnOk result (AddsAfter self.old self.new (section_id kind) others.now item.now) }
         ensures err { OnErr result (AreUnchanged self.old self.new) }
+        ensures refused { IfErr result
+            (IsNotAdded (given_or (contents_in self.old.given.items (section_id kind)) others.now)) }
     {
         match self.given_at(kind) {
             Some(at) => append_item(&mut self.given[at].contents, item),

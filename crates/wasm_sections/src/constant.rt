@@ -1,15 +1,16 @@
 //! Constant expressions.
 
-ghost use Rattle.std.specs.Prelude.{◌≡◌, ◌<◌, length, OnOk};
+ghost use Rattle.std.specs.Prelude.{◌≡◌, ◌<◌, length, OnOk, option_to_list};
 ghost use Rattle.wasm_numbers.specs.Results.{Gives};
 ghost use Rattle.wasm_operators.specs.Meaning.{meaning};
 ghost use Rattle.wasm_sections.specs.Format.{is_control_opcode, is_end_opcode, ends_constant, operator_part, operators_part, constant_part};
 ghost use Rattle.wasm_sections.specs.Parts.{checked};
+ghost use Rattle.wasm_sections.specs.References.{is_ref_func, referred_by, constant_reference};
 
 use crate::fault::{ModuleError, ModuleFault};
 use crate::input::Input;
 use wasm_operators::Opcode;
-use wasm_ops::{Operator, Reader};
+use wasm_ops::{Immediates, Operator, Reader};
 
 /// Whether an operator with this opcode opens, divides or leaves a construct.
 pub(crate) fn is_control(opcode: Opcode) -> bool
@@ -28,6 +29,30 @@ fn is_end(opcode: Opcode) -> bool
     match opcode {
         Opcode::Byte(byte) => byte == 0x0b,
         Opcode::Prefixed(..) => false,
+    }
+}
+
+/// Whether this is the opcode of `ref.func`.
+fn is_ref_func(opcode: Opcode) -> bool
+    ensures { result ≡ is_ref_func opcode }
+{
+    match opcode {
+        Opcode::Byte(byte) => byte == 0xd2,
+        Opcode::Prefixed(..) => false,
+    }
+}
+
+/// The function to which an operator of a constant expression refers: that of `ref.func`.
+fn referred(operator: &Operator<'_>) -> Option<u32>
+    ensures { referred_by (meaning operator.now) ≡ option_to_list result }
+{
+    let (opcode, immediates) = operator.parts();
+    if !is_ref_func(opcode) {
+        return None;
+    }
+    match immediates {
+        Immediates::Index(_, index) => Some(index),
+        _ => None,
     }
 }
 
@@ -66,6 +91,27 @@ impl<'a> Input<'a> {
                     return Err(begin.fault(ModuleFault::BadConstant));
                 }
                 Ok(is_end(opcode))
+            }
+            Err(error) => Err(error),
+        }
+    }
+
+    /// Reads past an operator of a constant expression, with the same faults. Returns the function to
+    /// which it refers, and whether it is the `end`.
+    pub(crate) fn constant_reference(&mut self) -> Result<(Option<u32>, bool), ModuleError>
+        ensures same_end { self.new.end ≡ self.old.end }
+        ensures shorter { OnOk result (length self.new.rest.now < length self.old.rest.now) }
+        ensures is { Gives (λ x. ((option_to_list x.0, x.1), self.new.rest.now)) result
+            (checked operator_part constant_reference self.old.end self.old.rest.now) }
+    {
+        let begin = *self;
+        match self.operator() {
+            Ok(operator) => {
+                let (opcode, _) = operator.parts();
+                if is_control(opcode) {
+                    return Err(begin.fault(ModuleFault::BadConstant));
+                }
+                Ok((referred(&operator), is_end(opcode)))
             }
             Err(error) => Err(error),
         }

@@ -1,10 +1,10 @@
 //! Exports (WebAssembly core specification 3.0, binary format, modules).
 
-ghost use Rattle.std.specs.Prelude.{◌≡◌, ◌-◌, length, IfOk, IfSome};
-ghost use Rattle.wasm_sections.specs.Views.{export_value};
+ghost use Rattle.std.specs.Prelude.{◌≡◌, ◌≢◌, ◌↔◌, ◌-◌, length, IsSome, IfOk, IfErr, IfSome};
+ghost use Rattle.wasm_sections.specs.Views.{export_value, IsAmongExports, HasExport};
 ghost use Rattle.wasm_numbers.specs.Results.{Gives, some_or};
 ghost use Rattle.walrus_maps.specs.IndexMaps.{ids_in};
-ghost use Rattle.wasm_sections.specs.declared.fault.ModuleFault.TheVariants.{BadExportKind};
+ghost use Rattle.wasm_sections.specs.declared.fault.ModuleFault.TheVariants.{BadExportKind, ExportTaken};
 ghost use Rattle.wasm_sections.specs.Format.{export_space, kind_of_export, id_found, export_part, index_part, known_export_part};
 
 use crate::fault::{ModuleError, ModuleFault};
@@ -102,7 +102,7 @@ pub struct Export<'a> {
 
 impl<'a> Input<'a> {
     /// An export, whose index isn't looked up; `BadExportKind` if no export is of its kind.
-    fn read_export(&mut self) -> Result<Export<'a>, ModuleError>
+    pub(crate) fn read_export(&mut self) -> Result<Export<'a>, ModuleError>
         ensures place { IfOk result (λ x. x.at ≡ self.old.end - length self.old.rest.now) }
         ensures same_end { self.new.end ≡ self.old.end }
         ensures is { Gives (λ x. (export_value x, self.new.rest.now)) result
@@ -130,6 +130,43 @@ impl<'a> Input<'a> {
 pub struct Exports<'a> {
     /// The exports that are left.
     pub items: Items<'a>,
+}
+
+impl Exports<'_> {
+    /// The place of the first export with this name; `None` if no export has it.
+    fn place_of(self, name: &str) -> Result<Option<usize>, ModuleError>
+        ensures found { IfOk result (λ place. IsSome place ↔ IsAmongExports name.now
+            self.entry.items.count self.entry.items.left.end self.entry.items.left.rest.now) }
+        ensures refused { IfErr result (λ error. error.fault ≢ ExportTaken) }
+    {
+        'exports: for export in self {
+            let export = match export {
+                Ok(export) => export,
+                Err(error) => return Err(error),
+            };
+            if export.name == name {
+                return Ok(Some(export.at));
+            }
+        }
+        Ok(None)
+    }
+
+    /// The place of the first export with this name among these contents of an export section; `None`
+    /// if no export has it.
+    ///
+    /// # Errors
+    ///
+    /// The first fault of the contents, if no export before it has the name.
+    pub fn place_in(contents: Input<'_>, name: &str) -> Result<Option<usize>, ModuleError>
+        ensures found { IfOk result (λ place. IsSome place ↔ HasExport name.now contents.entry.end
+            contents.entry.rest.now) }
+        ensures refused { IfErr result (λ error. error.fault ≢ ExportTaken) }
+    {
+        match Items::of_contents(contents) {
+            Ok(items) => (Exports { items }).place_of(name),
+            Err(error) => Err(error),
+        }
+    }
 }
 
 impl<'a> Iterator for Exports<'a> {

@@ -24,6 +24,7 @@ mod moved_functions;
 mod names;
 mod omissions;
 mod output;
+mod references;
 mod renumbering;
 mod sections;
 mod segments;

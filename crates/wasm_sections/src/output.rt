@@ -1,7 +1,8 @@
 //! Numbers and vectors of bytes, as they are written (WebAssembly core specification 3.0, binary
 //! format, values).
-ghost use Rattle.std.specs.Prelude.{◌≡◌, ◌++◌, ◌≤◌, ◌<◌, ◌^◌, OnOk};
+ghost use Rattle.std.specs.Prelude.{◌≡◌, ◌++◌, ◌≤◌, ◌<◌, ◌^◌, OnOk, IfErr};
 ghost use Rattle.wasm_operators.specs.Shortest.{short_number};
+ghost use Rattle.wasm_sections.specs.Additions.{IsTooMuch};
 ghost use Rattle.wasm_sections.specs.CodeSections.{entry};
 
 use crate::fault::{ModuleError, ModuleFault};
@@ -28,6 +29,7 @@ pub fn number_len(number: usize) -> usize
 pub fn write_number(out: &mut Vec<u8>, number: usize) -> Result<(), ModuleError>
     ensures written { OnOk result (out.new.items ≡ out.old.items ++ short_number number) }
     ensures fits { OnOk result (number < 2 ^ 32) }
+    ensures refused { IfErr result IsTooMuch }
 {
     if number > u32::MAX as usize {
         return Err(ModuleError {
@@ -46,7 +48,8 @@ pub fn write_number(out: &mut Vec<u8>, number: usize) -> Result<(), ModuleError>
 /// Those of `write_number`.
 #[tactic(auto, using(wasm_encode::proofs::Appending::appending))]
 pub fn write_bytes(out: &mut Vec<u8>, bytes: &[u8]) -> Result<(), ModuleError>
-    ensures { OnOk result (out.new.items ≡ out.old.items ++ entry bytes.now) }
+    ensures written { OnOk result (out.new.items ≡ out.old.items ++ entry bytes.now) }
+    ensures refused { IfErr result IsTooMuch }
 {
     match write_number(out, bytes.len()) {
         Ok(()) => {}

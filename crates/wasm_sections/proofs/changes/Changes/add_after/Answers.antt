@@ -4,7 +4,7 @@ use Rattle.wasm_sections.specs.declared.changes.Changes.{Changes}
 use Rattle.wasm_sections.specs.declared.changes.NewContents.{NewContents}
 use Rattle.wasm_sections.specs.Additions.{AreUnchanged, AddsAfter}
 use Rattle.wasm_sections.specs.Sections.{section_id}
-use Rattle.wasm_sections.proofs.AdditionLemmas.{after_given, after_others, unchanged_at, on_err, on_ok}
+use Rattle.wasm_sections.proofs.AdditionLemmas.{after_given, after_others, not_added_there, unchanged_at, on_err, on_ok}
 use Rattle.wasm_sections.proofs.changes.Changes.add_after.Goals as goal
 
 pub returns-in-Some-clause-ok : goal.returns-in-Some-clause-ok
@@ -27,4 +27,9 @@ returns-in-Some-clause-err c =
 pub returns-in_ok-check_len-in-None-clause-ok : goal.returns-in_ok-check_len-in-None-clause-ok
 returns-in_ok-check_len-in-None-clause-ok c =
     on_ok c.put.result _ (AddsAfter c.args.self.now c.put.new.self (section_id c.args.kind) c.args.others.now c.args.item.now) c.put.ensures.sets
-    (λ sets. after_others c.args.self.now c.put.new.self (section_id c.args.kind) c.args.others.now c.args.item.now _ c.in-None.ensures.none c.in_ok-contents-in-None.ensures sets)
+    (λ sets. after_others c.args.self.now c.put.new.self (section_id c.args.kind) c.args.others.now c.args.item.now _ c.in-None.ensures.none c.in_ok-contents-in-None.ensures.made sets)
+
+pub returns-in-Some-clause-refused : goal.returns-in-Some-clause-refused
+returns-in-Some-clause-refused c =
+    not_added_there c.append_item.result c.args.self.now.given.items (section_id c.args.kind) c.in-Some.at c.args.others.now c.in-Some.ensures.found
+    c.in-Some.ensures.within c.index_mut.result.now c.index_mut.ensures.value c.append_item.ensures.refused
