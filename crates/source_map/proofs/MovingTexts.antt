@@ -8,7 +8,7 @@ use Rattle.source_map.specs.declared.mapping.Mapping.{Mapping}
 use Rattle.source_map.specs.declared.moving.Move.{Move}
 use Rattle.source_map.specs.declared.moving_text.MovingSourceMap.{MovingSourceMap}
 use Rattle.source_map.specs.Moving.{in_body, with_place, moved_all}
-use Rattle.source_map.specs.MovingText.{fields_written, written_after, all_written_after, GoesOn, HasMoved}
+use Rattle.source_map.specs.MovingText.{fields_written, written_after, all_written_after, MovedSoFar, HasMoved}
 use Rattle.source_map.specs.Reading.{mappings_at, mappings_left, before_others}
 use Rattle.source_map.specs.Shortest.{spelling}
 use Rattle.source_map.specs.Spelling.{no_fields, fields_after, AreSegments, SpellsMappings, AscendFrom}
@@ -62,13 +62,13 @@ first_left m next s left is are =
     (found.0, found.1, ok_is (m ∷ found.0) left found.2)
 
 module _ (all : List Mapping) (moves : List Move) (step : Move) where
-  pub named_next : (s : MovingSourceMap) → HasMoved all moves s → GoesOn (step ∷ []) all moves s
+  pub named_next : (s : MovingSourceMap) → HasMoved all moves s → MovedSoFar (step ∷ []) all moves s
   named_next s h = record { left = h.left; are_left = h.are_left; ascend = h.ascend; text = λ more. h.text (step ∷ more) }
 
   pub passes : (s t : MovingSourceMap) (m : Mapping) → s.next ≡ Some m → m.generated ≤ step.old → t.map ≡ s.map
       → mappings_left s.segments ≡ before_others t.next (mappings_left t.segments)
       → ((more : List Mapping) → t.text.items ++ all_written_after t.last more ≡ s.text.items ++ all_written_after s.last (with_place m (in_body m.generated (Some step)) more))
-      → GoesOn (step ∷ []) all moves s → GoesOn (step ∷ []) all moves t
+      → MovedSoFar (step ∷ []) all moves s → MovedSoFar (step ∷ []) all moves t
   passes s t m is reached same read written h =
       let found = first_left m s.next s h.left is h.are_left in
       let up : AscendFrom 0 (m ∷ found.0) = subst (AscendFrom 0) (sym found.2) h.ascend in
@@ -83,11 +83,11 @@ module _ (all : List Mapping) (moves : List Move) (step : Move) where
             ∙ (h.text more ∙ ap (λ k. k.now.front.items ++ spelling (moved_all (moves ++ (step ∷ more)) all)) (sym same));
       }
 
-  pub never_refuses : (s : MovingSourceMap) (m : Mapping) (f : MappingsFault) → s.next ≡ Some m → mappings_left s.segments ≡ Err f → GoesOn (step ∷ []) all moves s → ⊥
+  pub never_refuses : (s : MovingSourceMap) (m : Mapping) (f : MappingsFault) → s.next ≡ Some m → mappings_left s.segments ≡ Err f → MovedSoFar (step ∷ []) all moves s → ⊥
   never_refuses s m f is fault h = let found = first_left m s.next s h.left is h.are_left in let wrong : Err f ≡ Ok found.0 = sym fault ∙ found.1 in absurd (cc wrong)
 
   -- all that the operator moves was passed
-  is_named : (s : MovingSourceMap) (h : GoesOn (step ∷ []) all moves s) → ((more : List Move) → moved_all (step ∷ more) h.left ≡ moved_all more h.left) → HasMoved all (moves ++ step ∷ []) s
+  is_named : (s : MovingSourceMap) (h : MovedSoFar (step ∷ []) all moves s) → ((more : List Move) → moved_all (step ∷ more) h.left ≡ moved_all more h.left) → HasMoved all (moves ++ step ∷ []) s
   is_named s h over = record {
     left = h.left;
     are_left = h.are_left;
@@ -97,14 +97,14 @@ module _ (all : List Mapping) (moves : List Move) (step : Move) where
         ∙ (h.text more ∙ ap (λ (x : List Move). s.map.now.front.items ++ spelling (moved_all x all)) (sym (append_assoc moves (step ∷ []) more)));
   }
 
-  pub stops : (s : MovingSourceMap) (m : Mapping) → s.next ≡ Some m → step.old < m.generated → GoesOn (step ∷ []) all moves s → HasMoved all (moves ++ step ∷ []) s
+  pub stops : (s : MovingSourceMap) (m : Mapping) → s.next ≡ Some m → step.old < m.generated → MovedSoFar (step ∷ []) all moves s → HasMoved all (moves ++ step ∷ []) s
   stops s m is lt h =
       let found = first_left m s.next s h.left is h.are_left in
       let up : AscendFrom 0 (m ∷ found.0) = subst (AscendFrom 0) (sym found.2) h.ascend in
       let from : AscendFrom m.generated (m ∷ found.0) = (omega arith, up.1) in
       is_named s h (λ more. passed_over step more m.generated h.left lt (subst (AscendFrom m.generated) found.2 from))
 
-  pub ends : (s : MovingSourceMap) → s.next ≡ None → GoesOn (step ∷ []) all moves s → HasMoved all (moves ++ step ∷ []) s
+  pub ends : (s : MovingSourceMap) → s.next ≡ None → MovedSoFar (step ∷ []) all moves s → HasMoved all (moves ++ step ∷ []) s
   ends s is h =
       let none : [] ≡ h.left = ok_is [] h.left (subst (λ (x : Option Mapping). before_others x (mappings_left s.segments) ≡ Ok h.left) is h.are_left) in
       is_named s h (λ more. subst (λ (x : List Mapping). moved_all (step ∷ more) x ≡ moved_all more x) none refl)

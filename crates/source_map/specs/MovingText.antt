@@ -46,7 +46,7 @@ length_to_come s = some_left s.next (length_left s.segments)
 
 -- The first operators that were named are these, and those ahead are named next. What is written, and what is to come of the mappings,
 -- is the text of all of them at their new places, whatever operators follow.
-pub record GoesOn (ahead : List Move) (all : List Mapping) (moves : List Move) (s : MovingSourceMap) : Type 0 where
+pub record MovedSoFar (ahead : List Move) (all : List Mapping) (moves : List Move) (s : MovingSourceMap) : Type 0 where
   pub left : List Mapping
   pub are_left : mappings_to_come s ≡ Ok left
   pub ascend : AscendFrom 0 left
@@ -56,4 +56,4 @@ pub record GoesOn (ahead : List Move) (all : List Mapping) (moves : List Move) (
 
 -- The operators that were named are these; all is written of the mappings that can be moved by them.
 abbrev pub HasMoved : (all : List Mapping) → (moves : List Move) → MovingSourceMap → Type 0
-HasMoved all moves s = GoesOn [] all moves s
+HasMoved all moves s = MovedSoFar [] all moves s

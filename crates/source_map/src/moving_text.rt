@@ -7,7 +7,7 @@ ghost use Rattle.source_map.specs.declared.fault.MappingsError.TheVariants.{Memo
 ghost use Rattle.source_map.specs.declared.mapping.Mapping.{Mapping as AMapping};
 ghost use Rattle.source_map.specs.declared.moving.Move.{Move as AMove};
 ghost use Rattle.source_map.specs.Moving.{in_body, with_place, moved_all};
-ghost use Rattle.source_map.specs.MovingText.{written_after, all_written_after, fields_written, length_to_come, GoesOn, HasMoved};
+ghost use Rattle.source_map.specs.MovingText.{written_after, all_written_after, fields_written, length_to_come, MovedSoFar, HasMoved};
 ghost use Rattle.source_map.specs.Shortest.{spelling};
 ghost use Rattle.source_map.specs.Spelling.{SpellsMappings};
 ghost use Rattle.source_map.specs.WrittenSourceMaps.{IsReadFrom, IsTextWith};
@@ -108,11 +108,11 @@ impl<'a> MovingSourceMap<'a> {
         requires next { self.old.next ≡ Some mapping }
         requires reached { mapping.generated ≤ step.old }
         ensures passes { (all : List AMapping) (moves : List AMove)
-            → GoesOn (step ∷ []) all moves self.old
-            → OnOk result (GoesOn (step ∷ []) all moves self.new) }
+            → MovedSoFar (step ∷ []) all moves self.old
+            → OnOk result (MovedSoFar (step ∷ []) all moves self.new) }
         ensures map { self.new.map ≡ self.old.map }
         ensures memory { (all : List AMapping) (moves : List AMove)
-            → GoesOn (step ∷ []) all moves self.old → IfErr result (λ e. e ≡ Memory) }
+            → MovedSoFar (step ∷ []) all moves self.old → IfErr result (λ e. e ≡ Memory) }
         ensures fewer { OnOk result (length_to_come self.new < length_to_come self.old) }
     {
         self.write_moved(mapping, step)?;
