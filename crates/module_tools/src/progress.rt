@@ -111,6 +111,8 @@ fn first_time(clock: &impl Clock, is_terminal: bool) -> Option<Instant> {
 pub struct Watched<'p, R, B> {
     progress: &'p Progress<'p, R>,
     bodies: B,
+    /// Whether a large body may be written without being measured before, as in the first pass.
+    is_first: bool,
 }
 
 impl<'p, R, B> Watched<'p, R, B> {
@@ -118,12 +120,30 @@ impl<'p, R, B> Watched<'p, R, B> {
     pub fn new(progress: &'p Progress<'p, R>, bodies: B) -> Self
         ensures { result.bodies ≡ bodies }
     {
-        Watched { progress, bodies }
+        Watched {
+            progress,
+            bodies,
+            is_first: false,
+        }
+    }
+
+    /// The same bodies, each of which is a step of `progress` when it is written in the first pass
+    /// over a module.
+    pub fn first(progress: &'p Progress<'p, R>, bodies: B) -> Self
+        ensures { result.bodies ≡ bodies }
+    {
+        Watched {
+            progress,
+            bodies,
+            is_first: true,
+        }
     }
 }
 
 impl<R: Eprint + Clock, B: BodyWriter> BodyWriter for Watched<'_, R, B> {
     ghost writes = { λ self. B.writes self.bodies };
+
+    ghost returns = { λ self. B.returns self.bodies };
 
     fn write_body<'a>(
         &self,
@@ -154,6 +174,9 @@ impl<R: Eprint + Clock, B: BodyWriter> BodyWriter for Watched<'_, R, B> {
         scratch: &mut Scratch,
         sink: &mut S,
     ) -> Result<(), ModuleError> {
+        if self.is_first {
+            self.progress.step();
+        }
         self.bodies
             .write_large_body(parsed, body, needs_pairs, scratch, sink)
     }

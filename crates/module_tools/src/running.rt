@@ -29,8 +29,8 @@ use std::time::Instant;
 use walrus_body::LocalFunction;
 use walrus_ir::{FunctionId, IdHashSet, ModuleLocals};
 use wasm_module::{
-    BodyWriter, ChangeFunction, Changes, KeptBodies, ModuleError, ParsedModule, Rewriting,
-    RewrittenModule,
+    BodyWriter, ChangeFunction, Changes, Keeping, Kept, KeptBodies, ModuleError, ParsedModule,
+    Rewriting, RewrittenModule,
 };
 
 /// Which of the standard streams are terminals.
@@ -101,13 +101,30 @@ impl ChangeFunction for NoChange {
     }
 }
 
-/// The module with its functions rewritten.
+/// What is kept of the bodies that are written for a task: nothing where their location pairs are told,
+/// since of those of a kept body nothing is said.
+fn keeping_for(task: &Task<'_>) -> Keeping {
+    match task.map.is_some() || task.source_map.is_some() {
+        true => Keeping::NOTHING,
+        false => Keeping::CODE,
+    }
+}
+
+/// The module with its functions rewritten, of which so much is kept.
 fn rewritten<'a, R: Eprint + Clock>(
     parsed: &mut ParsedModule<'a>,
     changes: Changes,
+    keeping: Keeping,
     progress: &'a Progress<'a, R>,
-) -> Result<RewrittenModule<'a, Watched<'a, R, Rewriting>>, ModuleError> {
-    parsed.rewrite_with(Watched::new(progress, Rewriting), changes)
+) -> Result<RewrittenModule<'a, Watched<'a, R, Kept<'a, Rewriting>>>, ModuleError> {
+    match parsed.rewrite_keeping(Watched::first(progress, Rewriting), changes, keeping) {
+        Ok(module) => {
+            let (bodies, rest) = module.take_bodies();
+            let bodies = bodies.with_bodies(Rewriting);
+            Ok(rest.with_bodies(Watched::new(progress, bodies)))
+        }
+        Err(error) => Err(error),
+    }
 }
 
 /// The module with its functions changed.
@@ -232,7 +249,8 @@ where
         };
         match change {
             None => {
-                let made = rewritten(parsed, changes, self.progress);
+                let keeping = keeping_for(self.task);
+                let made = rewritten(parsed, changes, keeping, self.progress);
                 self.write_or_refuse(source, parsed, made, output)
             }
             Some(change) => {

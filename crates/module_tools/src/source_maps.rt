@@ -1,5 +1,7 @@
 //! The source map of a module that is written: its mappings follow the operators.
 
+ghost use Rattle.std.specs.Prelude.{true, is_some};
+
 use crate::ending::{Attempt, ProgramFailure};
 use crate::files::read_file;
 use crate::locks::LockFiles;
@@ -85,6 +87,10 @@ impl<'s> Moves<'s> {
 }
 
 impl MapSink for Moves<'_> {
+    ghost records = { λ a b body. Unit {0} };
+
+    ghost needs = { λ moves. is_some moves.text };
+
     fn needs_pairs(&self) -> bool {
         self.text.is_some()
     }
@@ -95,18 +101,24 @@ impl MapSink for Moves<'_> {
             false => Ok(()),
         }
     }
+
+    ghost joins = { λ a b c body more p q. tt };
 }
 
 /// A listener that moves the mappings of a source map, and writes the lines of a location map.
 #[derive(Drop)]
 pub(crate) struct MovesAndLines<'m, 's, M> {
     /// The source map, whose mappings move along.
-    pub moves: &'m mut Moves<'s>,
+    pub moves: Moves<'s>,
     /// The lines of the location map.
     pub lines: MapLines<'m, M>,
 }
 
 impl<M: Write> MapSink for MovesAndLines<'_, '_, M> {
+    ghost records = { λ a b body. Unit {0} };
+
+    ghost needs = { λ _. true };
+
     fn needs_pairs(&self) -> bool {
         true
     }
@@ -115,6 +127,8 @@ impl<M: Write> MapSink for MovesAndLines<'_, '_, M> {
         self.moves.record_body(body)?;
         self.lines.record_body(body)
     }
+
+    ghost joins = { λ a b c body more p q. tt };
 }
 
 /// Reads a source map.

@@ -94,29 +94,34 @@ where
     }
 
     /// Writes the module, and its location map to a buffer that is lent, and what that still holds.
-    fn write_with_lines<W: Write, M: Write>(
+    fn write_with_lines<'s, W: Write, M: Write>(
         &self,
         parsed: &mut ParsedModule<'_>,
-        moves: &mut Moves<'_>,
+        moves: Moves<'s>,
         target: &mut W,
         map: &mut M,
-    ) -> Result<(), WriteError> {
+    ) -> Result<Moves<'s>, WriteError> {
         let lines = MapLines(&mut *map);
         let mut sink = MovesAndLines { moves, lines };
         match self.write_buffered(parsed, &mut sink, target) {
-            Ok(()) => flush(map),
+            Ok(()) => {}
+            Err(error) => return Err(error),
+        }
+        let MovesAndLines { moves, .. } = sink;
+        match flush(map) {
+            Ok(()) => Ok(moves),
             Err(error) => Err(error),
         }
     }
 
     /// Writes the module and its location map, buffered.
-    fn write_both_buffered<W: Write>(
+    fn write_both_buffered<'s, W: Write>(
         &self,
         parsed: &mut ParsedModule<'_>,
-        moves: &mut Moves<'_>,
+        moves: Moves<'s>,
         target: &mut W,
         map_target: &mut W,
-    ) -> Result<(), WriteError> {
+    ) -> Result<Moves<'s>, WriteError> {
         match BufWriter::new(self.rt.alloc(), map_target) {
             Ok(mut map) => self.write_with_lines(parsed, moves, target, &mut map),
             Err(error) => Err(WriteError::Io(error)),
@@ -148,11 +153,11 @@ where
         map: &mut Target<'w, R>,
     ) -> Result<(), ProgramFailure<'w>> {
         let (rt, task) = (self.rt, self.task);
-        let Ok(mut moves) = Moves::new(rt.alloc(), self.source) else {
+        let Ok(moves) = Moves::new(rt.alloc(), self.source) else {
             return Err(ProgramFailure::Memory);
         };
-        match self.write_both_buffered(parsed, &mut moves, target, map) {
-            Ok(()) => write_source_map(rt, task, moves),
+        match self.write_both_buffered(parsed, moves, target, map) {
+            Ok(moves) => write_source_map(rt, task, moves),
             Err(error) => {
                 let failed = match map.has_failed() {
                     true => map.path(),

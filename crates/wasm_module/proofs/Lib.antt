@@ -5,6 +5,7 @@ pub mod RefusalLemmas
 -- the bytes that are written, piece by piece: to a writer; one body after the other; new sections in their places; one section
 -- after the other
 pub mod WritingLemmas
+pub mod ToldLemmas
 pub mod CodeLemmas
 pub mod KeptLemmas
 pub mod NewSectionLemmas
@@ -22,6 +23,7 @@ pub mod ReadingLemmas
 pub mod TypeSectionLemmas
 pub mod ReadStepLemmas
 pub mod SectionsReadLemmas
+pub mod SpelledSectionLemmas
 -- the sections that the bytes of a module are
 pub mod ModuleLawLemmas
 -- what the steps of a reading leave; the code section, and the bodies in it
@@ -33,3 +35,8 @@ pub mod CheckedLemmas
 pub mod VisitedLemmas
 -- the module that is written consists of the same as its source
 pub mod SameModuleLemmas
+pub mod ReadAgainLemmas
+-- numbers in hexadecimal, and the lines of a location map
+pub mod DigitLemmas
+pub mod MapLineLemmas
+mod MapTextExamples

@@ -10,7 +10,7 @@ use Rattle.wasm_sections.specs.declared.fault.ModuleError.{ModuleError}
 use Rattle.wasm_sections.specs.declared.sections.Section.{Section}
 use Rattle.wasm_sections.specs.declared.sections.Sections.{Sections}
 use Rattle.wasm_sections.specs.Sections.{preamble, rank, next_rank, SectionAt, BeginsSection, AreSections, IsModule, section, section_at, section_id, TakesSection}
-use Rattle.wasm_module.specs.WrittenModules.{Puts, is_between, between, new_after, new_after_section}
+use Rattle.wasm_module.specs.WrittenModules.{Puts, FitsSize, is_between, between, FitBetween, new_after, new_after_section, NewFitAfter, NewFitAfterSection}
 use Rattle.wasm_module.proofs.WritingLemmas.{puts_then, puts_nothing, puts_same}
 
 -- ---- at the front of a module
@@ -94,9 +94,10 @@ pub record NewSoFar (first second : ℕ) (gs : List NewContents) (i : ℕ) (old 
   pub text : List ℕ
   pub puts : Puts old now at end text
   pub same : text ++ between first second (drop i gs) ≡ between first second gs
+  pub fits : FitBetween first second (drop i gs) → FitBetween first second gs
 
 pub nothing_new : (first second : ℕ) (gs : List NewContents) (known : Option (List ℕ)) (at : ℕ) → NewSoFar first second gs 0 known known at at
-nothing_new first second gs known at = record { text = []; puts = puts_nothing known at; same = refl }
+nothing_new first second gs known at = record { text = []; puts = puts_nothing known at; same = refl; fits = λ h. h }
 
 pub is_within_ranks : (first middle second : ℕ) → first < middle → middle < second → (nat_lt first middle && nat_lt middle second) ≡ true
 is_within_ranks first middle second p q = ap (λ (b : Bool). b && nat_lt middle second) (lt-ltb first middle p) ∙ lt-ltb middle second q
@@ -108,26 +109,29 @@ pub is_after_ranks : (first middle second : ℕ) → first < middle → second �
 is_after_ranks first middle second p q = ap (λ (b : Bool). b && nat_lt middle second) (lt-ltb first middle p) ∙ le-ltb middle second q
 
 module _ (first second : ℕ) (gs : List NewContents) (i : ℕ) (g : NewContents) (within : i < length gs) (is : g ≡ get_or gs i g) where
+  here : drop i gs ≡ g ∷ drop (i + 1) gs
+  here = drop-cons gs i g within ∙ ap (λ (x : NewContents). x ∷ drop (suc i) gs) (sym is) ∙ ap (λ (n : ℕ). g ∷ drop n gs) (sym (add-one i))
+
   -- the bytes for this section and for those after it
   step :
       (b : Bool) → is_between first second g ≡ b →
       between first second (drop i gs) ≡ (if b then section (section_id g.kind) g.contents.items ++ between first second (drop (i + 1) gs) else between first second (drop (i + 1) gs))
   step b e =
-      let here : drop i gs ≡ g ∷ drop (i + 1) gs =
-      drop-cons gs i g within ∙ ap (λ (x : NewContents). x ∷ drop (suc i) gs) (sym is) ∙ ap (λ (n : ℕ). g ∷ drop n gs) (sym (add-one i)) in
       ap (λ (l : List NewContents). between first second l) here
       ∙ ap (λ (b : Bool). if b then section (section_id g.kind) g.contents.items ++ between first second (drop (i + 1) gs) else between first second (drop (i + 1) gs)) e
 
   pub one_new :
       (old now later new : Option (List ℕ)) (at middle end last : ℕ) → NewSoFar first second gs i old now at middle → is_between first second g ≡ true →
-      Puts now later middle end (section (section_id g.kind) g.contents.items) → later ≡ new → end ≡ last → NewSoFar first second gs (i + 1) old new at last
-  one_new old now later new at middle end last p b q out end_is =
+      Puts now later middle end (section (section_id g.kind) g.contents.items) → FitsSize g.contents.items → later ≡ new → end ≡ last →
+      NewSoFar first second gs (i + 1) old new at last
+  one_new old now later new at middle end last p b q fit out end_is =
       let own = section (section_id g.kind) g.contents.items in
-      let here = subst (λ (n : ℕ). Puts now new middle n own) end_is (subst (λ (l : Option (List ℕ)). Puts now l middle end own) out q) in
+      let put = subst (λ (n : ℕ). Puts now new middle n own) end_is (subst (λ (l : Option (List ℕ)). Puts now l middle end own) out q) in
       record {
         text = p.text ++ own;
-        puts = puts_then old now new at middle last p.text own p.puts here;
+        puts = puts_then old now new at middle last p.text own p.puts put;
         same = append_assoc p.text own (between first second (drop (i + 1) gs)) ∙ ap (λ (l : List ℕ). p.text ++ l) (sym (step true b)) ∙ p.same;
+        fits = λ h. p.fits (subst (λ (l : List NewContents). FitBetween first second l) (sym here) (λ t. fit, h));
       }
 
   pub one_elsewhere :
@@ -137,6 +141,7 @@ module _ (first second : ℕ) (gs : List NewContents) (i : ℕ) (g : NewContents
     text = p.text;
     puts = subst (λ (n : ℕ). Puts old new at n p.text) end_is (subst (λ (l : Option (List ℕ)). Puts old l at middle p.text) out p.puts);
     same = ap (λ (l : List ℕ). p.text ++ l) (sym (step false b)) ∙ p.same;
+    fits = λ h. p.fits (subst (λ (l : List NewContents). FitBetween first second l) (sym here) (λ t. absurd cc, h));
   }
 
 pub all_new :
@@ -146,7 +151,16 @@ all_new first second gs i old now at end p h =
     let none = ap (λ (l : List NewContents). p.text ++ between first second l) (drop_all i gs h) in
     puts_same old now at end p.text (between first second gs) (sym (append-nil p.text) ∙ sym none ∙ p.same) p.puts
 
+pub all_fit :
+    (first second : ℕ) (gs : List NewContents) (i : ℕ) (old now : Option (List ℕ)) (at end : ℕ) → NewSoFar first second gs i old now at end → length gs ≤ i →
+    FitBetween first second gs
+all_fit first second gs i old now at end p h = p.fits (subst (λ (l : List NewContents). FitBetween first second l) (sym (drop_all i gs h)) tt)
+
 -- ---- after a section
+
+pub fit_after_other : (given : List NewContents) (all : List SectionAt) (r : ℕ) → r ≢ 0 → NewFitAfter given all r → NewFitAfterSection given all r
+fit_after_other given all zero h f = absurd (h refl)
+fit_after_other given all (suc r) h f = f
 
 pub after_other :
     (given : List NewContents) (all : List SectionAt) (r : ℕ) → r ≢ 0 → new_after given all r ≡ new_after_section given all r

@@ -1,5 +1,5 @@
 -- A body that is rewritten: what the contract of `rewrite_body` says about it.
-use Rattle.std.proofs.Common.{◌≡◌, ℕ, List, [], ◌++◌, length, slice_get, Option, None, Some, Result, Ok, Err, OnOk, IfOk, sym, ap, subst, ◌∙◌}
+use Rattle.std.proofs.Common.{◌≡◌, ℕ, Bool, true, false, List, [], ◌++◌, length, slice_get, Option, None, Some, Result, Ok, Err, OnOk, IfOk, refl, sym, ap, subst, ◌∙◌}
 use Rattle.std.specs.Borrow.{Bor}
 use Rattle.std.specs.Fn.{Shared}
 use Rattle.wasm_types.specs.declared.val_type.ValType.{ValType}
@@ -19,8 +19,11 @@ use Rattle.walrus_numbering.specs.NumberMaps.{numbers_by}
 use Rattle.walrus_emit_state.specs.Emission.{Output}
 use Rattle.walrus_rewrite.specs.RawBodies.{EmitInput, emit_input, IsRawBodyOf, AppendsPairs, AppendsRawBody}
 use Rattle.walrus_rewrite.specs.RewrittenBodies.{Rewrites}
-use Rattle.walrus_flat.specs.RewrittenFlat.{RewritesFlat}
+use Rattle.walrus_flat.specs.RewrittenFlat.{RewritesFlat, RewritesTo}
 use Rattle.wasm_module.specs.declared.body_writer.Measured.{Measured}
+use Rattle.wasm_module.specs.declared.body_writer.Needed.{Needed}
+use Rattle.wasm_module.specs.declared.body_writer.Needed.TheVariants.{Nothing}
+use Rattle.wasm_module.specs.WantedPairs.{wants_pairs}
 use Rattle.wasm_module.specs.declared.parsed.ParsedModule.{ParsedModule}
 use Rattle.wasm_sections.specs.CodeSections.{BodyAt}
 use Rattle.wasm_sections.specs.Declarations.{parameters_of_type, HaveLocals, first_numbers}
@@ -79,6 +82,30 @@ rewritten_flat {F} {Z} {calls} {entry} {exit} source now function b type id give
       is_rewritten = subst (λ (l : List ℕ). IsRewrittenAs now type args count body l x.pairs) all is_rewritten;
     } in
     (it, x.appends_pairs)
+
+-- the same to a sink, which took the pairs if they are wanted
+pub rewritten_flat_to :
+    {F : Type 0} {calls : Shared F (Bor ℕ × Unit {0}) ℕ}
+    (source now : ParsedModule) (function : ℕ) (b : BodyAt) (type id : ℕ) (given args : List ℕ) (count : ℕ) (body : FunctionBody) (has_map : Bool) (took : Output) →
+    Enters source function b now type args count body → id ≡ 0 → given ≡ args →
+    RewritesTo calls (body_input now.module now.spaces.indices id type body (no_location_function F) locals_below count)
+    (record { to = numbers_by now.module.types now.spaces.numbers []; types = now.module.locals; args = given }) has_map took →
+    (pairs : List Pair) × IsRewrittenWith source function b took.bytes pairs × (has_map ≡ true → took.pairs ≡ pairs)
+rewritten_flat_to {F} {calls} source now function b type id given args count body has_map took enters is_first args_are r =
+    let At : ℕ → List ℕ → Type 0 =
+    λ n xs. RewritesTo calls (body_input now.module now.spaces.indices n type body (no_location_function F) locals_below count)
+    (record { to = numbers_by now.module.types now.spaces.numbers []; types = now.module.locals; args = xs }) has_map took in
+    let y = subst (At 0) args_are (subst (λ n. At n given) is_first r) in
+    let x = y.rewrites in
+    let is_rewritten : IsRewrittenAs now type args count body x.raw x.pairs =
+    record { body = x.body; accepted = x.accepted; is_raw_body = x.is_raw_body; keeps = x.keeps } in
+    let it : IsRewritten source function b took.bytes = record {
+      now = now;
+      entered = record { type = type; args = args; count = count; body = body; enters = enters };
+      pairs = x.pairs;
+      is_rewritten = subst (λ (l : List ℕ). IsRewrittenAs now type args count body l x.pairs) (sym x.bytes) is_rewritten;
+    } in
+    (x.pairs, record { rewritten = it; pairs_are = refl }, y.wanted_pairs)
 
 -- the function that a parse returns
 pub parsed :
@@ -180,19 +207,35 @@ pub rewritten_with :
     IsRewrittenWith source function b raw new
 rewritten_with source function b raw old new r none e = record { rewritten = r; pairs_are = e ∙ ap (λ l. l ++ r.pairs) none }
 
--- of bytes of which something else is known
+-- whatever its pairs are
+pub with_its_pairs : (source : ParsedModule) (function : ℕ) (b : BodyAt) (raw : List ℕ) (r : IsRewritten source function b raw) → IsRewrittenWith source function b raw r.pairs
+with_its_pairs source function b raw r = record { rewritten = r; pairs_are = refl }
+
+pub rewritten_with_then :
+    (source a : ParsedModule) (function : ℕ) (b : BodyAt) (raw : List ℕ) (pairs : List Pair) → Extends source a → IsRewrittenWith a function b raw pairs →
+    IsRewrittenWith source function b raw pairs
+unfolding rewritten_then
+rewritten_with_then source a function b raw pairs e p = record { rewritten = rewritten_then source a function b raw e p.rewritten; pairs_are = p.pairs_are }
+
+-- of bytes and pairs of which something else is known
 pub rewritten_to :
-    {E R : Type 0} (source a : ParsedModule) (function : ℕ) (b : BodyAt) (goes : Output → Type 0) (r : Result R E) → Extends source a →
-    OnOk r ((took : Output) × IsRewritten a function b took.bytes × goes took) → OnOk r ((took : Output) × IsRewritten source function b took.bytes × goes took)
-rewritten_to source a function b goes (Ok x) e p = (p.0, rewritten_then source a function b p.0.bytes e p.1, p.2)
-rewritten_to source a function b goes (Err x) e p = tt
+    {E R : Type 0} (source a : ParsedModule) (function : ℕ) (b : BodyAt) (wants : Bool) (goes : Output → Type 0) (r : Result R E) → Extends source a →
+    OnOk r ((took : Output) × (pairs : List Pair) × IsRewrittenWith a function b took.bytes pairs × (wants ≡ true → took.pairs ≡ pairs) × goes took) →
+    OnOk r ((took : Output) × (pairs : List Pair) × IsRewrittenWith source function b took.bytes pairs × (wants ≡ true → took.pairs ≡ pairs) × goes took)
+rewritten_to source a function b wants goes (Ok x) e p = (p.0, p.1, rewritten_with_then source a function b p.0.bytes p.1 e p.2, p.3, p.4)
+rewritten_to source a function b wants goes (Err x) e p = tt
 
 -- of a number of bytes
 pub measured_then :
     {E : Type 0} (source a : ParsedModule) (function : ℕ) (b : BodyAt) (r : Result Measured E) → Extends source a →
-    IfOk r (λ m. (raw : List ℕ) × IsRewritten a function b raw × (m.len ≡ length raw)) → IfOk r (λ m. (raw : List ℕ) × IsRewritten source function b raw × (m.len ≡ length raw))
-measured_then source a function b (Ok m) e p = (p.0, rewritten_then source a function b p.0 e p.1, p.2)
+    IfOk r (λ m. (raw : List ℕ) × (pairs : List Pair) × IsRewrittenWith a function b raw pairs × (m.len ≡ length raw)) →
+    IfOk r (λ m. (raw : List ℕ) × (pairs : List Pair) × IsRewrittenWith source function b raw pairs × (m.len ≡ length raw))
+measured_then source a function b (Ok m) e p = (p.0, p.1, rewritten_with_then source a function b p.0 p.1 e p.2, p.3)
 measured_then source a function b (Err x) e p = tt
+
+-- no pairs are needed
+pub not_wanted : (needed : Needed) → needed ≡ Nothing → wants_pairs needed ≡ true → ⊥
+not_wanted needed e wanted = let no : false ≡ true = sym (ap wants_pairs e) ∙ wanted in cc
 
 pub parsed_then :
     (source a now : ParsedModule) (function : ℕ) (b : BodyAt) (made : FunctionParts) → Extends source a → IsParsed a function b now made → IsParsed source function b now made

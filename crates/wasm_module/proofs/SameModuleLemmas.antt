@@ -64,7 +64,7 @@ module _ (writes : BodyWriting) (source : ParsedModule) (changes : Changes) (omi
       let alone = code_alone w.raws bodies (added_bodies changes) contents w.few w.code_is added items in
       let as_written = subst (λ (l : List ℕ). IsWrittenCode writes source s l) w.code_is w in
       changed (code_section w.raws) (subst (λ (l : List ℕ). length l < 2 ^ 32) alone fits)
-      (code_reads Code s w.bodies w.raws is w.are_bodies (same_count writes source source.imported w.bodies w.raws w.are_written) w.few w.fit (λ end. (s, refl, as_written)))
+      (code_reads Code s w.bodies w.raws is w.are_bodies (same_count writes source source.imported w.bodies w.raws w.pairs w.are_written) w.few w.fit (λ end. (s, refl, as_written)))
       (parts ∙ ap (section 10) alone ∙ ap (λ (k : ℕ). section k (code_section w.raws)) (sym is))
 
   replaced_written : (s : SectionAt) (contents text : List ℕ) → IsReplacedBy changes s contents → length contents < 2 ^ 32 → text ≡ section s.id contents → WrittenAs Code s text

@@ -73,11 +73,11 @@ nothing_read m s is ids numbers counts imports functions =
 -- ---- a section, its rank and its contents
 
 -- what is read of the next section
-record NextRead (r end : ℕ) (text : List ℕ) (id : ℕ) (contents : List ℕ) (next : ℕ) (rest : List ℕ) : Type 0 where
-  section_is : section_part end text ≡ Ok ((id, contents), rest)
-  rank_is : with_fault (fault_here end text) (rank_with r id) ≡ Ok next
+pub record NextRead (r end : ℕ) (text : List ℕ) (id : ℕ) (contents : List ℕ) (next : ℕ) (rest : List ℕ) : Type 0 where
+  pub section_is : section_part end text ≡ Ok ((id, contents), rest)
+  pub rank_is : with_fault (fault_here end text) (rank_with r id) ≡ Ok next
 
-next_read :
+pub next_read :
     (r end : ℕ) (text : List ℕ) (id : ℕ) (contents : List ℕ) (next : ℕ) (rest : List ℕ) → next_section r end text ≡ Ok (((id, contents), next), rest) →
     NextRead r end text id contents next rest
 next_read r end text id contents next rest e =
@@ -104,7 +104,7 @@ rank_first (Ok n) here Z pair W put after e h = absurd cc
 rank_first (Err f) here Z pair W put after e h = let same : here f ≡ e = cc in ap (λ (x : ModuleError). Err x) same
 
 -- a fault of the section or of its rank is a fault before its contents
-fault_first :
+pub fault_first :
     {X Y : Type 0} (part : Result X ModuleError) (rank : X → Result ℕ ModuleFault) (here : ModuleFault → ModuleError) (Z : Type 0) (pair : X → ℕ → Z) (W : Type 0) (put : X → Z → W)
     (after : X → ℕ → Result Y ModuleError) (e : ModuleError) → (part >>= λ x. with_fault here (rank x >>= λ n. Ok (pair x n)) >>= λ v. Ok (put x v)) ≡ Err e →
     (part >>= λ x. with_fault here (rank x) >>= λ n. after x n) ≡ Err e
@@ -139,7 +139,7 @@ unfolding sections_from
 ended zero r m end = refl
 ended (suc most) r m end = refl
 
-abbrev rest_of : (most : ℕ) → (m : Components) → (end : ℕ) → (x : (ℕ × List ℕ) × List ℕ) → (next : ℕ) → Result Components ModuleError
+abbrev pub rest_of : (most : ℕ) → (m : Components) → (end : ℕ) → (x : (ℕ × List ℕ) × List ℕ) → (next : ℕ) → Result Components ModuleError
 rest_of most m end x next = contents_of x.0.0 m (end - length x.1) x.0.1 >>= λ n. sections_from most next n end x.1
 
 begun : (most r : ℕ) (m : Components) (end b : ℕ) (bytes : List ℕ) → sections_from (suc most) r m end (b ∷ bytes) ≡ (section_part end (b ∷ bytes) >>= λ x. with_fault (fault_here end (b ∷ bytes)) (rank_with r x.0.0) >>= λ next. rest_of most m end x next)
@@ -147,7 +147,7 @@ unfolding sections_from
 begun most r m end b bytes = refl
 
 -- with bytes that are left there is fuel
-left_over : (most r : ℕ) (m : Components) (end : ℕ) (text : List ℕ) → text ≢ [] → length text ≤ most → (k : ℕ) × (most ≡ suc k) × (sections_from most r m end text ≡ (section_part end text >>= λ x. with_fault (fault_here end text) (rank_with r x.0.0) >>= λ next. rest_of k m end x next))
+pub left_over : (most r : ℕ) (m : Components) (end : ℕ) (text : List ℕ) → text ≢ [] → length text ≤ most → (k : ℕ) × (most ≡ suc k) × (sections_from most r m end text ≡ (section_part end text >>= λ x. with_fault (fault_here end text) (rank_with r x.0.0) >>= λ next. rest_of k m end x next))
 left_over most r m end [] some enough = absurd (some refl)
 left_over zero r m end (b ∷ bytes) some enough = absurd (omega arith)
 left_over (suc k) r m end (b ∷ bytes) some enough = (k, refl, begun k r m end b bytes)

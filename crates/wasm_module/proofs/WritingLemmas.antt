@@ -44,6 +44,10 @@ pub if_so : {A E : Type 0} {P Q : A → Type 0} (r : Result A E) → IfOk r P �
 if_so (Ok a) p f = f a p
 if_so (Err e) p f = tt
 
+pub if_both : {A E X : Type 0} {P Q : A → Type 0} (r : Result A E) → IfOk r P → OnOk r X → ((a : A) → P a → X → Q a) → IfOk r Q
+if_both (Ok a) p x f = f a p x
+if_both (Err e) p x f = tt
+
 pub ok_so : {A E X Y : Type 0} (r : Result A E) → OnOk r X → (X → Y) → OnOk r Y
 ok_so (Ok a) x f = f x
 ok_so (Err e) x f = tt

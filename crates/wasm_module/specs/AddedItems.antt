@@ -1,6 +1,6 @@
 -- Items that are added to sections (WebAssembly core specification 3.0, binary format, modules): their bytes, each number in its
 -- shortest encoding.
-use Rattle.std.specs.Prelude.{◌≡◌, ◌≢◌, ◌+◌, ◌||◌, ℕ, ℤ, Bool, true, false, is_some, List, ◌∷◌, ◌++◌, length, Option, Some, Ok, IsOk, IsErr}
+use Rattle.std.specs.Prelude.{◌≡◌, ◌≢◌, ◌⊎◌, ◌+◌, ◌||◌, ℕ, ℤ, Bool, true, false, is_some, List, ◌∷◌, ◌++◌, length, Option, Some, None, Ok, IsOk, IsErr}
 use Rattle.std.specs.List.{flat_map}
 use Rattle.wasm_types.specs.declared.val_type.ValType.{ValType}
 use Rattle.walrus_ir.specs.declared.value.Value.TheVariants.{I32}
@@ -20,7 +20,7 @@ use Rattle.wasm_sections.specs.Additions.{HasOneMore, AddsItem, contents_with}
 use Rattle.wasm_sections.specs.CodeSections.{entry}
 use Rattle.wasm_sections.specs.Constants.{constant_of}
 use Rattle.wasm_sections.specs.Sections.{SectionAt, first_with}
-use Rattle.wasm_sections.specs.Views.{IsExportKind}
+use Rattle.wasm_sections.specs.Views.{IsExportKind, HasExport}
 use Rattle.wasm_sections.specs.GivenContents.{contents_in}
 
 -- ---- what an addition leaves of the module
@@ -39,6 +39,20 @@ export_of name kind index = entry name ++ kind ∷ short_number index
 -- What has this index in this index space is exported under a name.
 abbrev pub AddsExport : (all : List SectionAt) → (old new : Changes) → (name : List ℕ) → Space → (index : ℕ) → Type 0
 AddsExport all old new name space index = (kind : ℕ) × IsExportKind space kind × AddsItem all old new 7 (export_of name kind index)
+
+-- An export of this section has this name.
+abbrev pub SectionExports : (name : List ℕ) → Option SectionAt → Type 0
+SectionExports name None = ⊥
+SectionExports name (Some s) = HasExport name s.end s.contents
+
+-- An export of these contents of an export section has this name.
+abbrev pub GivenExports : (name : List ℕ) → Option (List ℕ) → Type 0
+GivenExports name None = ⊥
+GivenExports name (Some contents) = HasExport name (length contents) contents
+
+-- An export of the source has this name, or one of those that are given. The names of exports differ (validation, modules).
+abbrev pub IsExported : (all : List SectionAt) → Changes → (name : List ℕ) → Type 0
+IsExported all changes name = SectionExports name (first_with 7 all) ⊎ GivenExports name (contents_in changes.given.items 7)
 
 -- ---- function types (binary format, types)
 

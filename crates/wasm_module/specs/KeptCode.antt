@@ -1,6 +1,7 @@
 -- Bodies that are kept from the first pass over a module to the second, as they are written (WebAssembly core specification 3.0,
 -- binary format, code section).
-use Rattle.std.specs.Prelude.{◌≡◌, ◌+◌, ℕ, List, [], ◌∷◌, ◌++◌, length, slice_get, Some}
+use Rattle.std.specs.Prelude.{◌≡◌, ◌⊎◌, ◌+◌, ℕ, List, [], ◌∷◌, ◌++◌, length, slice_get, Some}
+use Rattle.std.specs.List.{between}
 use Rattle.wasm_sections.specs.declared.code.Body.{Body}
 use Rattle.wasm_module.specs.declared.changing.kept_bodies.KeptBodies.{KeptBodies}
 use Rattle.wasm_module.specs.declared.changing.kept_bodies.KeptBody.{KeptBody}
@@ -8,35 +9,63 @@ use Rattle.wasm_module.specs.declared.parsed.ParsedModule.{ParsedModule}
 use Rattle.wasm_sections.specs.CodeSections.{BodyAt, IsCode, code_section, body_at}
 use Rattle.wasm_module.specs.RewrittenCode.{OneChange, FunctionChange, IsChanged, AreChanged}
 use Rattle.wasm_sections.specs.Sections.{SectionAt}
-use Rattle.wasm_module.specs.WrittenModules.{BodyWriting, count_bodies}
+use Rattle.wasm_body.specs.Pairs.{Pair}
+use Rattle.wasm_module.specs.WrittenModules.{BodyWriting, RawWriting, count_bodies}
 
--- the bodies of the source for which bytes are kept, in order
+-- the body of the source for which bytes are kept
+abbrev pub kept_source : KeptBody → BodyAt
+kept_source k = record { start = k.start; bytes = k.bytes.now }
+
+-- all of them, in order
 abbrev pub bodies_in : List KeptBody → List BodyAt
 bodies_in [] = []
-bodies_in (k ∷ ks) = body_at k.source ∷ bodies_in ks
+bodies_in (k ∷ ks) = kept_source k ∷ bodies_in ks
+
+-- the bytes that are kept for one of them: a part of those of all
+abbrev pub raw_in : (all : List ℕ) → KeptBody → List ℕ
+raw_in all k = between k.raw.from k.raw.to all
 
 -- the bytes that are kept for them
-abbrev pub raws_in : List KeptBody → List (List ℕ)
-raws_in [] = []
-raws_in (k ∷ ks) = k.raw.items ∷ raws_in ks
+abbrev pub raws_in : (all : List ℕ) → List KeptBody → List (List ℕ)
+raws_in all [] = []
+raws_in all (k ∷ ks) = raw_in all k ∷ raws_in all ks
 
 -- These are the bytes that are kept for the function with this index, and for this body of the source.
 pub record IsKept (kept : KeptBodies) (source : ParsedModule) (function : ℕ) (b : BodyAt) (raw : List ℕ) : Type 0 where
   pub at : ℕ
   pub function_is : function ≡ kept.first + at
   pub body_is : slice_get (bodies_in kept.bodies.items) at ≡ Some b
-  pub raw_is : slice_get (raws_in kept.bodies.items) at ≡ Some raw
+  pub raw_is : slice_get (raws_in kept.raws.items kept.bodies.items) at ≡ Some raw
 
 -- For each function of the source that isn't imported the bytes of its body are kept, as the changes made them: asked for once
 -- for each, in order, from the state `before` to the state `after`.
 pub record AreKept {State : Type 0} (changes : FunctionChange State) (source : ParsedModule) (before : State) (kept : KeptBodies) (after : State) : Type 0 where
   pub first_is : kept.first ≡ source.imported
   pub are_all : length kept.bodies.items ≡ count_bodies source
-  pub are_changed : AreChanged changes source before source.imported (bodies_in kept.bodies.items) (raws_in kept.bodies.items) after
+  pub are_changed : AreChanged changes source before source.imported (bodies_in kept.bodies.items) (raws_in kept.raws.items kept.bodies.items) after
 
 -- Each body that is kept is written in this way, for the function and the body of the source for which it is kept.
-abbrev pub AreKeptAs : BodyWriting → (source : ParsedModule) → KeptBodies → Type 0
+abbrev pub AreKeptAs : RawWriting → (source : ParsedModule) → KeptBodies → Type 0
 AreKeptAs writes source kept = (function : ℕ) (b : BodyAt) (raw : List ℕ) → IsKept kept source function b raw → writes source function b raw
+
+-- A body is written as it is kept, and then nothing is said of its pairs; or it is written in this way.
+abbrev pub kept_or : KeptBodies → BodyWriting → BodyWriting
+kept_or kept writes source function b raw pairs = IsKept kept source function b raw ⊎ writes source function b raw pairs
+
+-- What is written for each body of a module as it is now is written for it as it was before.
+abbrev pub StaysWritten : BodyWriting → (before now : ParsedModule) → Type 0
+StaysWritten writes before now =
+    (function : ℕ) (b : BodyAt) (raw : List ℕ) (pairs : List Pair) → writes now function b raw pairs → writes before function b raw pairs
+
+-- If each body that was kept is written in this way, so is each that is kept afterwards.
+abbrev pub StayKeptAs : RawWriting → (source : ParsedModule) → (old new : KeptBodies) → Type 0
+StayKeptAs writes source old new = AreKeptAs writes source old → AreKeptAs writes source new
+
+-- What is kept was kept before, or it is this raw body for this body of the source.
+abbrev pub KeepsAtMost : Body → (raw : List ℕ) → (old new : KeptBodies) → Type 0
+KeepsAtMost b raw old new =
+    (source : ParsedModule) (function : ℕ) (c : BodyAt) (r : List ℕ) → IsKept new source function c r →
+    IsKept old source function c r ⊎ (function ≡ b.func) × (c ≡ body_at b) × (r ≡ raw)
 
 -- The contents of the code section that is written: those of the source's code section, each function's body as the changes made
 -- it, asked for once for each, in order, from the state `before` to the state `after`; each after its size.
@@ -54,5 +83,5 @@ pub record KeepsChanged (changes : OneChange) (source : ParsedModule) (b : Body)
   pub is_changed : IsChanged changes source b.func (body_at b) raw
   pub first : new.first ≡ old.first
   pub bodies : bodies_in new.bodies.items ≡ bodies_in old.bodies.items ++ body_at b ∷ []
-  pub raws : raws_in new.bodies.items ≡ raws_in old.bodies.items ++ raw ∷ []
+  pub raws : raws_in new.raws.items new.bodies.items ≡ raws_in old.raws.items old.bodies.items ++ raw ∷ []
   pub len : length new.bodies.items ≡ length old.bodies.items + 1

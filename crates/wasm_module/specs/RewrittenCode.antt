@@ -103,6 +103,10 @@ pub record IsParsed (source : ParsedModule) (function : ℕ) (b : BodyAt) (now :
   pub entered : Entered source function b now
   pub is_parsed : IsParsedAs now entered.type entered.args entered.count entered.body made
 
+-- The same, whatever types are added.
+abbrev pub IsParsedBody : (source : ParsedModule) (function : ℕ) (b : BodyAt) (made : FunctionParts) → Type 0
+IsParsedBody source function b made = (now : ParsedModule) × IsParsed source function b now made
+
 -- A change: the function with this index and its locals' types, as they were parsed; and as they are written.
 abbrev pub OneChange : Type 1
 OneChange = (function : ℕ) → (old new : FunctionParts) → (old_locals new_locals : List (ValType ℕ)) → Type 0

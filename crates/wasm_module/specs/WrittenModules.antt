@@ -6,6 +6,7 @@ use Rattle.std.specs.Io.KnownBytes.{Appends}
 use Rattle.std.specs.List.{AllByRecursion}
 use Rattle.wasm_numbers.specs.Numbers.{u32}
 use Rattle.wasm_operators.specs.Shortest.{short_number}
+use Rattle.wasm_body.specs.Pairs.{Pair}
 use Rattle.wasm_sections.specs.declared.changes.Changes.{Changes}
 use Rattle.wasm_sections.specs.declared.changes.NewContents.{NewContents}
 use Rattle.wasm_module.specs.declared.parsed.ParsedModule.{ParsedModule}
@@ -47,6 +48,10 @@ between first second [] = []
 between first second (g ∷ gs) =
     if is_between first second g then section (section_id g.kind) g.contents.items ++ between first second gs else between first second gs
 
+-- The contents of each of them fit a size.
+abbrev pub FitBetween : (first second : ℕ) → List NewContents → Type 0
+FitBetween first second given = AllByRecursion (λ g. is_between first second g ≡ true → FitsSize g.contents.items) given
+
 -- the new sections after a section of this rank, in a module of these sections: the given ones with a rank between this one and
 -- that of the next section
 abbrev pub new_after : List NewContents → (all : List SectionAt) → (rank : ℕ) → List ℕ
@@ -56,6 +61,14 @@ new_after given all r = between r (next_rank r all) given
 abbrev pub new_after_section : List NewContents → (all : List SectionAt) → (rank : ℕ) → List ℕ
 new_after_section given all zero = []
 new_after_section given all (suc r) = new_after given all (suc r)
+
+-- The contents of each of these new sections fit a size.
+abbrev pub NewFitAfter : List NewContents → (all : List SectionAt) → (rank : ℕ) → Type 0
+NewFitAfter given all r = FitBetween r (next_rank r all) given
+
+abbrev pub NewFitAfterSection : List NewContents → (all : List SectionAt) → (rank : ℕ) → Type 0
+NewFitAfterSection given all zero = Unit {0}
+NewFitAfterSection given all (suc r) = NewFitAfter given all (suc r)
 
 -- A custom section contains names, or metadata of code, by its name. Such sections are changed along with the code.
 abbrev pub HasFollowedName : (contents : List ℕ) → Type 0
@@ -114,16 +127,28 @@ pub record HasItemsOf (first second contents : List ℕ) : Type 0 where
 abbrev pub count_bodies : ParsedModule → ℕ
 count_bodies source = length source.func_types.items - source.imported
 
--- these bytes are written for this body of the function of the source with this index
+-- these bytes with these location pairs are written for this body of the function of the source with this index
 abbrev pub BodyWriting : Type 1
-BodyWriting = ParsedModule → (function : ℕ) → BodyAt → (raw : List ℕ) → Type 0
+BodyWriting = ParsedModule → (function : ℕ) → BodyAt → (raw : List ℕ) → List Pair → Type 0
+
+-- the same without the pairs
+abbrev pub RawWriting : Type 1
+RawWriting = ParsedModule → (function : ℕ) → BodyAt → (raw : List ℕ) → Type 0
+
+-- whatever the pairs are
+abbrev pub with_any_pairs : RawWriting → BodyWriting
+with_any_pairs writes source function b raw pairs = writes source function b raw
+
+-- with some pairs
+abbrev pub with_some_pairs : BodyWriting → RawWriting
+with_some_pairs writes source function b raw = (pairs : List Pair) × writes source function b raw pairs
 
 module _ (writes : BodyWriting) (source : ParsedModule) where
   -- the bodies of the functions from this one on, in order
-  abbrev pub AreWritten : (function : ℕ) → List BodyAt → (raws : List (List ℕ)) → Type 0
-  AreWritten function [] [] = Unit {0}
-  AreWritten function (b ∷ bs) (raw ∷ raws) = writes source function b raw × AreWritten (function + 1) bs raws
-  AreWritten function _ _ = ⊥
+  abbrev pub AreWritten : (function : ℕ) → List BodyAt → (raws : List (List ℕ)) → (pairs : List (List Pair)) → Type 0
+  AreWritten function [] [] [] = Unit {0}
+  AreWritten function (b ∷ bs) (raw ∷ raws) (ps ∷ pairs) = writes source function b raw ps × AreWritten (function + 1) bs raws pairs
+  AreWritten function _ _ _ = ⊥
 
   -- What the code section that is written begins with, as the contents of one: all bodies of the source's code section, in order,
   -- one for each function that isn't imported, each as it is written, after its size.
@@ -132,7 +157,8 @@ module _ (writes : BodyWriting) (source : ParsedModule) where
     pub are_bodies : IsCode s.end s.contents bodies
     pub are_all : length bodies ≡ count_bodies source
     pub raws : List (List ℕ)
-    pub are_written : AreWritten source.imported bodies raws
+    pub pairs : List (List Pair)
+    pub are_written : AreWritten source.imported bodies raws pairs
     pub few : length raws < 2 ^ 32
     pub fit : AllByRecursion FitsSize raws
     pub code_is : code ≡ code_section raws
@@ -157,6 +183,7 @@ module _ (writes : BodyWriting) (source : ParsedModule) where
         pub own : List ℕ
         pub is_written : IsWrittenFor s own
         pub text_is : text ≡ own ++ new_after_section changes.given.items all (rank s.id)
+        pub new_fit : NewFitAfterSection changes.given.items all (rank s.id)
 
       abbrev pub AreWrittenAt : List SectionAt → (text : List ℕ) → Type 0
       AreWrittenAt [] text = text ≡ []
@@ -169,3 +196,4 @@ module _ (writes : BodyWriting) (source : ParsedModule) where
       pub text : List ℕ
       pub are_written : AreWrittenAt sections sections text
       pub new_is : new ≡ preamble ++ (new_after changes.given.items sections 0 ++ text)
+      pub first_fit : NewFitAfter changes.given.items sections 0

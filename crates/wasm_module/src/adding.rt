@@ -1,10 +1,13 @@
 //! Items that are added to sections (WebAssembly core specification 3.0, binary format, modules).
-ghost use Rattle.std.specs.Prelude.{◌≡◌, ◌+◌, ◌-◌, ◌++◌, ℕ, List, Ok, OnOk, OnErr, IfOk};
+ghost use Rattle.std.specs.Prelude.{◌≡◌, ◌≢◌, ◌+◌, ◌-◌, ◌++◌, ℕ, List, Ok, OnOk, OnErr, IfOk, IfErr, IsOk};
 ghost use Rattle.wasm_operators.specs.declared.types.Space.TheVariants.{Funcs, Tables, Memories, Globals, Tags};
-ghost use Rattle.wasm_sections.specs.Additions.{AreUnchanged, AddsItem, contents_with, source_contents};
+ghost use Rattle.wasm_sections.specs.Additions.{AreUnchanged, AddsItem, contents_with, source_contents, IsTooMuch, IsNotAdded};
+ghost use Rattle.wasm_sections.specs.Components.{Components, module_of};
 ghost use Rattle.wasm_sections.specs.Constants.{global_of};
 ghost use Rattle.wasm_sections.specs.DefinedItems.{DefinesGlobal};
-ghost use Rattle.wasm_module.specs.AddedItems.{export_of, AddsExport, ChangesNumbersAlone};
+ghost use Rattle.wasm_sections.specs.GivenContents.{contents_in};
+ghost use Rattle.wasm_sections.specs.declared.fault.ModuleFault.TheVariants.{ExportTaken};
+ghost use Rattle.wasm_module.specs.AddedItems.{export_of, AddsExport, SectionExports, GivenExports, IsExported, ChangesNumbersAlone};
 ghost use Rattle.wasm_module.specs.ImportedFunctions.{IsWrittenFunction};
 ghost use Rattle.wasm_sections.specs.Sections.{SectionAt, IsModule, first_with, section_id};
 
@@ -17,32 +20,41 @@ use std::alloc::Global;
 use walrus_body::Space;
 use walrus_ir::{FunctionId, GlobalId, MemoryId, TableId, TagId, Value};
 use wasm_sections::{
-    Changes, Exports, Input, Items, ModuleError, ModuleFault, SectionKind, export_kind,
-    write_bytes, write_global, write_number,
+    Changes, Exports, Input, ModuleError, ModuleFault, SectionKind, export_kind, write_bytes,
+    write_global, write_number,
 };
 
-/// `ExportTaken`, without a place, if one of these exports, which are given, has this name.
-fn refuse_added_export(contents: &[u8], name: &str) -> Result<(), ModuleError> {
-    let items = Items::of_contents(Input::new(contents))?;
-    for export in (Exports { items }) {
-        match export {
-            Ok(export) if export.name == name => {
-                return Err(ModuleError {
-                    fault: ModuleFault::ExportTaken,
-                    at: 0,
-                });
-            }
-            Ok(_) => {}
-            Err(error) => return Err(error),
-        }
+/// `ExportTaken`, at this place.
+fn export_taken(at: usize) -> ModuleError
+    ensures { result.fault ≡ ExportTaken }
+{
+    ModuleError {
+        fault: ModuleFault::ExportTaken,
+        at,
     }
-    Ok(())
+}
+
+/// `ExportTaken`, without a place, if an export that is given has this name.
+fn refuse_added_export(changes: &Changes, name: &str) -> Result<(), ModuleError>
+    ensures free { OnOk result (¬ GivenExports name.now (contents_in changes.now.given.items 7)) }
+    ensures taken { IfErr result (λ error. error.fault ≡ ExportTaken
+        → GivenExports name.now (contents_in changes.now.given.items 7)) }
+{
+    match changes.contents_of(SectionKind::Export) {
+        Some(contents) => match Exports::place_in(Input::new(contents), name) {
+            Ok(Some(_)) => Err(export_taken(0)),
+            Ok(None) => Ok(()),
+            Err(error) => Err(error),
+        },
+        None => Ok(()),
+    }
 }
 
 /// Appends an export: its name, the kind of what it names, and the index of that.
 #[tactic(auto, using(wasm_encode::proofs::Appending::appending))]
 fn write_export(out: &mut Vec<u8>, name: &str, kind: u8, index: usize) -> Result<(), ModuleError>
-    ensures { OnOk result (out.new.items ≡ out.old.items ++ export_of name.now kind index) }
+    ensures written { OnOk result (out.new.items ≡ out.old.items ++ export_of name.now kind index) }
+    ensures refused { IfErr result IsTooMuch }
 {
     match write_bytes(out, name.as_bytes()) {
         Ok(()) => {}
@@ -55,8 +67,10 @@ fn write_export(out: &mut Vec<u8>, name: &str, kind: u8, index: usize) -> Result
 impl<'a> ParsedModule<'a> {
     /// The contents of the source's section of this kind, or no items.
     fn source_contents(&self, kind: SectionKind) -> Result<&'a [u8], ModuleError>
-        ensures { (all : List SectionAt) → IsModule self.now.bytes.now all → IfOk result
+        ensures are { (all : List SectionAt) → IsModule self.now.bytes.now all → IfOk result
             (λ contents. contents.now ≡ source_contents (first_with (section_id kind) all)) }
+        ensures never_refused { (m : Components) → module_of self.now.bytes.now ≡ Ok m
+            → IsOk result }
     {
         match self.section(kind) {
             Ok(Some(section)) => Ok(section.contents()),
@@ -91,6 +105,9 @@ impl<'a> ParsedModule<'a> {
         ensures ok { (all : List SectionAt) → IsModule self.now.bytes.now all
             → OnOk result (AddsItem all changes.old changes.new (section_id kind) item.now) }
         ensures err { OnErr result (AreUnchanged changes.old changes.new) }
+        ensures refused { (all : List SectionAt) (m : Components) → IsModule self.now.bytes.now all
+            → module_of self.now.bytes.now ≡ Ok m
+            → IfErr result (IsNotAdded (contents_with all changes.old (section_id kind))) }
     {
         let contents = self.source_contents(kind)?;
         match changes.add_after(kind, contents, item) {
@@ -174,6 +191,65 @@ impl<'a> ParsedModule<'a> {
         }
     }
 
+    /// `ExportTaken` if an export of the source has this name, with its place.
+    fn refuse_export(&self, name: &str) -> Result<(), ModuleError>
+        ensures free { (all : List SectionAt) → IsModule self.now.bytes.now all
+            → OnOk result (¬ SectionExports name.now (first_with 7 all)) }
+        ensures taken { (all : List SectionAt) (m : Components) → IsModule self.now.bytes.now all
+            → module_of self.now.bytes.now ≡ Ok m → IfErr result
+            (λ error. error.fault ≡ ExportTaken → SectionExports name.now (first_with 7 all)) }
+    {
+        match self.section(SectionKind::Export) {
+            Ok(Some(section)) => match Exports::place_in(section.contents, name) {
+                Ok(Some(at)) => Err(export_taken(at)),
+                Ok(None) => Ok(()),
+                Err(error) => Err(error),
+            },
+            Ok(None) => Ok(()),
+            Err(error) => Err(error),
+        }
+    }
+
+    /// `ExportTaken` if an export of the source has this name, with its place, or one that is given.
+    fn refuse_taken(&self, changes: &Changes, name: &str) -> Result<(), ModuleError>
+        ensures free { (all : List SectionAt) → IsModule self.now.bytes.now all
+            → OnOk result (¬ IsExported all changes.now name.now) }
+        ensures taken { (all : List SectionAt) (m : Components) → IsModule self.now.bytes.now all
+            → module_of self.now.bytes.now ≡ Ok m → IfErr result
+            (λ error. error.fault ≡ ExportTaken → IsExported all changes.now name.now) }
+    {
+        match self.refuse_export(name) {
+            Ok(()) => refuse_added_export(changes, name),
+            Err(error) => Err(error),
+        }
+    }
+
+    /// Exports an item under a name that no export has: its kind, and its index.
+    fn add_export(
+        &self,
+        changes: &mut Changes,
+        name: &str,
+        kind: u8,
+        index: usize,
+    ) -> Result<(), ModuleError>
+        ensures ok { (all : List SectionAt) → IsModule self.now.bytes.now all → OnOk result
+            (AddsItem all changes.old changes.new 7 (export_of name.now kind index)) }
+        ensures err { OnErr result (AreUnchanged changes.old changes.new) }
+        ensures refused { (all : List SectionAt) (m : Components) → IsModule self.now.bytes.now all
+            → module_of self.now.bytes.now ≡ Ok m
+            → IfErr result (λ error. error.fault ≢ ExportTaken) }
+    {
+        let mut item = Vec::new(self.alloc);
+        match write_export(&mut item, name, kind, index) {
+            Ok(()) => {}
+            Err(error) => return Err(error),
+        }
+        match self.add_item(changes, SectionKind::Export, &item) {
+            Ok(()) => Ok(()),
+            Err(error) => Err(error),
+        }
+    }
+
     /// Exports an item under a name: the one with this index in this index space, in the module that
     /// is written. It isn't checked whether there is one.
     ///
@@ -192,6 +268,12 @@ impl<'a> ParsedModule<'a> {
         ensures ok { (all : List SectionAt) → IsModule self.now.bytes.now all
             → OnOk result (AddsExport all changes.old changes.new name.now space index) }
         ensures err { OnErr result (AreUnchanged changes.old changes.new) }
+        // No export has the name of another.
+        ensures free { (all : List SectionAt) → IsModule self.now.bytes.now all
+            → OnOk result (¬ IsExported all changes.old name.now) }
+        ensures taken { (all : List SectionAt) (m : Components) → IsModule self.now.bytes.now all
+            → module_of self.now.bytes.now ≡ Ok m → IfErr result
+            (λ error. error.fault ≡ ExportTaken → IsExported all changes.old name.now) }
     {
         let Some(kind) = export_kind(space) else {
             return Err(ModuleError {
@@ -199,16 +281,8 @@ impl<'a> ParsedModule<'a> {
                 at: 0,
             });
         };
-        if let Some(section) = self.section(SectionKind::Export)? {
-            self.refuse_export(section.contents, name)?;
-        }
-        if let Some(contents) = changes.contents_of(SectionKind::Export) {
-            refuse_added_export(contents, name)?;
-        }
-        let mut item = Vec::new(self.alloc);
-        write_export(&mut item, name, kind, index)?;
-        match self.add_item(changes, SectionKind::Export, &item) {
-            Ok(()) => Ok(()),
+        match self.refuse_taken(changes, name) {
+            Ok(()) => self.add_export(changes, name, kind, index),
             Err(error) => Err(error),
         }
     }
@@ -231,6 +305,12 @@ impl<'a> ParsedModule<'a> {
             → OnOk result ((index : ℕ) × IsWrittenFunction self.now function index
             × AddsExport all changes.old changes.new name.now Funcs index) }
         ensures err { OnErr result (AreUnchanged changes.old changes.new) }
+        // No export has the name of another.
+        ensures free { (all : List SectionAt) → IsModule self.now.bytes.now all
+            → OnOk result (¬ IsExported all changes.old name.now) }
+        ensures taken { (all : List SectionAt) (m : Components) → IsModule self.now.bytes.now all
+            → module_of self.now.bytes.now ≡ Ok m → IfErr result
+            (λ error. error.fault ≡ ExportTaken → IsExported all changes.old name.now) }
     {
         let index = match self.written_function(function) {
             Ok(index) => index,
@@ -257,6 +337,12 @@ impl<'a> ParsedModule<'a> {
         ensures ok { (all : List SectionAt) → IsModule self.now.bytes.now all
             → OnOk result (AddsExport all changes.old changes.new name.now Tables table) }
         ensures err { OnErr result (AreUnchanged changes.old changes.new) }
+        // No export has the name of another.
+        ensures free { (all : List SectionAt) → IsModule self.now.bytes.now all
+            → OnOk result (¬ IsExported all changes.old name.now) }
+        ensures taken { (all : List SectionAt) (m : Components) → IsModule self.now.bytes.now all
+            → module_of self.now.bytes.now ≡ Ok m → IfErr result
+            (λ error. error.fault ≡ ExportTaken → IsExported all changes.old name.now) }
     {
         self.export(changes, name, Space::Tables, table.index())
     }
@@ -276,6 +362,12 @@ impl<'a> ParsedModule<'a> {
         ensures ok { (all : List SectionAt) → IsModule self.now.bytes.now all
             → OnOk result (AddsExport all changes.old changes.new name.now Memories memory) }
         ensures err { OnErr result (AreUnchanged changes.old changes.new) }
+        // No export has the name of another.
+        ensures free { (all : List SectionAt) → IsModule self.now.bytes.now all
+            → OnOk result (¬ IsExported all changes.old name.now) }
+        ensures taken { (all : List SectionAt) (m : Components) → IsModule self.now.bytes.now all
+            → module_of self.now.bytes.now ≡ Ok m → IfErr result
+            (λ error. error.fault ≡ ExportTaken → IsExported all changes.old name.now) }
     {
         self.export(changes, name, Space::Memories, memory.index())
     }
@@ -295,6 +387,12 @@ impl<'a> ParsedModule<'a> {
         ensures ok { (all : List SectionAt) → IsModule self.now.bytes.now all
             → OnOk result (AddsExport all changes.old changes.new name.now Globals global) }
         ensures err { OnErr result (AreUnchanged changes.old changes.new) }
+        // No export has the name of another.
+        ensures free { (all : List SectionAt) → IsModule self.now.bytes.now all
+            → OnOk result (¬ IsExported all changes.old name.now) }
+        ensures taken { (all : List SectionAt) (m : Components) → IsModule self.now.bytes.now all
+            → module_of self.now.bytes.now ≡ Ok m → IfErr result
+            (λ error. error.fault ≡ ExportTaken → IsExported all changes.old name.now) }
     {
         self.export(changes, name, Space::Globals, global.index())
     }
@@ -314,20 +412,13 @@ impl<'a> ParsedModule<'a> {
         ensures ok { (all : List SectionAt) → IsModule self.now.bytes.now all
             → OnOk result (AddsExport all changes.old changes.new name.now Tags tag) }
         ensures err { OnErr result (AreUnchanged changes.old changes.new) }
+        // No export has the name of another.
+        ensures free { (all : List SectionAt) → IsModule self.now.bytes.now all
+            → OnOk result (¬ IsExported all changes.old name.now) }
+        ensures taken { (all : List SectionAt) (m : Components) → IsModule self.now.bytes.now all
+            → module_of self.now.bytes.now ≡ Ok m → IfErr result
+            (λ error. error.fault ≡ ExportTaken → IsExported all changes.old name.now) }
     {
         self.export(changes, name, Space::Tags, tag.index())
-    }
-
-    /// `ExportTaken` if one of these exports has this name.
-    fn refuse_export(&self, mut exports: Input<'a>, name: &str) -> Result<(), ModuleError> {
-        for _ in 0..exports.number()? {
-            let begin = exports;
-            exports.export(&self.spaces.indices)?;
-            let mut taken = begin;
-            if taken.name()? == name {
-                return Err(begin.fault(ModuleFault::ExportTaken));
-            }
-        }
-        Ok(())
     }
 }

@@ -1,10 +1,12 @@
 //! Bodies of a module: how they are parsed, rewritten and written.
 
-ghost use Rattle.std.specs.Prelude.{◌≡◌, ℕ, List, [], length, bytes_eq, OnOk, IfOk, IfErr};
+ghost use Rattle.std.specs.Prelude.{◌≡◌, ℕ, true, List, [], length, bytes_eq, OnOk, IfOk, IfErr};
+ghost use Rattle.wasm_body.specs.Pairs.{Pair};
 ghost use Rattle.walrus_emit_state.specs.Emission.{Output};
 ghost use Rattle.walrus_rewrite.specs.RawBodies.{emit_input, IsRawBodyOf};
 ghost use Rattle.wasm_sections.specs.CodeSections.{body_at, body_bytes};
 ghost use Rattle.wasm_module.specs.RewrittenCode.{Extends, IsRewritten, IsRewrittenWith, IsParsed};
+ghost use Rattle.wasm_module.specs.ToldBodies.{if_needed};
 ghost use Rattle.wasm_module.specs.Refusals.{IsRefusedBody, IsNotRewritten};
 
 use crate::body_context::BodyContext;
@@ -39,6 +41,16 @@ impl Scratch {
             flat: FlatScratch::new(alloc),
             raw: Vec::new(alloc),
             pairs: Vec::new(alloc),
+        }
+    }
+
+    /// Its location pairs, if they are needed.
+    pub(crate) fn pairs_if(&self, are_needed: bool) -> &[(InstrLocId, usize)]
+        ensures { result.now ≡ if_needed are_needed self.now.pairs.items }
+    {
+        match are_needed {
+            true => self.pairs.as_slice(),
+            false => &[],
         }
     }
 
@@ -222,8 +234,9 @@ impl<'a> ParsedModule<'a> {
         sink: &mut S,
     ) -> Result<(), ModuleError>
         ensures extends { Extends self.old self.new }
-        ensures rewritten { OnOk result ((took : Output)
-            × IsRewritten self.old body.entry.func (body_at body.entry) took.bytes
+        ensures rewritten { OnOk result ((took : Output) × (pairs : List Pair)
+            × IsRewrittenWith self.old body.entry.func (body_at body.entry) took.bytes pairs
+            × (needs_pairs ≡ true → took.pairs ≡ pairs)
             × S.takes sink.old sink.new took) }
         ensures refused { IfErr result
             (IsNotRewritten self.old body.entry.func (body_at body.entry) self.new) }
@@ -264,8 +277,8 @@ impl<'a> ParsedModule<'a> {
         scratch: &mut Scratch,
     ) -> Result<Measured, ModuleError>
         ensures extends { Extends self.old self.new }
-        ensures measured { IfOk result (λ measured. (raw : List ℕ)
-            × IsRewritten self.old body.entry.func (body_at body.entry) raw
+        ensures measured { IfOk result (λ measured. (raw : List ℕ) × (pairs : List Pair)
+            × IsRewrittenWith self.old body.entry.func (body_at body.entry) raw pairs
             × (measured.len ≡ length raw)) }
         ensures refused { IfErr result
             (IsNotRewritten self.old body.entry.func (body_at body.entry) self.new) }
@@ -293,8 +306,8 @@ impl<'a> ParsedModule<'a> {
         scratch: &mut Scratch,
     ) -> Result<Measured, ModuleError>
         ensures extends { Extends self.old self.new }
-        ensures measured { IfOk result (λ measured. (raw : List ℕ)
-            × IsRewritten self.old body.entry.func (body_at body.entry) raw
+        ensures measured { IfOk result (λ measured. (raw : List ℕ) × (pairs : List Pair)
+            × IsRewrittenWith self.old body.entry.func (body_at body.entry) raw pairs
             × (measured.len ≡ length raw)) }
         ensures refused { IfErr result
             (IsNotRewritten self.old body.entry.func (body_at body.entry) self.new) }

@@ -1,12 +1,14 @@
 //! How bodies are written, and how a caller changes their functions.
 
-ghost use Rattle.std.specs.Prelude.{◌≡◌, ℕ, List, length, OnOk, IfOk};
+ghost use Rattle.std.specs.Prelude.{◌≡◌, ℕ, Bool, true, List, length, OnOk, IfOk, IfSome};
 ghost use Rattle.wasm_types.specs.declared.val_type.ValType.{ValType as ValueType};
 ghost use Rattle.walrus_emit_state.specs.Emission.{Output};
 ghost use Rattle.walrus_body.specs.FunctionParts.{FunctionParts};
 ghost use Rattle.wasm_module.specs.declared.parsed.ParsedModule.{ParsedModule as Parsed};
 ghost use Rattle.wasm_sections.specs.CodeSections.{BodyAt, body_at};
-ghost use Rattle.wasm_module.specs.RewrittenCode.{Extends, IsRewritten};
+ghost use Rattle.wasm_body.specs.Pairs.{Pair};
+ghost use Rattle.wasm_module.specs.RewrittenCode.{Extends, IsRewrittenWith, IsParsedBody};
+ghost use Rattle.wasm_module.specs.WantedPairs.{wants_pairs};
 
 use crate::bodies::Scratch;
 use crate::parsed::ParsedModule;
@@ -28,7 +30,9 @@ pub enum Needed {
 
 impl Needed {
     /// Its location pairs, if they are needed, and nothing else.
-    pub(crate) fn pairs_if(needs_pairs: bool) -> Needed {
+    pub(crate) fn if_pairs(needs_pairs: bool) -> Needed
+        ensures { wants_pairs result ≡ needs_pairs }
+    {
         match needs_pairs {
             true => Needed::Pairs,
             false => Needed::Nothing,
@@ -45,12 +49,18 @@ pub struct Measured {
     pub is_same: bool,
 }
 
-/// How each body of a module is written. It is called twice for a body: in the first pass, to find
-/// its faults, its size and the new contents of custom sections, and in the second, to write it. A
-/// large one of whose function nothing else is needed is counted in both, and then written in pieces.
+/// How each body of a module is written. It is called for a body in the first pass, to find its faults,
+/// its size and the new contents of custom sections; and in the second, to write it, unless what was
+/// written in the first is kept. A large one of whose function nothing else is needed is written in
+/// pieces: in the first pass, to be kept, after all types are added that its handlers need; where it
+/// isn't kept, it is counted in both passes, and then written in the second.
 pub trait BodyWriter {
-    // For this body, of the function of the source with this index, these bytes are written.
-    ghost writes: { Self → Parsed → ℕ → BodyAt → List ℕ → Type 0 };
+    // For this body, of the function of the source with this index, these bytes are written, with these
+    // location pairs.
+    ghost writes: { Self → Parsed → ℕ → BodyAt → List ℕ → List Pair → Type 0 };
+
+    // This is the function of this body, as it is written.
+    ghost returns: { Self → Parsed → ℕ → BodyAt → FunctionParts → Type 0 };
 
     /// Makes the raw body that is written for one of the module that was read, and its location
     /// pairs if they are needed, and puts both into the scratch. Returns the function of the body
@@ -68,11 +78,16 @@ pub trait BodyWriter {
     ) -> Result<Option<LocalFunction>, ModuleError>
         ensures extends { OnOk result (Extends parsed.old parsed.new) }
         ensures written { (source : Parsed) → Extends source parsed.old
-            → OnOk result (writes self.now source body.entry.func (body_at body.entry)
-            scratch.new.raw.items) };
+            → OnOk result ((pairs : List Pair)
+            × writes self.now source body.entry.func (body_at body.entry) scratch.new.raw.items pairs
+            × (wants_pairs needed ≡ true → scratch.new.pairs.items ≡ pairs)) }
+        ensures function { (source : Parsed) → Extends source parsed.old
+            → IfOk result (λ made. IfSome made
+            (returns self.now source body.entry.func (body_at body.entry))) };
 
     /// The number of bytes of the raw body that is written for one of which nothing else is needed, and
-    /// whether it is the source's. It is called for a large body before `write_large_body`.
+    /// whether it is the source's. It is called for a large body before `write_large_body`, except
+    /// where that is called in the first pass, to keep it.
     ///
     /// # Errors
     ///
@@ -85,8 +100,8 @@ pub trait BodyWriter {
     ) -> Result<Measured, ModuleError>
         ensures extends { OnOk result (Extends parsed.old parsed.new) }
         ensures measured { (source : Parsed) → Extends source parsed.old
-            → IfOk result (λ measured. (raw : List ℕ)
-            × writes self.now source body.entry.func (body_at body.entry) raw
+            → IfOk result (λ measured. (raw : List ℕ) × (pairs : List Pair)
+            × writes self.now source body.entry.func (body_at body.entry) raw pairs
             × (measured.len ≡ length raw)) }
     {
         self.write_body(parsed, body, Needed::Nothing, scratch)?;
@@ -110,11 +125,12 @@ pub trait BodyWriter {
     ) -> Result<(), ModuleError>
         ensures extends { OnOk result (Extends parsed.old parsed.new) }
         ensures written { (source : Parsed) → Extends source parsed.old
-            → OnOk result ((took : Output)
-            × writes self.now source body.entry.func (body_at body.entry) took.bytes
+            → OnOk result ((took : Output) × (pairs : List Pair)
+            × writes self.now source body.entry.func (body_at body.entry) took.bytes pairs
+            × (needs_pairs ≡ true → took.pairs ≡ pairs)
             × S.takes sink.old sink.new took) }
     {
-        self.write_body(parsed, body, Needed::pairs_if(needs_pairs), scratch)?;
+        self.write_body(parsed, body, Needed::if_pairs(needs_pairs), scratch)?;
         if sink.take(&mut scratch.raw, &mut scratch.pairs) {
             Ok(())
         } else {
@@ -132,7 +148,9 @@ pub trait BodyWriter {
 pub struct Rewriting;
 
 impl BodyWriter for Rewriting {
-    ghost writes = { λ _. IsRewritten };
+    ghost writes = { λ _. IsRewrittenWith };
+
+    ghost returns = { λ _. IsParsedBody };
 
     fn write_body<'a>(
         &self,

@@ -79,7 +79,7 @@ impl<'a> ParsedModule<'a> {
         let _needed = followers.reach(body.func)?;
         let function = self.change_function(change, body, memory)?;
         followers.pass(self, body, &function, &memory.scratch)?;
-        kept.keep(self.alloc, body, &memory.scratch)?;
+        kept.keep(body, &memory.scratch)?;
         Ok(with_size(memory.scratch.measured(body)))
     }
 
@@ -95,7 +95,7 @@ impl<'a> ParsedModule<'a> {
             (C.state change.new)) }
     {
         let count = self.body_count();
-        let mut kept = KeptBodies::new(self.alloc, self.imported(), count)?;
+        let mut kept = KeptBodies::with_room(self.alloc, self.imported(), count, 0)?;
         let mut memory = Box::new(self.alloc, ChangeMemory::new(self.alloc))?;
         let mut code = no_bodies(count);
         'bodies: for body in self.bodies() {

@@ -1,9 +1,10 @@
 //! Functions that are imported besides those of the source (WebAssembly core specification 3.0,
 //! binary format, import section).
 
-ghost use Rattle.std.specs.Prelude.{◌≡◌, ◌+◌, List, Ok, IfOk, OnOk, OnErr, option_map};
+ghost use Rattle.std.specs.Prelude.{◌≡◌, ◌+◌, List, Ok, IfOk, IfErr, OnOk, OnErr, option_map};
 ghost use Rattle.wasm_operators.specs.declared.types.Space.TheVariants.{Types};
 ghost use Rattle.walrus_maps.specs.IndexMaps.{number_of};
+ghost use Rattle.wasm_sections.specs.Additions.{IsTooMuch};
 ghost use Rattle.wasm_sections.specs.MovedFunctions.{import_of};
 ghost use Rattle.wasm_module.specs.ImportedFunctions.{contents_if, AreMovedIf, MovesSection, MoveSections, naming_functions, ImportsFunction, AddsImport, HasOneImportMore, IsNextFunction, IsWrittenFunction};
 ghost use Rattle.wasm_sections.specs.Sections.{SectionAt, IsModule, section_id};
@@ -54,7 +55,8 @@ impl<'a> ParsedModule<'a> {
     /// The index of a function in the module that is written: its id, unless functions were imported
     /// besides those of the source.
     pub(crate) fn written_function(&self, function: FunctionId) -> Result<usize, ModuleError>
-        ensures { IfOk result (IsWrittenFunction self.now function) }
+        ensures index { IfOk result (IsWrittenFunction self.now function) }
+        ensures refused { IfErr result IsTooMuch }
     {
         if self.spaces.more_imports == 0 {
             return Ok(function.index());

@@ -4,7 +4,8 @@
 ghost use Rattle.std.specs.Prelude.{◌≡◌, ◌+◌, [], length, refl, OnOk};
 ghost use Rattle.std.proofs.Common.{◌∙◌};
 ghost use Rattle.std.specs.Io.KnownBytes.{Appends};
-ghost use Rattle.wasm_module.specs.Pieces.{counts_nothing, counts_both, appends_nothing, appends_then};
+ghost use Rattle.wasm_module.specs.Pieces.{counts_nothing, counts_both, appends_nothing, appends_then, tells_nothing, tells_both};
+ghost use Rattle.wasm_module.specs.ToldBodies.{if_needed, TellsMore};
 
 use crate::body_writer::Measured;
 use crate::map_sink::{MapSink, WrittenBody};
@@ -78,37 +79,60 @@ pub(crate) struct BodyOutput<'w, T, W> {
     pub out: &'w mut W,
     /// The place of the body in the source, and in the module that is written.
     pub places: (usize, usize),
+    /// Whether the listener needs the body's pairs.
+    pub needs_pairs: bool,
     pub len: usize,
     /// The error of the listener or of the writer, if there was one.
     pub error: Option<io::Error>,
 }
 
-/// Tells a listener of some pairs of a body, if there are any and it needs them, and writes some of its
-/// bytes.
+/// Tells a listener of some pairs of a body, if there are any and it needs them.
+fn tell_piece<T: MapSink>(
+    listener: &mut T,
+    places: (usize, usize),
+    needs_pairs: bool,
+    pairs: &[(InstrLocId, usize)],
+) -> io::Result<()>
+    ensures { OnOk result (TellsMore T.records listener.old listener.new places.0 places.1
+        (if_needed needs_pairs pairs.now)) }
+{
+    if !needs_pairs || pairs.is_empty() {
+        return Ok(());
+    }
+    let (old_start, start) = places;
+    listener.record_body(WrittenBody {
+        old_start,
+        start,
+        pairs,
+    })
+}
+
+/// Tells a listener of some pairs of a body, and writes some of its bytes.
 fn write_piece<T: MapSink, W: Write>(
     listener: &mut T,
     places: (usize, usize),
+    needs_pairs: bool,
     pairs: &[(InstrLocId, usize)],
     bytes: &[u8],
     out: &mut W,
 ) -> io::Result<()>
-    ensures { OnOk result (Appends (W.contents out.old) (W.contents out.new) bytes.now) }
+    ensures written { OnOk result (Appends (W.contents out.old) (W.contents out.new) bytes.now) }
+    ensures told { OnOk result (TellsMore T.records listener.old listener.new places.0 places.1
+        (if_needed needs_pairs pairs.now)) }
 {
-    if listener.needs_pairs() && !pairs.is_empty() {
-        let (old_start, start) = places;
-        listener.record_body(WrittenBody {
-            old_start,
-            start,
-            pairs,
-        })?;
-    }
+    tell_piece(listener, places, needs_pairs, pairs)?;
     out.write_all(bytes)
 }
 
 impl<'w, T: MapSink, W: Write> ByteSink for BodyOutput<'w, T, W> {
     ghost takes = { λ a b o. (b.out.ghost_name ≡ a.out.ghost_name)
         × Appends (W.contents a.out.now) (W.contents b.out.now) o.bytes
-        × (b.len ≡ a.len + length o.bytes) };
+        × (b.len ≡ a.len + length o.bytes)
+        × (b.listener.ghost_name ≡ a.listener.ghost_name)
+        × (b.places ≡ a.places)
+        × (b.needs_pairs ≡ a.needs_pairs)
+        × TellsMore T.records a.listener.now b.listener.now a.places.0 a.places.1
+        (if_needed a.needs_pairs o.pairs) };
 
     const MOST: usize = PIECE;
 
@@ -116,7 +140,8 @@ impl<'w, T: MapSink, W: Write> ByteSink for BodyOutput<'w, T, W> {
         let Some(len) = self.len.checked_add(bytes.len()) else {
             return false;
         };
-        match write_piece(self.listener, self.places, pairs, bytes, self.out) {
+        let (places, needs_pairs) = (self.places, self.needs_pairs);
+        match write_piece(self.listener, places, needs_pairs, pairs, bytes, self.out) {
             Ok(()) => {}
             Err(error) => {
                 self.error = Some(error);
@@ -129,12 +154,25 @@ impl<'w, T: MapSink, W: Write> ByteSink for BodyOutput<'w, T, W> {
         true
     }
 
-    ghost nothing = { λ s. (refl, appends_nothing (W.contents s.out.now), counts_nothing s.len) };
+    ghost nothing = { λ s. (
+      refl,
+      appends_nothing (W.contents s.out.now),
+      counts_nothing s.len,
+      refl,
+      refl,
+      refl,
+      tells_nothing T.records s.places s.listener.now s.needs_pairs,
+    ) };
 
     ghost one_by_one = { λ a b c first second p q. (
       q.0 ∙ p.0,
       appends_then (W.contents a.out.now) (W.contents b.out.now) (W.contents c.out.now)
           first.bytes second.bytes p.1 q.1,
       counts_both a.len b.len c.len first.bytes second.bytes p.2 q.2,
+      q.3 ∙ p.3,
+      q.4 ∙ p.4,
+      q.5 ∙ p.5,
+      tells_both T.records a.listener.now b.listener.now c.listener.now a.places b.places
+          a.needs_pairs b.needs_pairs first.pairs second.pairs p.4 p.5 p.6 q.6,
     ) };
 }

@@ -4,9 +4,9 @@
 ghost use Rattle.std.specs.Prelude.{◌≡◌, ℕ, List, [], Ok};
 ghost use Rattle.wasm_module.specs.declared.changing.kept_bodies.KeptBodies.{KeptBodies as Kept};
 ghost use Rattle.wasm_module.specs.declared.parsed.ParsedModule.{ParsedModule as Parsed};
-ghost use Rattle.wasm_module.specs.KeptCode.{IsKept, AreKept, IsChangedCode};
+ghost use Rattle.wasm_module.specs.KeptCode.{IsKept, AreKept, AreKeptAs, kept_or, StaysWritten, IsChangedCode};
 ghost use Rattle.wasm_module.specs.ModuleCode.{HasCode};
-ghost use Rattle.wasm_module.specs.RewrittenCode.{Extends};
+ghost use Rattle.wasm_module.specs.RewrittenCode.{Extends, IsRewrittenWith};
 ghost use Rattle.wasm_module.specs.ReadModules.{HasOneSpelling};
 ghost use Rattle.wasm_module.specs.ReadSections.{IsOfSections};
 ghost use Rattle.wasm_module.specs.SameModules.{IsSameModule};
@@ -14,7 +14,7 @@ ghost use Rattle.wasm_sections.specs.declared.changes.Changes.{Changes as NewSec
 ghost use Rattle.wasm_sections.specs.declared.omissions.OmittedSections.{OmittedSections as Omitted};
 ghost use Rattle.wasm_sections.specs.Components.{Components, module_of};
 ghost use Rattle.wasm_sections.specs.Sections.{SectionAt, IsModule};
-ghost use Rattle.wasm_module.specs.WrittenModules.{IsWrittenCode, IsWrittenModule};
+ghost use Rattle.wasm_module.specs.WrittenModules.{with_any_pairs, with_some_pairs, IsWrittenCode, IsWrittenModule};
 
 use crate::body_writer::{BodyWriter, ChangeFunction};
 
@@ -24,8 +24,34 @@ use crate::body_writer::{BodyWriter, ChangeFunction};
 pub fn law_changed_code<C: ChangeFunction>()
     ensures { (source now : Parsed) (before after : C.State) (kept : Kept) (s : SectionAt)
         (code : List ℕ) → Extends source now → AreKept C.changes source before kept after
-        → IsWrittenCode (IsKept kept) now s code
+        → IsWrittenCode (with_any_pairs (IsKept kept)) now s code
         → IsChangedCode C.changes source before s code after }
+{}
+
+/// What `write_module` writes from what `rewrite_with` kept, and of other bodies as these write them, is
+/// what these write of all bodies, for the module as it was before: where what they write for it as it is
+/// now is what they write for it as it was before, as of `Rewriting` (`law_rewritten_before`). Of the
+/// location pairs of kept bodies nothing is said: who needs pairs has all bodies written
+/// (`RewrittenModule::take_bodies`).
+pub fn law_kept_module<B: BodyWriter>(bodies: &B)
+    ensures module { (source now : Parsed) (kept : Kept) (changes : NewSections) (omitted : Omitted)
+        (new : List ℕ) → Extends source now
+        → AreKeptAs (with_some_pairs (B.writes bodies.now)) source kept
+        → StaysWritten (B.writes bodies.now) source now
+        → IsWrittenModule (kept_or kept (B.writes bodies.now)) now changes omitted new
+        → IsWrittenModule (B.writes bodies.now) source changes omitted new }
+    ensures code { (source now : Parsed) (kept : Kept) (s : SectionAt) (code : List ℕ)
+        → Extends source now → AreKeptAs (with_some_pairs (B.writes bodies.now)) source kept
+        → StaysWritten (B.writes bodies.now) source now
+        → IsWrittenCode (kept_or kept (B.writes bodies.now)) now s code
+        → IsWrittenCode (B.writes bodies.now) source s code }
+{}
+
+/// What is written for a body of a module that was rewritten is what was written for it before, with
+/// the same location pairs.
+pub fn law_rewritten_before()
+    ensures { (source now : Parsed) → Extends source now
+        → StaysWritten IsRewrittenWith source now }
 {}
 
 /// Bytes that spell a module are one list of sections, and no other.

@@ -1,6 +1,13 @@
 //! Listeners, which are told of each body while a module is written: none, the writer of a location
 //! map, or a caller's own.
-ghost use Rattle.std.specs.Prelude.{◌≤◌, ◌+◌};
+
+ghost use Rattle.std.specs.Prelude.{◌≡◌, ◌≤◌, ◌+◌, ◌++◌, Bool, true, false, List, length, take, OnOk, IfOk};
+ghost use Rattle.std.proofs.Common.{◌∙◌};
+ghost use Rattle.std.specs.Io.KnownBytes.{Appends};
+ghost use Rattle.wasm_body.specs.Pairs.{Pair};
+ghost use Rattle.wasm_module.specs.MapText.{hexadecimal, map_line, pair_line, body_lines};
+ghost use Rattle.wasm_module.specs.Pieces.{lines_then};
+ghost use Rattle.wasm_module.specs.ToldBodies.{ToldBody, told_by};
 
 use std::io;
 use std::io::Write;
@@ -21,9 +28,19 @@ pub struct WrittenBody<'b> {
 }
 
 /// A listener, which is told of each body that is written, in order.
+///
+/// A listener says what being told means: `needs` is whether it needs pairs in a state, and `records`
+/// relates its states before and after it is told of a body.
 pub trait MapSink {
-    /// Whether the location pairs of bodies are wanted.
-    fn needs_pairs(&self) -> bool;
+    // In this state it was told of this body, and is in that one.
+    ghost records: { Self → Self → ToldBody → Type 0 };
+
+    // In this state it needs the location pairs of bodies.
+    ghost needs: { Self → Bool };
+
+    /// Whether the location pairs of the next body are wanted.
+    fn needs_pairs(&self) -> bool
+        ensures { result ≡ needs self.now };
 
     /// Tells of a body, before it is written. Of a large body it first tells with no pairs, and then,
     /// before each piece of its bytes, with those of that piece.
@@ -31,7 +48,14 @@ pub trait MapSink {
     /// # Errors
     ///
     /// Why the module isn't written to its end.
-    fn record_body(&mut self, body: WrittenBody<'_>) -> io::Result<()>;
+    fn record_body(&mut self, body: WrittenBody<'_>) -> io::Result<()>
+        ensures { OnOk result (records self.old self.new (told_by body.entry)) };
+
+    // Told of a body with some pairs, and then with more of them, it is told of the body with all of
+    // these.
+    ghost joins: { (a b c : Self) (body : ToldBody) (more : List Pair) → records a b body
+        → records b c (record body { pairs = more })
+        → records a c (record body { pairs = body.pairs ++ more }) };
 }
 
 /// The listener that ignores everything.
@@ -39,6 +63,10 @@ pub trait MapSink {
 pub(crate) struct NoMap;
 
 impl MapSink for NoMap {
+    ghost records = { λ a b body. Unit {0} };
+
+    ghost needs = { λ _. false };
+
     fn needs_pairs(&self) -> bool {
         false
     }
@@ -46,6 +74,8 @@ impl MapSink for NoMap {
     fn record_body(&mut self, _body: WrittenBody<'_>) -> io::Result<()> {
         Ok(())
     }
+
+    ghost joins = { λ a b c body more p q. tt };
 }
 
 /// The digits of hexadecimal numbers.
@@ -60,10 +90,13 @@ const LINES: usize = 512;
 /// How many hexadecimal digits a number has.
 #[inline(always)]
 fn digit_count(number: u64) -> usize
-    ensures { result ≤ 16 }
+    ensures count { result ≡ length (hexadecimal number) }
+    ensures few { result ≤ 16 }
 {
-    let bits = 64 - (number | 1).leading_zeros() as usize;
-    (bits + 3) / 4
+    if number < 16 {
+        return 1;
+    }
+    number.ilog2() as usize / 4 + 1
 }
 
 /// Puts a number in hexadecimal at a place of a buffer that has room for 16 digits there. Returns the
@@ -71,7 +104,8 @@ fn digit_count(number: u64) -> usize
 #[inline(always)]
 fn put_digits(buffer: &mut [u8; LINES], at: usize, number: u64) -> usize
     requires { at + 16 ≤ 512 }
-    ensures { result ≤ at + 16 }
+    ensures fits { result ≤ at + 16 }
+    ensures written { take result buffer.new ≡ take at buffer.old ++ hexadecimal number }
 {
     let end = at + digit_count(number);
     let mut left = number;
@@ -89,7 +123,8 @@ fn put_digits(buffer: &mut [u8; LINES], at: usize, number: u64) -> usize
 #[inline(always)]
 fn put_line(buffer: &mut [u8; LINES], at: usize, old: u32, new: usize) -> usize
     requires { at + 34 ≤ 512 }
-    ensures { result ≤ at + 34 }
+    ensures fits { result ≤ at + 34 }
+    ensures written { take result buffer.new ≡ take at buffer.old ++ map_line old new }
 {
     let space = put_digits(buffer, at, old as u64);
     buffer[space] = b' ';
@@ -98,18 +133,46 @@ fn put_line(buffer: &mut [u8; LINES], at: usize, old: u32, new: usize) -> usize
     end + 1
 }
 
+/// Puts the line of an operator, if it is one of the source, at a place of a buffer that has room for
+/// it. Returns the place after it. The operator's body is written at the place `start`.
+///
+/// # Errors
+///
+/// `FileTooLarge` where the operator's place is too great for a `usize`.
+#[inline(always)]
+fn put_pair(
+    buffer: &mut [u8; LINES],
+    at: usize,
+    start: usize,
+    pair: (InstrLocId, usize),
+) -> io::Result<usize>
+    requires { at + 34 ≤ 512 }
+    ensures fits { IfOk result (λ end. end ≤ at + 34) }
+    ensures written { IfOk result
+        (λ end. take end buffer.new ≡ take at buffer.old ++ pair_line start pair) }
+{
+    let (location, place) = pair;
+    if location.is_default() {
+        return Ok(at);
+    }
+    match start.checked_add(place) {
+        Some(new) => Ok(put_line(buffer, at, location.data(), new)),
+        None => Err(io::Error::from(io::ErrorKind::FileTooLarge)),
+    }
+}
+
 /// Writes the lines of a body, many at a time.
-fn write_lines<M: Write>(body: WrittenBody<'_>, map: &mut M) -> io::Result<()> {
+fn write_lines<M: Write>(body: WrittenBody<'_>, map: &mut M) -> io::Result<()>
+    ensures { OnOk result (Appends (M.contents map.old) (M.contents map.new)
+        (body_lines (told_by body.entry))) }
+{
     let mut buffer = [0u8; LINES];
     let mut end = 0;
-    for (location, place) in body.pairs {
-        if !location.is_default() {
-            let new = body.start.saturating_add(*place);
-            end = put_line(&mut buffer, end, location.data(), new);
-            if end > LINES - LONGEST_LINE {
-                map.write_all(&buffer[..end])?;
-                end = 0;
-            }
+    for pair in body.pairs {
+        end = put_pair(&mut buffer, end, body.start, *pair)?;
+        if end > LINES - LONGEST_LINE {
+            map.write_all(&buffer[..end])?;
+            end = 0;
         }
     }
     map.write_all(&buffer[..end])
@@ -120,7 +183,13 @@ fn write_lines<M: Write>(body: WrittenBody<'_>, map: &mut M) -> io::Result<()> {
 #[derive(Drop)]
 pub struct MapLines<'m, M>(pub &'m mut M);
 
+/// The error is that of the writer, or `FileTooLarge` where an offset is too great for a `usize`.
 impl<M: Write> MapSink for MapLines<'_, M> {
+    ghost records = { λ a b body. (b.0.ghost_name ≡ a.0.ghost_name)
+        × Appends (M.contents a.0.now) (M.contents b.0.now) (body_lines body) };
+
+    ghost needs = { λ _. true };
+
     fn needs_pairs(&self) -> bool {
         true
     }
@@ -128,4 +197,9 @@ impl<M: Write> MapSink for MapLines<'_, M> {
     fn record_body(&mut self, body: WrittenBody<'_>) -> io::Result<()> {
         write_lines(body, self.0)
     }
+
+    ghost joins = { λ a b c body more p q. (
+      q.0 ∙ p.0,
+      lines_then (M.contents a.0.now) (M.contents b.0.now) (M.contents c.0.now) body more p.1 q.1,
+    ) };
 }

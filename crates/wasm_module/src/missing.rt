@@ -220,6 +220,41 @@ impl<'a> ParsedModule<'a> {
         Ok(())
     }
 
+    /// Whether a type of the module has more than one result.
+    fn has_many_results(&self) -> bool {
+        'types: for index in 0..u32::MAX {
+            let Ok(id) = self.spaces.indices.get_type(index) else {
+                break 'types;
+            };
+            if self.results(id).len() > 1 {
+                return true;
+            }
+        }
+        false
+    }
+
+    /// Whether a handler may need a type that the module lacks. Where there is no tag, one catches
+    /// nothing but what has no parameters, and needs a type only for several results.
+    fn may_lack_types(&self) -> bool {
+        self.spaces.indices.get_tag(0).is_ok() || self.has_many_results()
+    }
+
+    /// Adds the types that a body may need and that the module lacks, as `add_missing_types`, but
+    /// goes through the body only where a handler may need one.
+    pub(crate) fn add_possible_types(&mut self, body: Body<'a>) -> Result<(), ModuleError>
+        ensures extends { Extends self.old self.new }
+        ensures refused { IfErr result (λ e. e.fault ≡ Memory) }
+    {
+        match self.add_entry_type(body.func) {
+            Ok(()) => {}
+            Err(error) => return Err(error),
+        }
+        match self.may_lack_types() {
+            true => self.add_handler_types(body),
+            false => Ok(()),
+        }
+    }
+
     /// Adds the types that a body needs and that the module lacks: its entry type, and those of the
     /// handlers of its `try` constructs. They are never written, so they have no index.
     pub(crate) fn add_missing_types(&mut self, body: Body<'a>) -> Result<(), ModuleError>

@@ -1,16 +1,21 @@
-//! Rewriting a module, the first pass: each body is rewritten once, to find its faults, its size
-//! and the new contents of custom sections, before anything is written. (`changing` is that of a
-//! module whose functions are changed.)
+//! Rewriting a module, the first pass: each body is rewritten, to find its faults, its size and the
+//! new contents of custom sections, before anything is written; and it is kept for the second pass.
+//! (`changing` is that of a module whose functions are changed.)
 
 ghost use Rattle.std.specs.Prelude.{◌≡◌, List, [], not, true, false, OnOk, OnErr, IfOk, IfSome, IfNone};
 ghost use Rattle.wasm_sections.specs.Omissions.{OmitsNothing, OmitsAlso, KeepsAlso, OmitsSame};
 ghost use Rattle.wasm_sections.specs.Sections.{SectionAt, IsModule, Each, section_at};
-ghost use Rattle.wasm_module.specs.RewrittenCode.{Extends};
-ghost use Rattle.wasm_module.specs.WrittenModules.{new_contents_in, IsReplacedBy, IsCarriedOver, IsOmitted, IsNotOmitted, IsLinked};
+ghost use Rattle.wasm_module.specs.declared.parsed.ParsedModule.{ParsedModule as Parsed};
+ghost use Rattle.wasm_module.specs.KeptCode.{AreKeptAs, StayKeptAs};
+ghost use Rattle.wasm_module.specs.RewrittenCode.{Extends, IsRewrittenWith};
+ghost use Rattle.wasm_sections.specs.CodeSections.{body_at};
+ghost use Rattle.wasm_module.specs.WrittenModules.{new_contents_in, IsReplacedBy, IsCarriedOver, IsOmitted, IsNotOmitted, IsLinked, with_some_pairs};
 
 use crate::bodies::Scratch;
 use crate::body_writer::{BodyWriter, Measured, Needed, Rewriting};
+use crate::changing::kept_bodies::KeptBodies;
 use crate::custom::{Followed, Followers, Note, contents_for, follows_code};
+use crate::keeping::{Keeper, Keeping, Kept};
 use crate::parsed::ParsedModule;
 use wasm_sections::{
     Body, Changes, ModuleError, OmittedSections, Section, SectionKind, number_len,
@@ -245,43 +250,140 @@ pub(crate) fn joined(first: Measured, second: Measured) -> Measured {
 }
 
 impl<'a> ParsedModule<'a> {
-    /// Rewrites a body, and changes the custom sections along with it. Returns what it takes in the
-    /// code section, its size included.
+    /// Whether a large body is to be kept. The types are added then that its handlers need, since it
+    /// isn't measured before it is written.
+    fn is_to_be_kept(&mut self, body: Body<'a>, keeper: &Keeper<'a>) -> bool
+        ensures { Extends self.old self.new }
+    {
+        keeper.takes(body) && self.add_possible_types(body).is_ok()
+    }
+
+    /// Writes a large body, of which nothing else is needed, and keeps it if it can be kept. Returns
+    /// what it takes.
+    fn write_large<B: BodyWriter>(
+        &mut self,
+        bodies: &B,
+        body: Body<'a>,
+        keeper: &mut Keeper<'a>,
+        scratch: &mut Scratch,
+    ) -> Result<Measured, ModuleError>
+        ensures extends { OnOk result (Extends self.old self.new) }
+        ensures kept { (source : Parsed) → Extends source self.old → OnOk result
+            (StayKeptAs (with_some_pairs (B.writes bodies.now)) source keeper.old.kept keeper.new.kept) }
+    {
+        let mut sink = keeper.large(body);
+        match bodies.write_large_body(self, body, false, scratch, &mut sink) {
+            Ok(()) => {
+                keeper.keep_large(body, &sink);
+                Ok(sink.measured())
+            }
+            Err(error) => Err(error),
+        }
+    }
+
+    /// The same, or, if it can't be kept, counts it.
+    fn measure_large<B: BodyWriter>(
+        &mut self,
+        bodies: &B,
+        body: Body<'a>,
+        keeper: &mut Keeper<'a>,
+        scratch: &mut Scratch,
+    ) -> Result<Measured, ModuleError>
+        ensures extends { OnOk result (Extends self.old self.new) }
+        ensures kept { (source : Parsed) → Extends source self.old → OnOk result
+            (StayKeptAs (with_some_pairs (B.writes bodies.now)) source keeper.old.kept keeper.new.kept) }
+    {
+        match self.is_to_be_kept(body, keeper) {
+            true => self.write_large(bodies, body, keeper, scratch),
+            false => bodies.measure_large_body(self, body, scratch),
+        }
+    }
+
+    /// Writes a body, and changes the custom sections along with it.
+    fn write_followed<B: BodyWriter>(
+        &mut self,
+        bodies: &B,
+        body: Body<'a>,
+        needed: Needed,
+        followers: &mut Followers<'a>,
+        scratch: &mut Scratch,
+    ) -> Result<(), ModuleError>
+        ensures extends { OnOk result (Extends self.old self.new) }
+        ensures written { (source : Parsed) → Extends source self.old → OnOk result
+            (with_some_pairs (B.writes bodies.now) source body.entry.func (body_at body.entry)
+            scratch.new.raw.items) }
+    {
+        match bodies.write_body(self, body, needed, scratch) {
+            Ok(None) => Ok(()),
+            Ok(Some(function)) => followers.pass(self, body, &function, scratch),
+            Err(error) => Err(error),
+        }
+    }
+
+    /// Writes a body, changes the custom sections along with it, and keeps it if it can be kept.
+    /// Returns what it takes, without its size.
     fn measure_body<B: BodyWriter>(
         &mut self,
         bodies: &B,
         body: Body<'a>,
         followers: &mut Followers<'a>,
+        keeper: &mut Keeper<'a>,
         scratch: &mut Scratch,
     ) -> Result<Measured, ModuleError>
-        ensures { OnOk result (Extends self.old self.new) }
+        ensures extends { OnOk result (Extends self.old self.new) }
+        ensures kept { (source : Parsed) → Extends source self.old → OnOk result
+            (StayKeptAs (with_some_pairs (B.writes bodies.now)) source keeper.old.kept keeper.new.kept) }
     {
         let needed = followers.reach(body.func)?;
         if needed == Needed::Nothing && body.is_large() {
-            let large = bodies.measure_large_body(self, body, scratch)?;
-            return Ok(with_size(large));
+            return self.measure_large(bodies, body, keeper, scratch);
         }
-        if let Some(function) = bodies.write_body(self, body, needed, scratch)? {
-            followers.pass(self, body, &function, scratch)?;
+        let all = keeper.needed(needed);
+        match self.write_followed(bodies, body, all, followers, scratch) {
+            Ok(()) => {
+                keeper.keep(body, scratch);
+                Ok(scratch.measured(body))
+            }
+            Err(error) => Err(error),
         }
-        Ok(with_size(scratch.measured(body)))
     }
 
-    /// What the contents of the code section take.
+    /// Keeps the bodies of this module as they are written, up to so much.
+    fn keeper(&self, keeping: Keeping) -> Keeper<'a>
+        ensures { result.kept.bodies.items ≡ [] }
+    {
+        let code_len = match self.section(SectionKind::Code) {
+            Ok(Some(section)) => section.contents().len(),
+            _ => 0,
+        };
+        Keeper::new(
+            self.alloc,
+            self.imported(),
+            self.body_count(),
+            code_len,
+            keeping,
+        )
+    }
+
+    /// What the contents of the code section take; and the bodies that are kept, up to so much.
     fn measure_code<B: BodyWriter>(
         &mut self,
         bodies: &B,
         followers: &mut Followers<'a>,
-    ) -> Result<Measured, ModuleError>
-        ensures { OnOk result (Extends self.old self.new) }
+        keeping: Keeping,
+    ) -> Result<(KeptBodies<'a>, Measured), ModuleError>
+        ensures extends { OnOk result (Extends self.old self.new) }
+        ensures kept { (source : Parsed) → Extends source self.old → IfOk result
+            (λ x. AreKeptAs (with_some_pairs (B.writes bodies.now)) source x.0) }
     {
+        let mut keeper = self.keeper(keeping);
         let mut scratch = Box::new(self.alloc, Scratch::new(self.alloc))?;
         let mut code = no_bodies(self.body_count());
         'bodies: for body in self.bodies() {
-            let measured = self.measure_body(bodies, body, followers, &mut scratch)?;
-            code = joined(code, measured);
+            let measured = self.measure_body(bodies, body, followers, &mut keeper, &mut scratch)?;
+            code = joined(code, with_size(measured));
         }
-        Ok(code)
+        Ok((keeper.kept, code))
     }
 
     /// The code section with the bodies that these changes add, if it is so without them. Its bytes
@@ -312,20 +414,25 @@ impl<'a> ParsedModule<'a> {
     }
 
     /// The module with these bodies and these changes of sections. Names of locals and of labels
-    /// and metadata of code are changed along with the bodies. No section is left out.
+    /// and metadata of code are changed along with the bodies. No section is left out. The bodies are
+    /// kept as they are written, up to so much, and where memory runs out no longer, so that
+    /// `write_module` needn't write them again.
     ///
     /// # Errors
     ///
     /// `ObjectFile` if a custom section contains relocations or symbols of an object file; the first
     /// fault of a body, with its place, or why it isn't written; `InconsistentChange` if functions
     /// were imported or added with other changes; or `Memory`.
-    pub fn rewrite_with<B: BodyWriter + Drop>(
+    pub fn rewrite_keeping<B: BodyWriter + Drop>(
         &mut self,
         bodies: B,
         changes: Changes,
-    ) -> Result<RewrittenModule<'a, B>, ModuleError>
+        keeping: Keeping,
+    ) -> Result<RewrittenModule<'a, Kept<'a, B>>, ModuleError>
         ensures extends { OnOk result (Extends self.old self.new) }
-        ensures bodies { IfOk result (λ made. made.bodies ≡ bodies) }
+        ensures bodies { IfOk result (λ made. made.bodies.bodies ≡ bodies) }
+        ensures kept { (source : Parsed) → Extends source self.old → IfOk result
+            (λ made. AreKeptAs (with_some_pairs (B.writes bodies)) source made.bodies.kept) }
         ensures changes { IfOk result (λ made. made.changes ≡ changes) }
         ensures omitted { IfOk result (λ made. OmitsNothing made.omitted) }
         ensures linked { (all : List SectionAt) → IsModule self.old.bytes.now all
@@ -333,11 +440,11 @@ impl<'a> ParsedModule<'a> {
     {
         self.check_functions(&changes)?;
         let mut followers = Followers::read(self)?;
-        let measured = self.measure_code(&bodies, &mut followers)?;
+        let (kept, measured) = self.measure_code(&bodies, &mut followers, keeping)?;
         let code = self.measured_code(&changes, measured)?;
         let (followed, notes) = followers.finish(self.alloc)?;
         Ok(RewrittenModule {
-            bodies,
+            bodies: Kept { kept, bodies },
             changes,
             omitted: OmittedSections::none(self.alloc),
             followed,
@@ -346,16 +453,40 @@ impl<'a> ParsedModule<'a> {
         })
     }
 
+    /// The same, with up to 64 MB of code kept, and no location pairs.
+    ///
+    /// # Errors
+    ///
+    /// Those of `rewrite_keeping`.
+    pub fn rewrite_with<B: BodyWriter + Drop>(
+        &mut self,
+        bodies: B,
+        changes: Changes,
+    ) -> Result<RewrittenModule<'a, Kept<'a, B>>, ModuleError>
+        ensures extends { OnOk result (Extends self.old self.new) }
+        ensures bodies { IfOk result (λ made. made.bodies.bodies ≡ bodies) }
+        ensures kept { (source : Parsed) → Extends source self.old → IfOk result
+            (λ made. AreKeptAs (with_some_pairs (B.writes bodies)) source made.bodies.kept) }
+        ensures changes { IfOk result (λ made. made.changes ≡ changes) }
+        ensures omitted { IfOk result (λ made. OmitsNothing made.omitted) }
+        ensures linked { (all : List SectionAt) → IsModule self.old.bytes.now all
+            → OnOk result (Each IsLinked all) }
+    {
+        self.rewrite_keeping(bodies, changes, Keeping::CODE)
+    }
+
     /// Rewrites the bodies of all functions. Names of locals and of labels and metadata of code are
-    /// changed along with them. No section is left out. At most one rewritten body is in memory at a
-    /// time: `write_module` rewrites all of them again.
+    /// changed along with them. No section is left out. Up to 64 MB of rewritten code are kept for
+    /// `write_module`: of a module with more, all bodies are rewritten again there, one at a time.
     ///
     /// # Errors
     ///
     /// `ObjectFile` if a custom section contains relocations or symbols of an object file; the first
     /// fault of a body, with its place; or `Memory`.
-    pub fn rewrite_all(&mut self) -> Result<RewrittenModule<'a, Rewriting>, ModuleError>
+    pub fn rewrite_all(&mut self) -> Result<RewrittenModule<'a, Kept<'a, Rewriting>>, ModuleError>
         ensures extends { OnOk result (Extends self.old self.new) }
+        ensures kept { (source : Parsed) → Extends source self.old → IfOk result
+            (λ made. AreKeptAs (with_some_pairs IsRewrittenWith) source made.bodies.kept) }
         ensures none_given { IfOk result (λ made. new_contents_in made ≡ []) }
         ensures omitted { IfOk result (λ made. OmitsNothing made.omitted) }
         ensures linked { (all : List SectionAt) → IsModule self.old.bytes.now all

@@ -1,7 +1,8 @@
 //! Views of a module that was read: its sections by kind, and the items in them. They take no
 //! memory.
 
-ghost use Rattle.std.specs.Prelude.{◌≡◌, List, length, option_map, IfOk, IfSome};
+ghost use Rattle.std.specs.Prelude.{◌≡◌, List, length, option_map, Ok, IsOk, IfOk, IfSome};
+ghost use Rattle.wasm_sections.specs.Components.{Components, module_of};
 ghost use Rattle.wasm_sections.specs.Sections.{SectionAt, IsModule, first_with, section_id, section_at};
 ghost use Rattle.wasm_sections.specs.Views.{HasItems, HasBodies, HasSomeItems, HasStart};
 
@@ -19,12 +20,21 @@ impl<'a> ParsedModule<'a> {
     ///
     /// None, since the sections were read before.
     pub fn section(&self, kind: SectionKind) -> Result<Option<Section<'a>>, ModuleError>
-        ensures { (all : List SectionAt) → IsModule self.now.bytes.now all
+        ensures found { (all : List SectionAt) → IsModule self.now.bytes.now all
             → IfOk result (λ found. first_with (section_id kind) all ≡ option_map section_at found) }
+        ensures never_refused { (m : Components) → module_of self.now.bytes.now ≡ Ok m
+            → IsOk result }
     {
         let id = kind.id();
-        'sections: for section in Sections::new(self.bytes())? {
-            let section = section?;
+        let sections = match Sections::new(self.bytes()) {
+            Ok(sections) => sections,
+            Err(error) => return Err(error),
+        };
+        'sections: for section in sections {
+            let section = match section {
+                Ok(section) => section,
+                Err(error) => return Err(error),
+            };
             let next = section.kind.id();
             if next == id {
                 return Ok(Some(section));

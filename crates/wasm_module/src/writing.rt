@@ -5,13 +5,16 @@ ghost use Rattle.std.specs.Prelude.{◌≡◌, ◌+◌, ◌<◌, ◌^◌, ℕ, L
 ghost use Rattle.std.specs.Io.KnownBytes.{Appends};
 ghost use Rattle.wasm_operators.specs.Shortest.{short_number};
 ghost use Rattle.wasm_module.specs.declared.parsed.ParsedModule.{ParsedModule as Parsed};
-ghost use Rattle.wasm_sections.specs.CodeSections.{body_at, entry};
+ghost use Rattle.wasm_sections.specs.CodeSections.{body_at};
 ghost use Rattle.wasm_module.specs.RewrittenCode.{Extends};
 ghost use Rattle.wasm_sections.specs.Sections.{section_id, section as whole_section, section_at, SectionAt, IsModule};
 ghost use Rattle.wasm_sections.specs.GivenContents.{added_bodies};
 ghost use Rattle.wasm_module.specs.SameModules.{IsSameModule};
 ghost use Rattle.wasm_sections.specs.Components.{Components, module_of};
-ghost use Rattle.wasm_module.specs.WrittenModules.{Puts, FitsSize, new_contents_in, between, new_after, HasItemsOf, IsWrittenCode, IsWrittenFor, IsWrittenAt, IsWrittenModule};
+ghost use Rattle.wasm_module.specs.MapText.{map_lines};
+ghost use Rattle.wasm_module.specs.ToldBodies.{IsTold};
+ghost use Rattle.wasm_module.specs.ToldModules.{module_told, PutsPieces, PutsBody, PutsCode, PutsSection, PutsWithNew, PutsModule};
+ghost use Rattle.wasm_module.specs.WrittenModules.{Puts, FitsSize, new_contents_in, between, FitBetween, new_after, NewFitAfter, IsWrittenModule};
 
 use crate::bodies::Scratch;
 use crate::body_writer::{BodyWriter, Needed};
@@ -132,8 +135,9 @@ fn put_between<W: Write>(
     at: usize,
     out: &mut W,
 ) -> Result<usize, WriteError>
-    ensures { IfOk result (λ end. Puts (W.contents out.old) (W.contents out.new) at end
+    ensures written { IfOk result (λ end. Puts (W.contents out.old) (W.contents out.new) at end
         (between ranks.0 ranks.1 changes.now.given.items)) }
+    ensures fits { OnOk result (FitBetween ranks.0 ranks.1 changes.now.given.items) }
 {
     let mut end = at;
     'given: for given in &changes.given {
@@ -150,6 +154,8 @@ fn put_between<W: Write>(
 struct BodyToWrite<'m, 'a, B> {
     from: Body<'a>,
     writer: &'m B,
+    /// Whether the listener needs its pairs.
+    needs_pairs: bool,
 }
 
 impl<'a> ParsedModule<'a> {
@@ -164,17 +170,20 @@ impl<'a> ParsedModule<'a> {
     ) -> Result<usize, WriteError>
         ensures extends { OnOk result (Extends self.old self.new) }
         ensures written { (source : Parsed) → Extends source self.old
-            → IfOk result (λ len. (raw : List ℕ)
-            × B.writes body.now.writer.now source body.now.from.func (body_at body.now.from) raw
-            × (len ≡ length raw)
-            × Appends (W.contents out.old) (W.contents out.new) raw) }
+            → IfOk result (λ len. PutsPieces (B.writes body.now.writer.now) source T.records
+            body.now.from.func (body_at body.now.from) body.now.needs_pairs start len
+            (W.contents out.old) (W.contents out.new) sink.old sink.new) }
     {
-        let BodyToWrite { from, writer } = *body;
-        let needs_pairs = sink.needs_pairs();
+        let BodyToWrite {
+            from,
+            writer,
+            needs_pairs,
+        } = *body;
         let mut output = BodyOutput {
             listener: sink,
             out,
             places: (from.start(), start),
+            needs_pairs,
             len: 0,
             error: None,
         };
@@ -200,10 +209,9 @@ impl<'a> ParsedModule<'a> {
     ) -> Result<usize, WriteError>
         ensures extends { OnOk result (Extends self.old self.new) }
         ensures written { (source : Parsed) → Extends source self.old
-            → IfOk result (λ end. (raw : List ℕ)
-            × B.writes body.now.writer.now source body.now.from.func (body_at body.now.from) raw
-            × FitsSize raw
-            × Puts (W.contents out.old) (W.contents out.new) at end (entry raw)) }
+            → IfOk result (λ end. PutsBody (B.writes body.now.writer.now) source T.records
+            body.now.from.func (body_at body.now.from) body.now.needs_pairs
+            (W.contents out.old) (W.contents out.new) at end sink.old sink.new) }
     {
         let measured = body.writer.measure_large_body(self, body.from, scratch)?;
         let start = put_number(self.alloc, measured.len, at, out)?;
@@ -234,20 +242,19 @@ impl<'a> ParsedModule<'a> {
     ) -> Result<usize, WriteError>
         ensures extends { OnOk result (Extends self.old self.new) }
         ensures written { (source : Parsed) → Extends source self.old
-            → IfOk result (λ end. (raw : List ℕ)
-            × B.writes body.now.writer.now source body.now.from.func (body_at body.now.from) raw
-            × FitsSize raw
-            × Puts (W.contents out.old) (W.contents out.new) at end (entry raw)) }
+            → IfOk result (λ end. PutsBody (B.writes body.now.writer.now) source T.records
+            body.now.from.func (body_at body.now.from) body.now.needs_pairs
+            (W.contents out.old) (W.contents out.new) at end sink.old sink.new) }
     {
         if body.from.is_large() {
             return self.put_large_body(body, scratch, sink, at, out);
         }
-        let needed = Needed::pairs_if(sink.needs_pairs());
+        let needed = Needed::if_pairs(body.needs_pairs);
         body.writer.write_body(self, body.from, needed, scratch)?;
         let raw = scratch.raw.as_slice();
         let start = put_number(self.alloc, raw.len(), at, out)?;
         let old_start = body.from.start();
-        let pairs = scratch.pairs.as_slice();
+        let pairs = scratch.pairs_if(body.needs_pairs);
         sink.record_body(WrittenBody {
             old_start,
             start,
@@ -268,10 +275,9 @@ impl<'a> ParsedModule<'a> {
     ) -> Result<usize, WriteError>
         ensures extends { OnOk result (Extends self.old self.new) }
         ensures written { (source : Parsed) → Extends source self.old
-            → IfOk result (λ end. (code : List ℕ)
-            × IsWrittenCode (B.writes rewritten.now.bodies) source (section_at section.now) code
-            × (contents : List ℕ) × HasItemsOf code (added_bodies rewritten.now.changes) contents
-            × Puts (W.contents out.old) (W.contents out.new) at end contents) }
+            → IfOk result (λ end. PutsCode (B.writes rewritten.now.bodies) source T.records T.needs
+            (section_at section.now) (added_bodies rewritten.now.changes)
+            (W.contents out.old) (W.contents out.new) at end sink.old sink.new) }
     {
         let mut scratch = Box::new(self.alloc, Scratch::new(self.alloc))?;
         let (count, mut source) = Bodies::of_section(section.contents, self.imported())?;
@@ -285,7 +291,12 @@ impl<'a> ParsedModule<'a> {
                 return Err(WriteError::from(section.contents.fault(ModuleFault::BodyCount)));
             };
             let writer = &rewritten.bodies;
-            let body = BodyToWrite { from, writer };
+            let needs_pairs = sink.needs_pairs();
+            let body = BodyToWrite {
+                from,
+                writer,
+                needs_pairs,
+            };
             end = self.put_body(&body, &mut scratch, sink, end, out)?;
         }
         source.finish()?;
@@ -303,11 +314,10 @@ impl<'a> ParsedModule<'a> {
     ) -> Result<usize, WriteError>
         ensures extends { OnOk result (Extends self.old self.new) }
         ensures written { (source : Parsed) → Extends source self.old
-            → IfOk result (λ end. (code : List ℕ)
-            × IsWrittenCode (B.writes rewritten.now.bodies) source (section_at section.now) code
-            × (contents : List ℕ) × HasItemsOf code (added_bodies rewritten.now.changes) contents
-            × FitsSize contents
-            × Puts (W.contents out.old) (W.contents out.new) at end (whole_section 10 contents)) }
+            → section_id section.now.kind ≡ 10
+            → IfOk result (λ end. PutsSection (B.writes rewritten.now.bodies) source T.records T.needs
+            rewritten.now.changes rewritten.now.omitted (section_at section.now)
+            (W.contents out.old) (W.contents out.new) at end sink.old sink.new) }
     {
         let at = put_header(self.alloc, SectionKind::Code, rewritten.code.len, at, out)?;
         let end = self.put_code(rewritten, section, sink, at, out)?;
@@ -328,10 +338,9 @@ impl<'a> ParsedModule<'a> {
     ) -> Result<usize, WriteError>
         ensures extends { OnOk result (Extends self.old self.new) }
         ensures written { (source : Parsed) → Extends source self.old
-            → IfOk result (λ end. (text : List ℕ)
-            × IsWrittenFor (B.writes rewritten.now.bodies) source rewritten.now.changes
-            rewritten.now.omitted (section_at section.now) text
-            × Puts (W.contents out.old) (W.contents out.new) at end text) }
+            → IfOk result (λ end. PutsSection (B.writes rewritten.now.bodies) source T.records T.needs
+            rewritten.now.changes rewritten.now.omitted (section_at section.now)
+            (W.contents out.old) (W.contents out.new) at end sink.old sink.new) }
     {
         if section.kind == SectionKind::Code {
             return self.put_code_section(rewritten, section, sink, at, out);
@@ -354,9 +363,11 @@ impl<'a> ParsedModule<'a> {
         at: usize,
         out: &mut W,
     ) -> Result<usize, WriteError>
-        ensures { (all : List SectionAt) → IsModule self.now.bytes.now all
+        ensures written { (all : List SectionAt) → IsModule self.now.bytes.now all
             → IfOk result (λ end. Puts (W.contents out.old) (W.contents out.new) at end
             (new_after (new_contents_in rewritten.now) all rank)) }
+        ensures fits { (all : List SectionAt) → IsModule self.now.bytes.now all
+            → OnOk result (NewFitAfter (new_contents_in rewritten.now) all rank) }
     {
         let next = self.next_rank(rank)?;
         put_between(self.alloc, &rewritten.changes, (rank, next), at, out)
@@ -373,10 +384,10 @@ impl<'a> ParsedModule<'a> {
     ) -> Result<usize, WriteError>
         ensures extends { OnOk result (Extends self.old self.new) }
         ensures written { (source : Parsed) (all : List SectionAt) → Extends source self.old
-            → IsModule self.old.bytes.now all → IfOk result (λ end. (text : List ℕ)
-            × IsWrittenAt (B.writes rewritten.now.bodies) source rewritten.now.changes
-            rewritten.now.omitted all (section_at section.now) text
-            × Puts (W.contents out.old) (W.contents out.new) at end text) }
+            → IsModule self.old.bytes.now all → IfOk result (λ end. PutsWithNew
+            (B.writes rewritten.now.bodies) source T.records T.needs
+            rewritten.now.changes rewritten.now.omitted all (section_at section.now)
+            (W.contents out.old) (W.contents out.new) at end sink.old sink.new) }
     {
         let end = self.put_in_place(rewritten, section, sink, at, out)?;
         let rank = section.kind.rank();
@@ -395,10 +406,9 @@ impl<'a> ParsedModule<'a> {
         out: &mut W,
     ) -> Result<(), WriteError>
         ensures extends { OnOk result (Extends self.old self.new) }
-        ensures written { OnOk result ((new : List ℕ)
-            × IsWrittenModule (B.writes rewritten.now.bodies) self.old rewritten.now.changes
-            rewritten.now.omitted new
-            × Appends (W.contents out.old) (W.contents out.new) new) }
+        ensures written { OnOk result (PutsModule (B.writes rewritten.now.bodies) self.old
+            T.records T.needs rewritten.now.changes rewritten.now.omitted
+            (W.contents out.old) (W.contents out.new) sink.old sink.new) }
     {
         self.check_functions(&rewritten.changes)?;
         let begin = put(&PREAMBLE, 0, out)?;
@@ -455,9 +465,12 @@ impl<'a> ParsedModule<'a> {
     ) -> Result<(), WriteError>
         ensures extends { OnOk result (Extends self.old self.new) }
         ensures written { OnOk result ((new : List ℕ)
-            × IsWrittenModule (B.writes rewritten.now.bodies) self.old rewritten.now.changes
-            rewritten.now.omitted new
-            × Appends (W.contents out.old) (W.contents out.new) new) }
+            × (w : IsWrittenModule (B.writes rewritten.now.bodies) self.old rewritten.now.changes
+            rewritten.now.omitted new)
+            × Appends (W.contents out.old) (W.contents out.new) new
+            × Appends (M.contents map.old) (M.contents map.new)
+            (map_lines (module_told (B.writes rewritten.now.bodies) self.old
+            rewritten.now.changes rewritten.now.omitted new w))) }
     {
         self.write_with_sink(rewritten, &mut MapLines(map), out)
     }
@@ -475,9 +488,11 @@ impl<'a> ParsedModule<'a> {
     ) -> Result<(), WriteError>
         ensures extends { OnOk result (Extends self.old self.new) }
         ensures written { OnOk result ((new : List ℕ)
-            × IsWrittenModule (B.writes rewritten.now.bodies) self.old rewritten.now.changes
-            rewritten.now.omitted new
-            × Appends (W.contents out.old) (W.contents out.new) new) }
+            × (w : IsWrittenModule (B.writes rewritten.now.bodies) self.old rewritten.now.changes
+            rewritten.now.omitted new)
+            × Appends (W.contents out.old) (W.contents out.new) new
+            × IsTold T.records T.needs sink.old (module_told (B.writes rewritten.now.bodies)
+            self.old rewritten.now.changes rewritten.now.omitted new w) sink.new) }
     {
         self.write_with_sink(rewritten, sink, out)
     }

@@ -4,30 +4,33 @@ use Rattle.std.proofs.Math.Bool.{and-true}
 use Rattle.std.proofs.lemmas.List.Folds.{list_any_more}
 use Rattle.std.specs.List.{list_any}
 use Rattle.std.specs.HashSet.{HashSet, IsEmpty, contains}
+use Rattle.wasm_body.specs.Pairs.{Pair}
 use Rattle.wasm_sections.specs.declared.changes.Changes.{Changes}
 use Rattle.wasm_sections.specs.declared.omissions.OmittedSections.{OmittedSections}
 use Rattle.wasm_sections.specs.Omissions.{OmitsNothing, texts_of, has_name, names_debug, names_source_map}
 use Rattle.wasm_sections.specs.declared.code.Bodies.{Bodies}
 use Rattle.wasm_sections.specs.declared.code.Body.{Body}
 use Rattle.wasm_sections.specs.declared.fault.ModuleError.{ModuleError}
-use Rattle.wasm_sections.specs.CodeSections.{body_at, TakesBody}
+use Rattle.wasm_sections.specs.CodeSections.{BodyAt, body_at, TakesBody}
 use Rattle.wasm_module.specs.declared.parsed.ParsedModule.{ParsedModule}
 use Rattle.wasm_module.specs.declared.changing.kept_bodies.KeptBodies.{KeptBodies}
-use Rattle.wasm_module.specs.KeptCode.{IsKept, AreKeptAs}
-use Rattle.wasm_module.specs.RewrittenCode.{Extends, IsRewritten}
-use Rattle.wasm_module.specs.WrittenModules.{BodyWriting, IsWrittenModule}
+use Rattle.wasm_module.specs.KeptCode.{IsKept, AreKeptAs, kept_or}
+use Rattle.wasm_module.specs.RewrittenCode.{Extends, IsRewrittenWith}
+use Rattle.wasm_module.specs.WrittenModules.{BodyWriting, with_any_pairs, with_some_pairs, IsWrittenModule}
+use Rattle.wasm_module.specs.ToldModules.{module_told}
+use Rattle.wasm_module.specs.ToldBodies.{ToldBody}
 use Rattle.wasm_module.specs.AcceptedModules.{AcceptsBodies}
 use Rattle.wasm_module.specs.ReadFrom.{IsModuleOf}
 use Rattle.wasm_module.specs.Refusals.{IsRefusedBody}
 use Rattle.wasm_module.proofs.CheckedLemmas.{CheckedSoFar}
 use Rattle.wasm_module.proofs.PassedLemmas.{one_passed}
-use Rattle.wasm_module.proofs.RewritingLemmas.{rewritten_then}
-use Rattle.wasm_module.proofs.WriterLemmas.{module_as, kept_module}
+use Rattle.wasm_module.proofs.RewritingLemmas.{rewritten_with_then}
+use Rattle.wasm_module.proofs.WriterLemmas.{module_as, module_told_as, kept_module, kept_module_as, kept_told}
 use Rattle.wrewrite_c.specs.declared.options.Options.{Options}
 use Rattle.wrewrite_c.specs.declared.outcome.Named.{Named}
 use Rattle.wrewrite_c.specs.declared.outcome.Stop.{Stop}
 use Rattle.wrewrite_c.specs.declared.outcome.Stop.TheVariants.{Refused, NoFunction}
-use Rattle.wrewrite_c.specs.Made.{without_debug, without_all, LeavesOut, IsMadeFrom, IsMadeOf, IsSnippedFrom, IsSnippedOf, is_among, HasFunctions, AddsIndex}
+use Rattle.wrewrite_c.specs.Made.{without_debug, without_all, LeavesOut, lines_if, IsMadeAfter, IsMadeFrom, IsSnippedFrom, IsSnippedOf, is_among, HasFunctions, AddsIndex}
 use Rattle.wrewrite_c.specs.Outcomes.{IsMissingIn, LacksFunctionIn, LacksFunction, IsNamedFunction, IsNamedIn, IsOfFunction, IsOfBodies, IsOfCheck, IsAcceptedFrom}
 
 -- ---- what is left out
@@ -60,19 +63,24 @@ leaves_out wanted old new none e = subst (λ (o : OmittedSections). LeavesOut wa
 
 -- after nothing that was written before
 pub made_new :
-    {B : Type 0} (writes : B → BodyWriting) (a b : B) (parsed : ParsedModule) (changes : Changes) (omitted : OmittedSections) (wanted : Options) (old made : List ℕ) → b ≡ a →
-    changes.given.items ≡ [] → LeavesOut wanted omitted → old ≡ [] → (new : List ℕ) × IsWrittenModule (writes b) parsed changes omitted new × (made ≡ old ++ new) →
-    IsMadeFrom (writes a) parsed wanted made
-made_new writes a b parsed changes omitted wanted old made same none leaves empty w =
-    let here = subst (λ (x : _). IsWrittenModule (writes x) parsed changes omitted w.0) same w.1 in
-    let is_new : w.0 ≡ made = ap (λ (l : List ℕ). l ++ w.0) (sym empty) ∙ sym w.2 in
-    record {
+    {B : Type 0} (writes : B → BodyWriting) (a b : B) (parsed : ParsedModule) (changes : Changes) (omitted : OmittedSections) (wanted : Options) (old made old_lines made_lines : List ℕ) →
+    b ≡ a → changes.given.items ≡ [] → LeavesOut wanted omitted → old ≡ [] →
+    (new : List ℕ) × (w : IsWrittenModule (writes b) parsed changes omitted new) × (made ≡ old ++ new)
+    × (made_lines ≡ old_lines ++ lines_if wanted.has_map (module_told (writes b) parsed changes omitted new w)) →
+    IsMadeAfter (IsMadeFrom (writes a) parsed wanted) made old_lines made_lines
+made_new writes a b parsed changes omitted wanted old made old_lines made_lines same none leaves empty w =
+    let lines = lines_if wanted.has_map (module_told (writes b) parsed changes omitted w.0 w.1) in
+    let it : IsMadeFrom (writes b) parsed wanted w.0 lines = record {
       changes = changes;
       none_given = none;
       omitted = omitted;
       leaves_out = leaves;
-      is_written = subst (λ (l : List ℕ). IsWrittenModule (writes a) parsed changes omitted l) is_new here;
-    }
+      is_written = w.1;
+      lines_are = refl;
+    } in
+    let is_new : w.0 ≡ made = ap (λ (l : List ℕ). l ++ w.0) (sym empty) ∙ sym w.2 in
+    let here = subst (λ (x : _). IsMadeFrom (writes x) parsed wanted w.0 lines) same it in
+    (lines, w.3, subst (λ (l : List ℕ). IsMadeFrom (writes a) parsed wanted l lines) is_new here)
 
 on_ok : {A E P Q : Type 0} (r : Result A E) → (P → Q) → OnOk r P → OnOk r Q
 on_ok (Ok x) f p = f p
@@ -80,29 +88,65 @@ on_ok (Err e) f p = tt
 
 -- of a module that has changed since: what is written for it then is written for it as it was
 from_before :
-    (v w : BodyWriting) (parsed now : ParsedModule) (wanted : Options) (new : List ℕ) →
-    ((changes : Changes) (omitted : OmittedSections) → IsWrittenModule v now changes omitted new → IsWrittenModule w parsed changes omitted new) →
-    IsMadeFrom v now wanted new → IsMadeFrom w parsed wanted new
-from_before v w parsed now wanted new before h = record {
-  changes = h.changes;
-  none_given = h.none_given;
-  omitted = h.omitted;
-  leaves_out = h.leaves_out;
-  is_written = before h.changes h.omitted h.is_written;
-}
+    (v w : BodyWriting) (parsed now : ParsedModule) (wanted : Options) (new lines : List ℕ) →
+    ((changes : Changes) (omitted : OmittedSections) (h : IsWrittenModule v now changes omitted new) →
+    (m : IsWrittenModule w parsed changes omitted new) × (module_told w parsed changes omitted new m ≡ module_told v now changes omitted new h)) →
+    IsMadeFrom v now wanted new lines → IsMadeFrom w parsed wanted new lines
+from_before v w parsed now wanted new lines before h =
+    let m = before h.changes h.omitted h.is_written in
+    record {
+      changes = h.changes;
+      none_given = h.none_given;
+      omitted = h.omitted;
+      leaves_out = h.leaves_out;
+      is_written = m.0;
+      lines_are = h.lines_are ∙ sym (ap (lines_if wanted.has_map) m.1);
+    }
+
+-- the same lines are appended
+appended : (P Q : (new lines : List ℕ) → Type 0) (new old_lines new_lines : List ℕ) → ((lines : List ℕ) → P new lines → Q new lines) → IsMadeAfter P new old_lines new_lines → IsMadeAfter Q new old_lines new_lines
+appended P Q new old_lines new_lines f h = (h.0, h.1, f h.0 h.2)
 
 pub made_rewritten :
-    {A E : Type 0} (r : Result A E) (parsed now : ParsedModule) (wanted : Options) (new : List ℕ) → Extends parsed now →
-    OnOk r (IsMadeFrom IsRewritten now wanted new) → OnOk r (IsMadeFrom IsRewritten parsed wanted new)
-made_rewritten r parsed now wanted new x h =
-    on_ok r (from_before IsRewritten IsRewritten parsed now wanted new
-    (λ changes omitted w. module_as IsRewritten IsRewritten parsed now x (λ f b raw r. rewritten_then parsed now f b raw x r) changes omitted new w)) h
+    {A E : Type 0} (r : Result A E) (parsed now : ParsedModule) (wanted : Options) (new old_lines new_lines : List ℕ) → Extends parsed now →
+    OnOk r (IsMadeAfter (IsMadeFrom IsRewrittenWith now wanted) new old_lines new_lines) → OnOk r (IsMadeAfter (IsMadeFrom IsRewrittenWith parsed wanted) new old_lines new_lines)
+made_rewritten r parsed now wanted new old_lines new_lines x h =
+    let each = λ (f : ℕ) (b : BodyAt) (raw : List ℕ) (ps : List Pair) (r : IsRewrittenWith now f b raw ps). rewritten_with_then parsed now f b raw ps x r in
+    on_ok r (appended (IsMadeFrom IsRewrittenWith now wanted) (IsMadeFrom IsRewrittenWith parsed wanted) new old_lines new_lines (λ lines. from_before IsRewrittenWith IsRewrittenWith parsed now wanted new lines
+    (λ changes omitted w. (
+      module_as IsRewrittenWith IsRewrittenWith parsed now x each changes omitted new w,
+      module_told_as IsRewrittenWith IsRewrittenWith parsed now x each changes omitted new w,
+    )))) h
+
+no_lines : (has_map : Bool) (bodies others : List ToldBody) → has_map ≡ false → lines_if has_map bodies ≡ lines_if has_map others
+no_lines true bodies others e = absurd cc
+no_lines false bodies others e = refl
+
+-- with no map, of which bodies were kept
+pub made_once :
+    {A E : Type 0} (r : Result A E) (parsed now : ParsedModule) (kept : KeptBodies) (wanted : Options) (new old_lines new_lines : List ℕ) → wanted.has_map ≡ false → Extends parsed now →
+    AreKeptAs (with_some_pairs IsRewrittenWith) parsed kept → OnOk r (IsMadeAfter (IsMadeFrom (kept_or kept IsRewrittenWith) now wanted) new old_lines new_lines) →
+    OnOk r (IsMadeAfter (IsMadeFrom IsRewrittenWith parsed wanted) new old_lines new_lines)
+made_once r parsed now kept wanted new old_lines new_lines none x k h =
+    let before = λ (f : ℕ) (b : BodyAt) (raw : List ℕ) (ps : List Pair) (q : IsRewrittenWith now f b raw ps). rewritten_with_then parsed now f b raw ps x q in
+    on_ok r (appended (IsMadeFrom (kept_or kept IsRewrittenWith) now wanted) (IsMadeFrom IsRewrittenWith parsed wanted) new old_lines new_lines (λ lines m. record {
+      changes = m.changes;
+      none_given = m.none_given;
+      omitted = m.omitted;
+      leaves_out = m.leaves_out;
+      is_written = kept_module_as IsRewrittenWith parsed now kept x k before m.changes m.omitted new m.is_written;
+      lines_are = m.lines_are ∙ no_lines wanted.has_map _ _ none;
+    })) h
 
 pub made_of_kept :
-    {A E : Type 0} (r : Result A E) (writes : BodyWriting) (parsed now : ParsedModule) (kept : KeptBodies) (wanted : Options) (new : List ℕ) → Extends parsed now →
-    AreKeptAs writes parsed kept → OnOk r (IsMadeFrom (IsKept kept) now wanted new) → OnOk r (IsMadeFrom writes parsed wanted new)
-made_of_kept r writes parsed now kept wanted new x k h =
-    on_ok r (from_before (IsKept kept) writes parsed now wanted new (λ changes omitted w. kept_module writes parsed now kept changes omitted new x k w)) h
+    {A E : Type 0} (r : Result A E) (writes : ParsedModule → (function : ℕ) → BodyAt → (raw : List ℕ) → Type 0) (parsed now : ParsedModule) (kept : KeptBodies) (wanted : Options)
+    (new old_lines new_lines : List ℕ) → Extends parsed now → AreKeptAs writes parsed kept →
+    OnOk r (IsMadeAfter (IsMadeFrom (with_any_pairs (IsKept kept)) now wanted) new old_lines new_lines) →
+    OnOk r (IsMadeAfter (IsMadeFrom (with_any_pairs writes) parsed wanted) new old_lines new_lines)
+made_of_kept r writes parsed now kept wanted new old_lines new_lines x k h =
+    on_ok r (appended (IsMadeFrom (with_any_pairs (IsKept kept)) now wanted) (IsMadeFrom (with_any_pairs writes) parsed wanted) new old_lines new_lines
+    (λ lines. from_before (with_any_pairs (IsKept kept)) (with_any_pairs writes) parsed now wanted new lines
+    (λ changes omitted w. (kept_module writes parsed now kept changes omitted new x k w, kept_told writes parsed now kept changes omitted new x k w)))) h
 
 -- ---- functions that are added, one after the other
 
@@ -151,15 +195,11 @@ pub if_lacks :
 if_lacks (Ok x) source parsed indices reads h = tt
 if_lacks (Err stop) source parsed indices reads h = lacks_of source parsed indices stop reads h
 
-pub made_of :
-    {A E : Type 0} (r : Result A E) (writes : BodyWriting) (source : List ℕ) (parsed : ParsedModule) (wanted : Options) (new : List ℕ) → IsModuleOf source parsed →
-    OnOk r (IsMadeFrom writes parsed wanted new) → OnOk r (IsMadeOf writes source wanted new)
-made_of r writes source parsed wanted new reads h = on_ok r (λ m. record { parsed = parsed; reads = reads; is_made = m }) h
-
 pub snipped_of :
-    {A E : Type 0} (r : Result A E) (indices source : List ℕ) (parsed : ParsedModule) (wanted : Options) (new : List ℕ) → IsModuleOf source parsed →
-    OnOk r (IsSnippedFrom indices parsed wanted new) → OnOk r (IsSnippedOf indices source wanted new)
-snipped_of r indices source parsed wanted new reads h = on_ok r (λ m. (parsed, reads, m)) h
+    {A E : Type 0} (r : Result A E) (indices source : List ℕ) (parsed : ParsedModule) (wanted : Options) (new old_lines new_lines : List ℕ) → IsModuleOf source parsed →
+    OnOk r (IsMadeAfter (IsSnippedFrom indices parsed wanted) new old_lines new_lines) → OnOk r (IsMadeAfter (IsSnippedOf indices source wanted) new old_lines new_lines)
+snipped_of r indices source parsed wanted new old_lines new_lines reads h =
+    on_ok r (appended (IsSnippedFrom indices parsed wanted) (IsSnippedOf indices source wanted) new old_lines new_lines (λ lines m. (parsed, reads, m))) h
 
 -- ---- functions with names
 

@@ -111,12 +111,12 @@ IsOfNamed Several o = (o.status ≡ 2) × (o.function ≡ no_index)
 
 -- ---- calls
 
--- A call makes a module, as is said of its bytes, and the lines of a map, if one is wanted; or stops, for a reason that may come.
-pub data Ends (IsMade : List ℕ → Type 0) (has_map : Bool) (MayStop : Stop → Type 0) (out out' map map' : List ℕ) (o : Outcome) : Type 0 where
+-- A call makes a module, as is said of its bytes and the lines of its map; or stops, for a reason that may come.
+pub data Ends (IsMade : (bytes lines : List ℕ) → Type 0) (MayStop : Stop → Type 0) (out out' map map' : List ℕ) (o : Outcome) : Type 0 where
   made :
-      (bytes lines : List ℕ) → IsMade bytes → (has_map ≡ false → lines ≡ []) → IsDelivered bytes lines out out' map map' o →
-      Ends IsMade has_map MayStop out out' map map' o
-  stopped : (stop : Stop) → MayStop stop → IsStopped stop o → HasSizes 0 0 o → out' ≡ out → map' ≡ map → Ends IsMade has_map MayStop out out' map map' o
+      (bytes lines : List ℕ) → IsMade bytes lines → IsDelivered bytes lines out out' map map' o →
+      Ends IsMade MayStop out out' map map' o
+  stopped : (stop : Stop) → MayStop stop → IsStopped stop o → HasSizes 0 0 o → out' ≡ out → map' ≡ map → Ends IsMade MayStop out out' map map' o
 
 -- The module isn't read, since memory ran out, or for the first fault of what its bytes spell.
 abbrev pub IsNotRead : (source : List ℕ) → Stop → Type 0

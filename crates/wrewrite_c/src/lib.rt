@@ -4,7 +4,7 @@
 #![tactic(auto)]
 
 ghost use Rattle.std.specs.Prelude.{◌≡◌};
-ghost use Rattle.wasm_module.specs.RewrittenCode.{IsRewritten};
+ghost use Rattle.wasm_module.specs.RewrittenCode.{IsRewrittenWith};
 ghost use Rattle.wrewrite_c.specs.Made.{IsMadeOf, IsSnippedOf};
 ghost use Rattle.wrewrite_c.specs.Outcomes.{Asks, Ends, IsOfModule, LacksFunction, IsChecked, IsFound};
 
@@ -36,7 +36,7 @@ pub extern "C" fn wrewrite_version() -> u32
 
 /// Rewrites a module as is wanted.
 fn rewrite(alloc: Global, source: &[u8], wanted: Options, out: &mut [u8], map: &mut [u8]) -> Outcome
-    ensures { Ends (IsMadeOf IsRewritten source.now wanted) wanted.has_map IsOfModule
+    ensures { Ends (IsMadeOf IsRewrittenWith source.now wanted) IsOfModule
         out.old out.new map.old map.new result }
 {
     let mut made = Made::new(alloc);
@@ -55,7 +55,7 @@ fn snip(
     out: &mut [u8],
     map: &mut [u8],
 ) -> Outcome
-    ensures { Ends (IsSnippedOf functions.now source.now wanted) wanted.has_map
+    ensures { Ends (IsSnippedOf functions.now source.now wanted)
         (LacksFunction functions.now source.now) out.old out.new map.old map.new result }
 {
     let mut made = Made::new(alloc);
@@ -76,8 +76,8 @@ pub extern "C" fn wrewrite_raw_rewrite(
     out: &mut [u8],
     map: &mut [u8],
 ) -> Outcome
-    ensures { Asks options.now (λ wanted. Ends (IsMadeOf IsRewritten source.now wanted)
-        wanted.has_map IsOfModule out.old out.new map.old map.new result)
+    ensures { Asks options.now (λ wanted. Ends (IsMadeOf IsRewrittenWith source.now wanted)
+        IsOfModule out.old out.new map.old map.new result)
         out.old out.new map.old map.new result }
 {
     match Options::read(options) {
@@ -98,7 +98,7 @@ pub extern "C" fn wrewrite_raw_snip(
     map: &mut [u8],
 ) -> Outcome
     ensures { Asks options.now (λ wanted. Ends (IsSnippedOf functions.now source.now wanted)
-        wanted.has_map (LacksFunction functions.now source.now)
+        (LacksFunction functions.now source.now)
         out.old out.new map.old map.new result) out.old out.new map.old map.new result }
 {
     match Options::read(options) {

@@ -4,9 +4,10 @@ ghost use Rattle.std.specs.Prelude.{◌≡◌, ◌++◌, ℕ, List, [], false, O
 ghost use Rattle.std.specs.HashSet.{IsEmpty};
 ghost use Rattle.module_tools.specs.FunctionChanges.{Snips};
 ghost use Rattle.wasm_sections.specs.Omissions.{OmitsNothing};
-ghost use Rattle.wasm_module.specs.RewrittenCode.{IsRewritten, IsChanged, keeps_locals};
-ghost use Rattle.wasm_module.specs.WrittenModules.{new_contents_in, IsWrittenModule};
-ghost use Rattle.wrewrite_c.specs.Made.{IsMadeFrom, IsMadeOf, IsSnippedFrom, IsSnippedOf, HasFunctions, AddsIndex};
+ghost use Rattle.wasm_module.specs.RewrittenCode.{IsRewrittenWith, IsChanged, keeps_locals};
+ghost use Rattle.wasm_module.specs.ToldModules.{module_told};
+ghost use Rattle.wasm_module.specs.WrittenModules.{with_any_pairs, new_contents_in, IsWrittenModule};
+ghost use Rattle.wrewrite_c.specs.Made.{lines_if, IsMadeAfter, IsMadeFrom, IsMadeOf, IsSnippedFrom, IsSnippedOf, HasFunctions, AddsIndex};
 ghost use Rattle.wrewrite_c.specs.Outcomes.{IsOfModule, IsMissing, IsMissingIn, LacksFunctionIn, LacksFunction};
 
 use crate::made::Made;
@@ -19,7 +20,7 @@ use module_tools::function_at;
 use std::alloc::Global;
 use walrus_ir::{FunctionId, IdHashSet};
 use wasm_module::{
-    BodyWriter, ModuleError, ModuleFault, ParsedModule, RewrittenModule, WriteError,
+    BodyWriter, ModuleError, ModuleFault, ParsedModule, Rewriting, RewrittenModule, WriteError,
 };
 
 /// The error of a module that isn't written into memory.
@@ -54,9 +55,12 @@ fn write_made<B: BodyWriter>(
     made: &mut Made,
 ) -> Result<(), WriteError>
     ensures written { OnOk result ((new : List ℕ)
-        × IsWrittenModule (B.writes rewritten.now.bodies) parsed.old rewritten.now.changes
-        rewritten.now.omitted new
-        × (made.new.bytes.items ≡ made.old.bytes.items ++ new)) }
+        × (w : IsWrittenModule (B.writes rewritten.now.bodies) parsed.old rewritten.now.changes
+        rewritten.now.omitted new)
+        × (made.new.bytes.items ≡ made.old.bytes.items ++ new)
+        × (made.new.lines.items ≡ made.old.lines.items
+        ++ lines_if has_map (module_told (B.writes rewritten.now.bodies) parsed.old
+        rewritten.now.changes rewritten.now.omitted new w))) }
     ensures no_map { has_map ≡ false → made.new.lines.items ≡ made.old.lines.items }
 {
     match has_map {
@@ -75,8 +79,9 @@ fn finish<B: BodyWriter>(
     requires none_given { new_contents_in rewritten.old ≡ [] }
     requires none_omitted { OmitsNothing rewritten.old.omitted }
     requires empty { made.old.bytes.items ≡ [] }
-    ensures written { OnOk result (IsMadeFrom (B.writes rewritten.old.bodies) parsed.old
-        wanted made.new.bytes.items) }
+    ensures written { OnOk result (IsMadeAfter
+        (IsMadeFrom (B.writes rewritten.old.bodies) parsed.old wanted)
+        made.new.bytes.items made.old.lines.items made.new.lines.items) }
     ensures no_map { wanted.has_map ≡ false → made.new.lines.items ≡ made.old.lines.items }
 {
     strip(rewritten, wanted);
@@ -87,6 +92,47 @@ fn finish<B: BodyWriter>(
     }
 }
 
+/// Rewrites a module that was read, of which no location map is wanted: bodies are written as they were
+/// kept.
+fn rewrite_once(
+    parsed: &mut ParsedModule<'_>,
+    wanted: Options,
+    made: &mut Made,
+) -> Result<(), ModuleError>
+    requires empty { made.old.bytes.items ≡ [] }
+    requires has_none { wanted.has_map ≡ false }
+    ensures written { OnOk result (IsMadeAfter (IsMadeFrom IsRewrittenWith parsed.old wanted)
+        made.new.bytes.items made.old.lines.items made.new.lines.items) }
+    ensures no_map { wanted.has_map ≡ false → made.new.lines.items ≡ made.old.lines.items }
+{
+    match parsed.rewrite_all() {
+        Ok(mut rewritten) => finish(parsed, &mut rewritten, wanted, made),
+        Err(error) => Err(error),
+    }
+}
+
+/// Rewrites a module that was read, and all bodies once more when they are written, for their location
+/// pairs.
+fn rewrite_twice(
+    parsed: &mut ParsedModule<'_>,
+    wanted: Options,
+    made: &mut Made,
+) -> Result<(), ModuleError>
+    requires { made.old.bytes.items ≡ [] }
+    ensures written { OnOk result (IsMadeAfter (IsMadeFrom IsRewrittenWith parsed.old wanted)
+        made.new.bytes.items made.old.lines.items made.new.lines.items) }
+    ensures no_map { wanted.has_map ≡ false → made.new.lines.items ≡ made.old.lines.items }
+{
+    match parsed.rewrite_all() {
+        Ok(rewritten) => {
+            let (_kept, rest) = rewritten.take_bodies();
+            let mut rewritten = rest.with_bodies(Rewriting);
+            finish(parsed, &mut rewritten, wanted, made)
+        }
+        Err(error) => Err(error),
+    }
+}
+
 /// Rewrites a module that was read.
 fn rewrite_parsed(
     parsed: &mut ParsedModule<'_>,
@@ -94,12 +140,13 @@ fn rewrite_parsed(
     made: &mut Made,
 ) -> Result<(), ModuleError>
     requires { made.old.bytes.items ≡ [] }
-    ensures written { OnOk result (IsMadeFrom IsRewritten parsed.old wanted made.new.bytes.items) }
+    ensures written { OnOk result (IsMadeAfter (IsMadeFrom IsRewrittenWith parsed.old wanted)
+        made.new.bytes.items made.old.lines.items made.new.lines.items) }
     ensures no_map { wanted.has_map ≡ false → made.new.lines.items ≡ made.old.lines.items }
 {
-    match parsed.rewrite_all() {
-        Ok(mut rewritten) => finish(parsed, &mut rewritten, wanted, made),
-        Err(error) => Err(error),
+    match wanted.has_map {
+        true => rewrite_twice(parsed, wanted, made),
+        false => rewrite_once(parsed, wanted, made),
     }
 }
 
@@ -111,8 +158,8 @@ pub(crate) fn rewrite(
     made: &mut Made,
 ) -> Result<(), Stop>
     requires { made.old.bytes.items ≡ [] }
-    ensures written { OnOk result (IsMadeOf IsRewritten source.now
-        wanted made.new.bytes.items) }
+    ensures written { OnOk result (IsMadeAfter (IsMadeOf IsRewrittenWith source.now wanted)
+        made.new.bytes.items made.old.lines.items made.new.lines.items) }
     ensures no_map { wanted.has_map ≡ false → made.new.lines.items ≡ made.old.lines.items }
     ensures stops { IfErr result IsOfModule }
 {
@@ -188,8 +235,9 @@ fn snip_functions(
     made: &mut Made,
 ) -> Result<(), ModuleError>
     requires { made.old.bytes.items ≡ [] }
-    ensures written { OnOk result (IsMadeFrom (IsChanged (keeps_locals (Snips functions)))
-        parsed.old wanted made.new.bytes.items) }
+    ensures written { OnOk result (IsMadeAfter
+        (IsMadeFrom (with_any_pairs (IsChanged (keeps_locals (Snips functions)))) parsed.old wanted)
+        made.new.bytes.items made.old.lines.items made.new.lines.items) }
     ensures no_map { wanted.has_map ≡ false → made.new.lines.items ≡ made.old.lines.items }
 {
     match module_tools::snip(alloc, parsed, functions) {
@@ -207,8 +255,8 @@ fn snip_parsed(
     made: &mut Made,
 ) -> Result<(), Stop>
     requires { made.old.bytes.items ≡ [] }
-    ensures written { OnOk result (IsSnippedFrom indices.now parsed.old wanted
-        made.new.bytes.items) }
+    ensures written { OnOk result (IsMadeAfter (IsSnippedFrom indices.now parsed.old wanted)
+        made.new.bytes.items made.old.lines.items made.new.lines.items) }
     ensures no_map { wanted.has_map ≡ false → made.new.lines.items ≡ made.old.lines.items }
     ensures stops { IfErr result (LacksFunctionIn parsed.old indices.now) }
 {
@@ -231,8 +279,8 @@ pub(crate) fn snip(
     made: &mut Made,
 ) -> Result<(), Stop>
     requires { made.old.bytes.items ≡ [] }
-    ensures written { OnOk result (IsSnippedOf indices.now source.now
-        wanted made.new.bytes.items) }
+    ensures written { OnOk result (IsMadeAfter (IsSnippedOf indices.now source.now wanted)
+        made.new.bytes.items made.old.lines.items made.new.lines.items) }
     ensures no_map { wanted.has_map ≡ false → made.new.lines.items ≡ made.old.lines.items }
     ensures stops { IfErr result (LacksFunction indices.now source.now) }
 {

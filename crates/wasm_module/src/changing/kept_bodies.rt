@@ -1,9 +1,7 @@
 //! Bodies that are kept from the first pass over a module to the second, as they are written.
 
-ghost use Rattle.std.specs.Prelude.{◌≡◌, ◌+◌, ◌∷◌, ◌++◌, [], length, OnOk, IfOk, IfSome};
-ghost use Rattle.wasm_module.specs.declared.parsed.ParsedModule.{ParsedModule as Parsed};
-ghost use Rattle.wasm_sections.specs.CodeSections.{body_at};
-ghost use Rattle.wasm_module.specs.KeptCode.{bodies_in, raws_in, IsKept};
+ghost use Rattle.std.specs.Prelude.{◌≡◌, ◌+◌, ◌≤◌, length};
+ghost use Rattle.wasm_module.specs.KeptParts.{AreWithin};
 
 use crate::bodies::Scratch;
 use crate::body_writer::{BodyWriter, Needed};
@@ -15,26 +13,49 @@ use wasm_encode::write_number;
 use wasm_ops::read_u64;
 use wasm_sections::{Body, ModuleError, ModuleFault};
 
-/// What is written for a body of the source.
-#[derive(Drop)]
-struct KeptBody<'a> {
-    source: Body<'a>,
-    /// The raw body.
-    raw: Vec<u8>,
-    /// Its location pairs, packed.
-    pairs: Vec<u8>,
+/// A part of a list of bytes: from this place up to that one.
+#[derive(Clone, Copy)]
+struct Part {
+    from: usize,
+    to: usize,
 }
 
-/// The bodies of a module as they are written, each with its location pairs. They take the memory of
-/// their bytes, and some two bytes more for each operator.
+/// Where that is which is kept for a body of the source.
+#[derive(Clone, Copy)]
+struct KeptBody<'a> {
+    /// The place of its first byte in the source.
+    start: usize,
+    /// Its bytes in the source.
+    bytes: &'a [u8],
+    /// The raw body that is written for it, in the list of all.
+    raw: Part,
+    /// The location pairs of that, packed, in the list of all; nothing if they aren't kept.
+    pairs: Part,
+}
+
+/// What is kept for a body.
+#[derive(Clone, Copy)]
+pub(crate) struct KeptBytes<'k> {
+    /// The raw body.
+    pub raw: &'k [u8],
+    /// Its location pairs, packed; nothing if they aren't kept.
+    pub pairs: &'k [u8],
+}
+
+/// The bodies of a module as they are written, each with its location pairs, if these are kept. They
+/// take the memory of their bytes, some two bytes more for each operator with pairs, and 56 bytes for
+/// each body.
 #[derive(Drop)]
 pub struct KeptBodies<'a> {
     /// The index of the first function with a body.
     first: usize,
     /// That of each function from there on.
     bodies: Vec<KeptBody<'a>>,
-    /// Memory for the pairs of one body after the other.
-    packed: Vec<u8>,
+    /// The raw bodies, one after the other.
+    raws: Vec<u8>,
+    /// Their packed location pairs, likewise.
+    pairs: Vec<u8>,
+    ghost within: { AreWithin (length raws.items) bodies.items },
 }
 
 /// Appends location pairs in few bytes: their number, and then of each how far its place is from
@@ -98,24 +119,45 @@ fn unpack(packed: &[u8], pairs: &mut Vec<(InstrLocId, usize)>) -> Result<(), All
 }
 
 impl<'a> KeptBodies<'a> {
-    /// None, of a module whose first function with a body has this index; with room for so many.
+    ghost use Rattle.std.specs.Prelude.{◌∷◌, ◌++◌, [], true, OnOk, IfOk, IfSome};
+    ghost use Rattle.wasm_module.specs.declared.parsed.ParsedModule.{ParsedModule as Parsed};
+    ghost use Rattle.wasm_sections.specs.CodeSections.{body_at};
+    ghost use Rattle.wasm_module.specs.KeptCode.{bodies_in, raws_in, raw_in, IsKept};
+
+    /// None, of a module whose first function with a body has this index. It allocates nothing.
+    pub(crate) fn none(alloc: Global, first: usize) -> KeptBodies<'a>
+        ensures first { result.first ≡ first }
+        ensures none { result.bodies.items ≡ [] }
+    {
+        KeptBodies {
+            first,
+            bodies: Vec::new(alloc),
+            raws: Vec::new(alloc),
+            pairs: Vec::new(alloc),
+        }
+    }
+
+    /// The same, with room for so many bodies and so many bytes of them.
     ///
     /// # Errors
     ///
-    /// `Memory`.
-    pub(crate) fn new(
+    /// Out of memory.
+    pub(crate) fn with_room(
         alloc: Global,
         first: usize,
         count: usize,
-    ) -> Result<KeptBodies<'a>, ModuleError>
+        len: usize,
+    ) -> Result<KeptBodies<'a>, AllocError>
         ensures first { IfOk result (λ kept. kept.first ≡ first) }
         ensures none { IfOk result (λ kept. kept.bodies.items ≡ []) }
     {
         let bodies = Vec::with_capacity(alloc, count)?;
+        let raws = Vec::with_capacity(alloc, len)?;
         Ok(KeptBodies {
             first,
             bodies,
-            packed: Vec::new(alloc),
+            raws,
+            pairs: Vec::new(alloc),
         })
     }
 
@@ -126,37 +168,105 @@ impl<'a> KeptBodies<'a> {
         self.bodies.len()
     }
 
-    /// Keeps what was written for a body, the next one.
+    /// How many bytes the raw bodies have.
+    pub(crate) fn byte_len(&self) -> usize {
+        self.raws.len()
+    }
+
+    /// Whether the next body that is kept is that of this function.
+    pub(crate) fn is_next(&self, func: usize) -> bool
+        ensures { result ≡ true → func ≡ self.now.first + length self.now.bodies.items }
+    {
+        self.first.checked_add(self.bodies.len()) == Some(func)
+    }
+
+    /// Keeps what is written for a body, the next one: this raw body, and location pairs of that kind.
+    fn keep_raw(&mut self, source: Body<'a>, raw: &[u8], pairs: Part) -> Result<(), AllocError>
+        ensures first { OnOk result (self.new.first ≡ self.old.first) }
+        ensures bodies { OnOk result (bodies_in self.new.bodies.items
+            ≡ bodies_in self.old.bodies.items ++ body_at source.entry ∷ []) }
+        ensures raws { OnOk result (raws_in self.new.raws.items self.new.bodies.items
+            ≡ raws_in self.old.raws.items self.old.bodies.items ++ raw.now ∷ []) }
+        ensures len { OnOk result (length self.new.bodies.items
+            ≡ length self.old.bodies.items + 1) }
+    {
+        let from = self.raws.len();
+        self.raws.extend_from_slice(raw)?;
+        let to = self.raws.len();
+        self.bodies.push(KeptBody {
+            start: source.start(),
+            bytes: source.bytes(),
+            raw: Part { from, to },
+            pairs,
+        })?;
+        Ok(())
+    }
+
+    /// Keeps the raw body that is written for a body, the next one, without its location pairs.
     ///
     /// # Errors
     ///
     /// Out of memory.
-    pub(crate) fn keep(
+    pub(crate) fn keep_bytes(&mut self, source: Body<'a>, raw: &[u8]) -> Result<(), AllocError>
+        ensures first { OnOk result (self.new.first ≡ self.old.first) }
+        ensures bodies { OnOk result (bodies_in self.new.bodies.items
+            ≡ bodies_in self.old.bodies.items ++ body_at source.entry ∷ []) }
+        ensures raws { OnOk result (raws_in self.new.raws.items self.new.bodies.items
+            ≡ raws_in self.old.raws.items self.old.bodies.items ++ raw.now ∷ []) }
+        ensures len { OnOk result (length self.new.bodies.items
+            ≡ length self.old.bodies.items + 1) }
+    {
+        let end = self.pairs.len();
+        self.keep_raw(source, raw, Part { from: end, to: end })
+    }
+
+    /// Keeps what was written for a body, the next one, with its location pairs.
+    ///
+    /// # Errors
+    ///
+    /// Out of memory.
+    pub(crate) fn keep(&mut self, source: Body<'a>, scratch: &Scratch) -> Result<(), AllocError>
+        ensures first { OnOk result (self.new.first ≡ self.old.first) }
+        ensures bodies { OnOk result (bodies_in self.new.bodies.items
+            ≡ bodies_in self.old.bodies.items ++ body_at source.entry ∷ []) }
+        ensures raws { OnOk result (raws_in self.new.raws.items self.new.bodies.items
+            ≡ raws_in self.old.raws.items self.old.bodies.items ++ scratch.now.raw.items ∷ []) }
+        ensures len { OnOk result (length self.new.bodies.items
+            ≡ length self.old.bodies.items + 1) }
+    {
+        let from = self.pairs.len();
+        pack(&scratch.pairs, &mut self.pairs)?;
+        let to = self.pairs.len();
+        self.keep_raw(source, &scratch.raw, Part { from, to })
+    }
+
+    /// The same; the location pairs only if they are wanted.
+    ///
+    /// # Errors
+    ///
+    /// Out of memory.
+    pub(crate) fn keep_with(
         &mut self,
-        alloc: Global,
         source: Body<'a>,
         scratch: &Scratch,
+        has_pairs: bool,
     ) -> Result<(), AllocError>
         ensures first { OnOk result (self.new.first ≡ self.old.first) }
         ensures bodies { OnOk result (bodies_in self.new.bodies.items
             ≡ bodies_in self.old.bodies.items ++ body_at source.entry ∷ []) }
-        ensures raws { OnOk result (raws_in self.new.bodies.items
-            ≡ raws_in self.old.bodies.items ++ scratch.now.raw.items ∷ []) }
-        ensures len { OnOk result (length self.new.bodies.items
-            ≡ length self.old.bodies.items + 1) }
+        ensures raws { OnOk result (raws_in self.new.raws.items self.new.bodies.items
+            ≡ raws_in self.old.raws.items self.old.bodies.items ++ scratch.now.raw.items ∷ []) }
     {
-        self.packed.clear();
-        pack(&scratch.pairs, &mut self.packed)?;
-        let raw = Vec::from_slice(alloc, &scratch.raw)?;
-        let pairs = Vec::from_slice(alloc, &self.packed)?;
-        self.bodies.push(KeptBody { source, raw, pairs })?;
-        Ok(())
+        match has_pairs {
+            true => self.keep(source, scratch),
+            false => self.keep_bytes(source, &scratch.raw),
+        }
     }
 
-    /// What is kept for this body, if something is.
-    fn kept_for(&self, body: Body<'_>) -> Option<&KeptBody<'a>>
+    /// Where that is which is kept for this body, if something is.
+    fn find(&self, body: Body<'_>) -> Option<KeptBody<'a>>
         ensures { (source : Parsed) → IfSome result (λ kept. IsKept self.now source
-            body.entry.func (body_at body.entry) kept.now.raw.items) }
+            body.entry.func (body_at body.entry) (raw_in self.now.raws.items kept)) }
     {
         let Some(at) = body.func.checked_sub(self.first) else {
             return None;
@@ -164,21 +274,67 @@ impl<'a> KeptBodies<'a> {
         let Some(kept) = self.bodies.get(at) else {
             return None;
         };
-        let source = kept.source;
-        if source.start() != body.start() {
+        if kept.start != body.start() {
             return None;
         }
-        if source.bytes() != body.bytes() {
+        if kept.bytes != body.bytes() {
             return None;
         }
-        Some(kept)
+        Some(*kept)
+    }
+
+    /// What is kept for this body, if something is.
+    pub(crate) fn kept_for(&self, body: Body<'_>) -> Option<KeptBytes<'_>>
+        ensures { (source : Parsed) → IfSome result (λ kept. IsKept self.now source
+            body.entry.func (body_at body.entry) kept.raw.now) }
+    {
+        let kept = self.find(body)?;
+        let raw = self.raws.get(kept.raw.from..kept.raw.to)?;
+        let pairs = self.pairs.get(kept.pairs.from..kept.pairs.to)?;
+        Some(KeptBytes { raw, pairs })
+    }
+
+    /// Puts what is kept for a body into the scratch, with its location pairs if they are needed.
+    /// Returns whether it did: not if it isn't kept, or if its pairs are needed and aren't.
+    ///
+    /// # Errors
+    ///
+    /// `Memory`.
+    pub(crate) fn put(
+        &self,
+        body: Body<'_>,
+        needs_pairs: bool,
+        scratch: &mut Scratch,
+    ) -> Result<bool, ModuleError>
+        ensures { (source : Parsed) → IfOk result (λ is_put. is_put ≡ true → IsKept self.now source
+            body.entry.func (body_at body.entry) scratch.new.raw.items) }
+    {
+        let Some(kept) = self.kept_for(body) else {
+            return Ok(false);
+        };
+        if needs_pairs && kept.pairs.is_empty() {
+            return Ok(false);
+        }
+        let Scratch { raw, pairs, .. } = scratch;
+        pairs.clear();
+        if needs_pairs {
+            unpack(kept.pairs, pairs)?;
+        }
+        raw.clear();
+        raw.extend_from_slice(kept.raw)?;
+        Ok(true)
     }
 }
 
 /// Each body is written as it is kept. One that isn't kept, of another module than the one that was
 /// changed, has the fault `BodyCount`.
 impl BodyWriter for KeptBodies<'_> {
-    ghost writes = { IsKept };
+    ghost use Rattle.wasm_module.specs.KeptCode.{IsKept};
+    ghost use Rattle.wasm_module.specs.WrittenModules.{with_any_pairs};
+
+    ghost writes = { λ kept. with_any_pairs (IsKept kept) };
+
+    ghost returns = { λ kept source function b made. ⊥ };
 
     fn write_body<'a>(
         &self,
@@ -188,19 +344,12 @@ impl BodyWriter for KeptBodies<'_> {
         scratch: &mut Scratch,
     ) -> Result<Option<LocalFunction>, ModuleError> {
         let _ = parsed;
-        let Some(kept) = self.kept_for(body) else {
-            return Err(ModuleError {
+        match self.put(body, needed != Needed::Nothing, scratch)? {
+            true => Ok(None),
+            false => Err(ModuleError {
                 fault: ModuleFault::BodyCount,
                 at: body.start(),
-            });
-        };
-        let Scratch { raw, pairs, .. } = scratch;
-        pairs.clear();
-        if needed != Needed::Nothing {
-            unpack(&kept.pairs, pairs)?;
+            }),
         }
-        raw.clear();
-        raw.extend_from_slice(&kept.raw)?;
-        Ok(None)
     }
 }

@@ -8,4 +8,4 @@ both_entries none first second a name b url p q r s t = rw (t, s, p, q, r)
 
 pub returns-in-Ok-write_bytes : goal.returns-in-Ok-write_bytes
 returns-in-Ok-write_bytes c =
-    both_entries _ _ _ _ _ _ _ c.new-contents.ensures.items c.as_bytes.ensures.value c.as_bytes-2.ensures.value c.in-Ok.ensures c.in-Ok-write_bytes.ensures
+    both_entries _ _ _ _ _ _ _ c.new-contents.ensures.items c.as_bytes.ensures.value c.as_bytes-2.ensures.value c.in-Ok.ensures.written c.in-Ok-write_bytes.ensures.written

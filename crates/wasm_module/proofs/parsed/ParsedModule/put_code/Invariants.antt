@@ -8,5 +8,5 @@ abbrev pub invariant-bodies : goal.invariant-bodies
 invariant-bodies g l = record {
   extends : Extends l.fn.self l.self;
   so_far : (source : ParsedModule) → Extends source l.fn.self →
-      CodeSoFar (g.B.BodyWriter.writes l.rewritten.bodies) source l.section.contents.end l.initial.source.left.rest.now l.source l.counter (l.count + l.more) (g.W.Write.contents l.fn.out) (g.W.Write.contents l.out) l.at l.end;
+      CodeSoFar (g.B.BodyWriter.writes l.rewritten.bodies) source g.T.MapSink.records g.T.MapSink.needs l.section.contents.end l.initial.source.left.rest.now l.source l.counter (l.count + l.more) (g.W.Write.contents l.fn.out) (g.W.Write.contents l.out) l.at l.end l.fn.sink l.sink;
 }

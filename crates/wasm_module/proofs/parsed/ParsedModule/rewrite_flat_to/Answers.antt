@@ -1,8 +1,8 @@
-use Rattle.std.proofs.Common.{[], refl}
+use Rattle.std.proofs.Common.{refl}
 use Rattle.wasm_sections.specs.CodeSections.{body_at}
 use Rattle.wasm_module.proofs.ModuleLemmas.{extends_kept}
 use Rattle.wasm_module.proofs.RefusalLemmas.{not_rewritten_flat}
-use Rattle.wasm_module.proofs.RewritingLemmas.{enters_kept, rewritten_flat}
+use Rattle.wasm_module.proofs.RewritingLemmas.{enters_kept, rewritten_flat_to}
 use Rattle.wasm_module.proofs.parsed.ParsedModule.rewrite_flat_to.Goals as goal
 
 pub returns-in-Ok-clause-extends : goal.returns-in-Ok-clause-extends
@@ -16,12 +16,11 @@ returns-clause-extends g c =
 pub returns-in-Ok-clause-rewritten : goal.returns-in-Ok-clause-rewritten
 returns-in-Ok-clause-rewritten g c =
     let made = c.in_ok-ty.field-0 in
-    let h = c.in-Ok.ensures.rewritten in (
-      h.0,
-      (rewritten_flat c.args.self.now c.enter.new.self c.args.body.func (body_at c.args.body) made.ty c.local_lists-lists.result c.as_slice.result.now made.args.items made.locals made.body [] h.0.bytes
-          c.in_ok-ty.ensures.enters c.local_lists-lists.ensures c.as_slice.ensures.value refl h.2.rewrites).0,
-      h.1,
-    )
+    let h = c.in-Ok.ensures.rewritten in
+    let r =
+    rewritten_flat_to c.args.self.now c.enter.new.self c.args.body.func (body_at c.args.body) made.ty c.local_lists-lists.result c.as_slice.result.now made.args.items made.locals made.body c.args.needs_pairs h.0
+    c.in_ok-ty.ensures.enters c.local_lists-lists.ensures c.as_slice.ensures.value h.2 in
+    (h.0, r.0, r.1, r.2, h.1)
 
 pub returns-clause-refused : goal.returns-clause-refused
 returns-clause-refused g c =

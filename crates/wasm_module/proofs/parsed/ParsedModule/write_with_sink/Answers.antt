@@ -12,8 +12,8 @@ sections-init g c =
     record {
       extends = extends_same c.args.self.now;
       so_far =
-          no_sections (g.B.BodyWriter.writes c.args.rewritten.now.bodies) c.args.self.now c.args.rewritten.now.changes c.args.rewritten.now.omitted first.left.end first.left.rest.now first
-          (contents c.args.out.now) (contents c.put.new.out) (contents c.put_new_after.new.out) 0 c.in_ok-begin.begin c.in_ok-end.end _ refl refl refl c.in_ok-begin.ensures c.in_ok-end.ensures;
+          no_sections (g.B.BodyWriter.writes c.args.rewritten.now.bodies) c.args.self.now g.T.MapSink.records g.T.MapSink.needs c.args.rewritten.now.changes c.args.rewritten.now.omitted first.left.end first.left.rest.now first
+          (contents c.args.out.now) (contents c.put.new.out) (contents c.put_new_after.new.out) 0 c.in_ok-begin.begin c.in_ok-end.end _ c.args.sink.now refl refl refl c.in_ok-begin.ensures c.in_ok-end.ensures.written c.in_ok-end.ensures.fits;
     }
 
 pub sections-preserved : goal.sections-preserved
@@ -24,9 +24,9 @@ sections-preserved g c =
     record {
       extends = extends_then c.args.self.now at.self c.put_with_new.new.self at.invariant.extends c.in_ok-end-2.ensures.extends;
       so_far =
-          one_more_section (g.B.BodyWriter.writes c.args.rewritten.now.bodies) c.args.self.now c.args.rewritten.now.changes c.args.rewritten.now.omitted first.left.end first.left.rest.now
+          one_more_section (g.B.BodyWriter.writes c.args.rewritten.now.bodies) c.args.self.now g.T.MapSink.records g.T.MapSink.needs c.args.rewritten.now.changes c.args.rewritten.now.omitted first.left.end first.left.rest.now
           at.section-iterator c.next.new.self c.next.result c.in_ok-section.section (contents c.args.out.now) (contents at.out) (contents c.put_with_new.new.out) 0 at.end
-          c.in_ok-end-2.end at.invariant.so_far (c.in-Some.is ∙ ap (λ (r : _). Some r) c.in_ok-section.was) c.next.ensures.steps
+          c.in_ok-end-2.end c.args.sink.now at.sink c.put_with_new.new.sink at.invariant.so_far (c.in-Some.is ∙ ap (λ (r : _). Some r) c.in_ok-section.was) c.next.ensures.steps
           (λ all m.
           c.in_ok-end-2.ensures.written c.args.self.now all at.invariant.extends (subst (λ (l : List ℕ). IsModule l all) (sym at.invariant.extends.bytes) m));
     }
@@ -34,6 +34,8 @@ sections-preserved g c =
 pub returns-clause-written : goal.returns-clause-written
 returns-clause-written g c =
     let writes = g.B.BodyWriter.writes c.args.rewritten.now.bodies in
+    let records = g.T.MapSink.records in
+    let needs = g.T.MapSink.needs in
     let changes = c.args.rewritten.now.changes in
     let left_out = c.args.rewritten.now.omitted in
     let old = g.W.Write.contents c.args.out.now in
@@ -45,5 +47,5 @@ returns-clause-written g c =
     let same = c.into_iter-section-iterator.ensures.into_iter_gives in
     let parts : file ≡ preamble ++ text = c.in_ok-section-items.ensures.rest ∙ ap (λ (s : Sections). preamble ++ s.left.rest.now) (sym same) in
     let stop : first.left.end ≡ length file = ap (λ (s : Sections). s.left.end) same ∙ c.in_ok-section-items.ensures.end in
-    let so_far = subst (λ (n : ℕ). ModuleSoFar writes c.args.self.now changes left_out n text at.section-iterator old new 0 at.end) stop at.invariant.so_far in
-    all_sections writes c.args.self.now changes left_out file text at.section-iterator c.next.new.self c.next.result old new 0 at.end c.bytes.ensures parts so_far c.in-None.is c.next.ensures.steps
+    let so_far = subst (λ (n : ℕ). ModuleSoFar writes c.args.self.now records needs changes left_out n text at.section-iterator old new 0 at.end c.args.sink.now at.sink) stop at.invariant.so_far in
+    all_sections writes c.args.self.now records needs changes left_out file text at.section-iterator c.next.new.self c.next.result old new at.end c.args.sink.now at.sink c.bytes.ensures parts so_far c.in-None.is c.next.ensures.steps

@@ -2,8 +2,9 @@ use Rattle.std.proofs.Common.{◌≡◌, List, ◌+◌, Some, length, slice_get,
 use Rattle.std.proofs.lemmas.Option.{slice_get_read}
 use Rattle.wasm_module.specs.declared.changing.kept_bodies.KeptBody.{KeptBody}
 use Rattle.wasm_sections.specs.CodeSections.{body_at, body_bytes, place_of}
+use Rattle.wasm_module.specs.KeptCode.{kept_source}
 use Rattle.wasm_module.proofs.KeptLemmas.{is_kept, same_body}
-use Rattle.wasm_module.proofs.changing.kept_bodies.KeptBodies.kept_for.Goals as goal
+use Rattle.wasm_module.proofs.changing.kept_bodies.KeptBodies.find.Goals as goal
 
 pub returns : goal.returns
 returns c = λ source.
@@ -16,6 +17,6 @@ returns c = λ source.
     let there : slice_get all at ≡ Some kept = slice_get_read all (length all) at kept refl look.3.0 look.1 in
     let found : slice_get c.args.self.now.bodies.items at ≡ Some kept =
     subst (λ (ks : List KeptBody). slice_get ks at ≡ Some kept) c.deref.ensures.value there in
-    let starts : place_of kept.source ≡ place_of b = search rules in
-    let bytes : body_bytes kept.source ≡ body_bytes b = search rules in
-    is_kept c.args.self.now source b.func (body_at b) at kept place found (same_body (body_at kept.source) (body_at b) starts bytes)
+    let starts : kept.start ≡ place_of b = search rules in
+    let bytes : kept.bytes.now ≡ body_bytes b = search rules in
+    is_kept c.args.self.now source b.func (body_at b) at kept place found (same_body (kept_source kept) (body_at b) starts bytes)

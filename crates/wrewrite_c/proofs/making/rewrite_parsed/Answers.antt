@@ -1,6 +1,0 @@
-use Rattle.wrewrite_c.proofs.CallLemmas.{made_rewritten}
-use Rattle.wrewrite_c.proofs.making.rewrite_parsed.Goals as goal
-
-pub returns-in-Ok-clause-written : goal.returns-in-Ok-clause-written
-returns-in-Ok-clause-written c =
-    made_rewritten c.finish.result c.args.parsed.now c.rewrite_all.new.self c.args.wanted c.finish.new.made.bytes.items c.in-Ok.ensures.extends c.finish.ensures.written
