@@ -129,13 +129,17 @@ pub made_once :
     OnOk r (IsMadeAfter (IsMadeFrom IsRewrittenWith parsed wanted) new old_lines new_lines)
 made_once r parsed now kept wanted new old_lines new_lines none x k h =
     let before = λ (f : ℕ) (b : BodyAt) (raw : List ℕ) (ps : List Pair) (q : IsRewrittenWith now f b raw ps). rewritten_with_then parsed now f b raw ps x q in
-    on_ok r (appended (IsMadeFrom (kept_or kept IsRewrittenWith) now wanted) (IsMadeFrom IsRewrittenWith parsed wanted) new old_lines new_lines (λ lines m. record {
+    on_ok r (appended (IsMadeFrom (kept_or kept IsRewrittenWith) now wanted) (IsMadeFrom IsRewrittenWith parsed wanted) new old_lines new_lines (λ lines m.
+    let written = kept_module_as IsRewrittenWith parsed now kept x k before m.changes m.omitted new m.is_written in
+    let told = module_told (kept_or kept IsRewrittenWith) now m.changes m.omitted new m.is_written in
+    let others = module_told IsRewrittenWith parsed m.changes m.omitted new written in
+    record {
       changes = m.changes;
       none_given = m.none_given;
       omitted = m.omitted;
       leaves_out = m.leaves_out;
-      is_written = kept_module_as IsRewrittenWith parsed now kept x k before m.changes m.omitted new m.is_written;
-      lines_are = m.lines_are ∙ no_lines wanted.has_map _ _ none;
+      is_written = written;
+      lines_are = m.lines_are ∙ no_lines wanted.has_map told others none;
     })) h
 
 pub made_of_kept :
