@@ -22,6 +22,7 @@ mod target;
 mod used_locals;
 mod write_body;
 mod writer;
+mod writer_at_once;
 
 pub use byte_sink::ByteSink;
 pub use flat_check::check_flat;
