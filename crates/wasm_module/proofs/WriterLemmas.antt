@@ -20,6 +20,35 @@ use Rattle.wasm_module.proofs.KeptLemmas.{bodies_len, raws_len}
 
 -- ---- one meaning for another
 
+-- What is written for a later state of the module is written for the source too, if that holds of the code section.
+module _ (v w : BodyWriting) (source now : ParsedModule) (x : Extends source now) (code_by : (s : SectionAt) (text : List ℕ) → IsWrittenCode v now s text → IsWrittenCode w source s text)
+    (changes : NewSections) (left_out : OmittedSections) where
+  section_by : (s : SectionAt) (text : List ℕ) → IsWrittenFor v now changes left_out s text → IsWrittenFor w source changes left_out s text
+  section_by s text (code bodies contents i h m t) = code bodies contents i (code_by s bodies h) m t
+  section_by s text (replaced contents i n h t) = replaced contents i n h t
+  section_by s text (carried_over i n h t) = carried_over i n h t
+  section_by s text (omitted h t) = omitted h t
+
+  sections_by : (all ss : List SectionAt) (text : List ℕ) → AreWrittenAt v now changes left_out all ss text → AreWrittenAt w source changes left_out all ss text
+  sections_by all [] text h = h
+  sections_by all (s ∷ ss) text h = (
+    h.0,
+    h.1,
+    h.2,
+    record { own = h.3.own; is_written = section_by s h.3.own h.3.is_written; text_is = h.3.text_is; new_fit = h.3.new_fit },
+    sections_by all ss h.1 h.4,
+  )
+
+  module_by : (new : List ℕ) → IsWrittenModule v now changes left_out new → IsWrittenModule w source changes left_out new
+  module_by new h = record {
+    sections = h.sections;
+    is_module = subst (λ (l : List ℕ). IsModule l h.sections) x.bytes h.is_module;
+    text = h.text;
+    are_written = sections_by h.sections h.sections h.text h.are_written;
+    new_is = h.new_is;
+    first_fit = h.first_fit;
+  }
+
 -- What is written for a later state of the module is written for the source too, if that holds of each body.
 module _ (v w : BodyWriting) (source now : ParsedModule) (x : Extends source now) (each : (f : ℕ) (b : BodyAt) (raw : List ℕ) (ps : List Pair) → v now f b raw ps → w source f b raw ps) where
   bodies_as : (f : ℕ) (bs : List BodyAt) (raws : List (List ℕ)) (pss : List (List Pair)) → AreWritten v now f bs raws pss → AreWritten w source f bs raws pss
@@ -44,38 +73,15 @@ module _ (v w : BodyWriting) (source now : ParsedModule) (x : Extends source now
   }
 
   module _ (changes : NewSections) (left_out : OmittedSections) where
-    section_as : (s : SectionAt) (text : List ℕ) → IsWrittenFor v now changes left_out s text → IsWrittenFor w source changes left_out s text
-    section_as s text (code bodies contents i h m t) = code bodies contents i (code_as s bodies h) m t
-    section_as s text (replaced contents i n h t) = replaced contents i n h t
-    section_as s text (carried_over i n h t) = carried_over i n h t
-    section_as s text (omitted h t) = omitted h t
-
-    sections_as : (all ss : List SectionAt) (text : List ℕ) → AreWrittenAt v now changes left_out all ss text → AreWrittenAt w source changes left_out all ss text
-    sections_as all [] text h = h
-    sections_as all (s ∷ ss) text h = (
-      h.0,
-      h.1,
-      h.2,
-      record { own = h.3.own; is_written = section_as s h.3.own h.3.is_written; text_is = h.3.text_is; new_fit = h.3.new_fit },
-      sections_as all ss h.1 h.4,
-    )
-
     pub module_as : (new : List ℕ) → IsWrittenModule v now changes left_out new → IsWrittenModule w source changes left_out new
-    module_as new h = record {
-      sections = h.sections;
-      is_module = subst (λ (l : List ℕ). IsModule l h.sections) x.bytes h.is_module;
-      text = h.text;
-      are_written = sections_as h.sections h.sections h.text h.are_written;
-      new_is = h.new_is;
-      first_fit = h.first_fit;
-    }
+    module_as = module_by v w source now x code_as changes left_out
 
     -- ---- the bodies that are told
 
     section_told_as :
         (place : ℕ) (s : SectionAt) (text : List ℕ) (h : IsWrittenFor v now changes left_out s text) →
-        section_told w source changes left_out place s text (section_as s text h) ≡ section_told v now changes left_out place s text h
-    unfolding section_as code_as
+        section_told w source changes left_out place s text (section_by v w source now x code_as changes left_out s text h) ≡ section_told v now changes left_out place s text h
+    unfolding section_by code_as
     section_told_as place s text (code bodies contents i h m t) = refl
     section_told_as place s text (replaced contents i n h t) = refl
     section_told_as place s text (carried_over i n h t) = refl
@@ -83,8 +89,8 @@ module _ (v w : BodyWriting) (source now : ParsedModule) (x : Extends source now
 
     sections_told_as :
         (all : List SectionAt) (place : ℕ) (ss : List SectionAt) (text : List ℕ) (h : AreWrittenAt v now changes left_out all ss text) →
-        sections_told w source changes left_out all place ss text (sections_as all ss text h) ≡ sections_told v now changes left_out all place ss text h
-    unfolding sections_as
+        sections_told w source changes left_out all place ss text (sections_by v w source now x code_as changes left_out all ss text h) ≡ sections_told v now changes left_out all place ss text h
+    unfolding sections_by
     sections_told_as all place [] text h = refl
     sections_told_as all place (s ∷ ss) text h =
         let first = section_told_as place s h.3.own h.3.is_written in
@@ -93,7 +99,7 @@ module _ (v w : BodyWriting) (source now : ParsedModule) (x : Extends source now
 
     pub module_told_as :
         (new : List ℕ) (h : IsWrittenModule v now changes left_out new) → module_told w source changes left_out new (module_as new h) ≡ module_told v now changes left_out new h
-    unfolding module_as
+    unfolding module_as module_by
     module_told_as new h = sections_told_as h.sections (length (preamble ++ new_after changes.given.items h.sections 0)) h.sections h.text h.are_written
 
 -- ---- bodies that are kept
@@ -148,33 +154,6 @@ module _ (v w : BodyWriting) (source now : ParsedModule) (x : Extends source now
         code_is = h.code_is;
       }
 
-  module _ (changes : NewSections) (left_out : OmittedSections) where
-    section_some : (s : SectionAt) (text : List ℕ) → IsWrittenFor v now changes left_out s text → IsWrittenFor w source changes left_out s text
-    section_some s text (code bodies contents i h m t) = code bodies contents i (code_some s bodies h) m t
-    section_some s text (replaced contents i n h t) = replaced contents i n h t
-    section_some s text (carried_over i n h t) = carried_over i n h t
-    section_some s text (omitted h t) = omitted h t
-
-    sections_some : (all ss : List SectionAt) (text : List ℕ) → AreWrittenAt v now changes left_out all ss text → AreWrittenAt w source changes left_out all ss text
-    sections_some all [] text h = h
-    sections_some all (s ∷ ss) text h = (
-      h.0,
-      h.1,
-      h.2,
-      record { own = h.3.own; is_written = section_some s h.3.own h.3.is_written; text_is = h.3.text_is; new_fit = h.3.new_fit },
-      sections_some all ss h.1 h.4,
-    )
-
-    pub module_some : (new : List ℕ) → IsWrittenModule v now changes left_out new → IsWrittenModule w source changes left_out new
-    module_some new h = record {
-      sections = h.sections;
-      is_module = subst (λ (l : List ℕ). IsModule l h.sections) x.bytes h.is_module;
-      text = h.text;
-      are_written = sections_some h.sections h.sections h.text h.are_written;
-      new_is = h.new_is;
-      first_fit = h.first_fit;
-    }
-
 -- Where what is kept was written in this way, and all others are: the code section and the module are written so.
 module _ (w : BodyWriting) (source now : ParsedModule) (kept : KeptBodies) (x : Extends source now) (every : AreKeptAs (with_some_pairs w) source kept) (before : StaysWritten w source now) where
   either_written : (f : ℕ) (b : BodyAt) (raw : List ℕ) (ps : List Pair) → kept_or kept w now f b raw ps → with_some_pairs w source f b raw
@@ -187,7 +166,7 @@ module _ (w : BodyWriting) (source now : ParsedModule) (kept : KeptBodies) (x : 
   pub kept_module_as :
       (changes : NewSections) (left_out : OmittedSections) (new : List ℕ) → IsWrittenModule (kept_or kept w) now changes left_out new →
       IsWrittenModule w source changes left_out new
-  kept_module_as changes left_out new h = module_some (kept_or kept w) w source now x either_written changes left_out new h
+  kept_module_as changes left_out new h = module_by (kept_or kept w) w source now x kept_code_as changes left_out new h
 
 -- ---- functions that are all changed alike
 
