@@ -5,7 +5,8 @@
 -- Two steps are shorter than in the appendix: each target of a `br_table` is tested against the same operands, which the appendix pops and
 -- pushes back; and the frame in which a clause of a `try_table` is tested begins with what the clause hands on, which the appendix pushes
 -- after it has pushed the frame.
-use Rattle.std.specs.Prelude.{◌≡◌, ℕ, zero, suc, ◌-◌, List, [], ◌∷◌, ◌++◌, length, reverse, take, drop, Bool, true, false, nat_eq, if◌then◌else◌, Option, Some, None, Result, Ok, Err}
+use Rattle.std.specs.Prelude.{◌≡◌, ℕ, zero, suc, ◌-◌, List, [], ◌∷◌, ◌++◌, length, reverse, take, drop, filter, Bool, true, false, not, nat_eq, if◌then◌else◌, Option, Some, None, Result, Ok, Err}
+use Rattle.std.specs.List.{list_any}
 use Rattle.wasm_types.specs.declared.val_type.AbstractHeapType.TheVariants.{Exn}
 use Rattle.wasm_types.specs.declared.val_type.HeapType.TheVariants.{Abstract}
 use Rattle.wasm_types.specs.declared.val_type.ValType.{ValType}
@@ -71,6 +72,10 @@ i32 = I32
 
 abbrev pub exnref : ValType ℕ
 exnref = Ref (record { nullable = true; heap_type = Abstract Exn })
+
+-- "(ref exn)": a caught exception isn't null
+abbrev pub caught : ValType ℕ
+caught = Ref (record { nullable = false; heap_type = Abstract Exn })
 
 -- ---- which operator opened a sequence ("opcode")
 
@@ -141,7 +146,17 @@ tag_types m (Some tag) = m.tag_parameters tag
 
 -- what a clause hands to its label
 abbrev pub handed : Typing → CatchClause ℕ → List (ValType ℕ)
-handed m c = if c.by_reference then tag_types m c.tag ++ exnref ∷ [] else tag_types m c.tag
+handed m c = if c.by_reference then tag_types m c.tag ++ caught ∷ [] else tag_types m c.tag
+
+-- ---- initialised locals
+
+-- those of ns that aren't initialised yet
+abbrev pub unset : (ns ls : List ℕ) → List ℕ
+unset ns ls = filter (λ n. not (list_any (λ l. nat_eq n l) ls)) ns
+
+-- "set_local(x)" of each: "if (not locals_init[x])", it is pushed
+abbrev pub set_locals : (ns ls : List ℕ) → List ℕ
+set_locals ns ls = unset ns ls ++ ls
 
 -- ---- stacks
 
@@ -255,7 +270,7 @@ module _ {T : Type 0} (m : Typing) (r : OperandRules T) where
   point c s = record { operands = above c.height s.operands; unreachable = c.unreachable; initialised = s.initialised }
 
   abbrev pub changed : ControlFrame → Change T → Stacks T → Stacks T
-  changed c k s = record { operands = k.operands ++ up_to c.height s.operands; initialised = k.initialises ++ s.initialised }
+  changed c k s = record { operands = k.operands ++ up_to c.height s.operands; initialised = set_locals k.initialises s.initialised }
 
   -- of `br_table`, by the number of types of the default: "foreach (n in n*) error_if(ctrls.size() < n);
   -- error_if(label_types(ctrls[n]).size() =/= arity); push_vals(pop_vals(label_types(ctrls[n])))"
@@ -303,7 +318,7 @@ module _ {T : Type 0} (m : Typing) (r : OperandRules T) where
   condition _ c xs = Ok xs
 
   -- of `try_table`: "foreach (handler in handler*) error_if(ctrls.size() < handler.label); push_ctrl(catch, [], label_types(ctrls[handler.label]));
-  -- push_vals(tags[x].type.params); pop_ctrl()", where a clause with a reference also pushes "Exnref"
+  -- push_vals(tags[x].type.params); pop_ctrl()", where a clause with a reference also pushes "(ref exn)"
   abbrev pub hand : List ControlFrame → Stacks T → List (CatchClause ℕ) → Checked (Unit {0})
   hand cs s [] = Ok tt
   hand cs s (k ∷ ks) =

@@ -4,7 +4,7 @@ use Rattle.std.specs.List.{AllByRecursion}
 use Rattle.wasm_types.specs.declared.val_type.ValType.{ValType}
 use Rattle.wasm_body.specs.Control.{Plain, Does, control_of}
 use Rattle.wasm_body.specs.NormalForm.{Typing}
-use Rattle.wasm_body.specs.Validity.{Point, Change, OperandRules, IsValid}
+use Rattle.wasm_body.specs.Validity.{Point, Change, OperandRules, set_locals, IsValid}
 use Rattle.wasm_body.specs.SourceTree.{Body}
 use Rattle.wasm_body.specs.TextLaws.{IsNamedBody}
 use Rattle.wasm_body.specs.Flat.{Named}
@@ -12,14 +12,14 @@ use Rattle.wasm_insertion.specs.Insertion.{Origin, InsertedBody, IsInsertedText}
 
 -- the point after an operator that makes this
 abbrev pub after_change : {T : Type 0} → Change T → Point T → Point T
-after_change k p = record p { operands = k.operands; initialised = k.initialises ++ p.initialised }
+after_change k p = record p { operands = k.operands; initialised = set_locals k.initialises p.initialised }
 
 -- the point after plain operators, if none of them is refused
 abbrev pub after_plain : {T : Type 0} → OperandRules T → List Named → Point T → Option (Point T)
 after_plain r [] p = Some p
 after_plain r (x ∷ xs) p = option_and_then (λ k. after_plain r xs (after_change k p)) (r.plain x.op p)
 
--- Plain operators that are accepted at every point, and leave it as it is: their type is [] -> [], and they initialise no local.
+-- Plain operators that are accepted at every point, and leave it as it is: their type is [] -> [], and they initialise no local that may be uninitialised.
 pub record IsProbe {T : Type 0} (r : OperandRules T) (ps : List Named) : Type 0 where
   pub plain : AllByRecursion (λ x. control_of x.op ≡ Does Plain) ps
   pub neutral : (p : Point T) → after_plain r ps p ≡ Some p

@@ -7,7 +7,7 @@ use Rattle.std.proofs.lemmas.Bool.Decides.{nat_tests}
 use Rattle.wasm_types.specs.declared.val_type.ValType.{ValType}
 use Rattle.wasm_numbers.specs.Results.{◌>>=◌}
 use Rattle.wasm_body.specs.NormalForm.{Typing}
-use Rattle.wasm_body.specs.Validity.{Operand, Unknown, Known, Point, Change, ControlFrame, Stacks, State, Checked, refused, demand, required, above, up_to}
+use Rattle.wasm_body.specs.Validity.{Operand, Unknown, Known, Point, Change, ControlFrame, Stacks, State, Checked, refused, demand, required, set_locals, above, up_to}
 use Rattle.wasm_body.specs.Validity as algorithm
 use Rattle.wasm_body.specs.ValidityLaws.{KnownOperand, of_type}
 use Rattle.wasm_body.proofs.Validity.ValidNormalForms.{validity_kept}
@@ -92,10 +92,10 @@ point_of f xs ls = record { operands = xs; unreachable = f.unreachable; initiali
 
 -- what follows the pops
 then_pushes : (m : Typing) (c : OperandContext) (t : InstructionType) (ys below : Operands) (ls : List ℕ) → below ≡ ys → (a : Checked Operands)
-    → ((a >>= λ zs. Ok (change t zs)) >>= λ k. Ok (stacks (k.operands ++ below) (k.initialises ++ ls)))
-    ≡ ((a >>= λ zs. Ok (zs ++ ys)) >>= λ zs. Ok (stacks (algorithm.push_each m (standard_rules c) t.gives zs) (t.initialises ++ ls)))
+    → ((a >>= λ zs. Ok (change t zs)) >>= λ k. Ok (stacks (k.operands ++ below) (set_locals k.initialises ls)))
+    ≡ ((a >>= λ zs. Ok (zs ++ ys)) >>= λ zs. Ok (stacks (algorithm.push_each m (standard_rules c) t.gives zs) (set_locals t.initialises ls)))
 then_pushes m c t ys below ls h (Ok zs) =
-    ap (λ xs. Ok (stacks xs (t.initialises ++ ls))) (ap (λ b. push_operands t.gives zs ++ b) h ∙ pushes m c t.gives zs ys)
+    ap (λ xs. Ok (stacks xs (set_locals t.initialises ls))) (ap (λ b. push_operands t.gives zs ++ b) h ∙ pushes m c t.gives zs ys)
 then_pushes m c t ys below ls h (Err e) = refl
 
 pub typed_operators : TypedOperators
@@ -105,7 +105,7 @@ typed_operators m c o t type f fs xs ys ls h =
     ap (λ zs. required (result_ok (plain_change c o (point_of f zs ls))) >>= after) (above_height f.height xs ys h)
     ∙ ap (λ a. a >>= after) (required_again (plain_change c o p) ∙ by_its_type c o.immediates t p (rule_of o.opcode) type)
     ∙ then_pushes m c t ys (up_to f.height (xs ++ ys)) ls (up_to_height f.height xs ys h) (pop_operands c f.unreachable t.takes xs)
-    ∙ ap (λ a. a >>= λ zs. Ok (stacks (algorithm.push_each m (standard_rules c) t.gives zs) (t.initialises ++ ls))) (sym (pops_all m c f t.takes xs ys h))
+    ∙ ap (λ a. a >>= λ zs. Ok (stacks (algorithm.push_each m (standard_rules c) t.gives zs) (set_locals t.initialises ls))) (sym (pops_all m c f t.takes xs ys h))
 
 -- ---- validity
 

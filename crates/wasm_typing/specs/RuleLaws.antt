@@ -19,7 +19,7 @@ use Rattle.wasm_body.specs.Parsing.Accepted.{HasSpelling, Lawful}
 use Rattle.wasm_body.specs.SourceTree.{Body}
 use Rattle.wasm_body.specs.TextLaws.{IsTextOf}
 use Rattle.wasm_body.specs.Translation.{Located}
-use Rattle.wasm_body.specs.Validity.{ControlFrame, Stacks, Checked, refused, pop_all, push_each, taken}
+use Rattle.wasm_body.specs.Validity.{ControlFrame, Stacks, Checked, refused, set_locals, pop_all, push_each, taken}
 use Rattle.wasm_body.specs.ValidityLaws.{KnownOperand}
 use Rattle.wasm_typing.specs.Contexts.{OperandContext}
 use Rattle.wasm_typing.specs.Matching.{matches_value}
@@ -99,7 +99,7 @@ TypedOperators =
     (m : Typing) (c : OperandContext) (o : NamedOperation) (t : InstructionType) → type_of_operator c o ≡ Ok t →
     (f : ControlFrame) (fs : List ControlFrame) (xs ys : Operands) (ls : List ℕ) → f.height ≡ length ys →
     taken m (standard_rules c) Plain o f fs (stacks (xs ++ ys) ls)
-    ≡ (pop_all m (standard_rules c) f t.takes (xs ++ ys) >>= λ zs. Ok (stacks (push_each m (standard_rules c) t.gives zs) (t.initialises ++ ls)))
+    ≡ (pop_all m (standard_rules c) f t.takes (xs ++ ys) >>= λ zs. Ok (stacks (push_each m (standard_rules c) t.gives zs) (set_locals t.initialises ls)))
 
 -- ---- validity is decided by the test
 

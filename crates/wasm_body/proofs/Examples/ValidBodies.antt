@@ -13,7 +13,7 @@ use Rattle.wasm_operators.specs.Operations.{Immediate, local}
 use Rattle.wasm_body.specs.Translation.{at_location}
 use Rattle.wasm_body.specs.Naming.{NamedOperation}
 use Rattle.wasm_body.specs.NormalForm.{Typing, typing_of}
-use Rattle.wasm_body.specs.Validity.{Operand, Known, OfFunction, OfBlock, Point, Change, OperandRules, Checked, refused, exnref, ControlFrame, State, state, push_each, pop_each, start, validate}
+use Rattle.wasm_body.specs.Validity.{Operand, Known, OfFunction, OfBlock, Point, Change, OperandRules, Checked, refused, exnref, caught, ControlFrame, State, state, push_each, pop_each, start, validate}
 use Rattle.wasm_body.proofs.Examples.Operators.{unreachable, nop, block, loop, if, else, try, catch, throw, rethrow, throw_ref, end, br, br_if, br_table, return, return_call, delegate, catch_all, drop, try_table, local_get, local_set, add, const, catches_ref}
 use Rattle.wasm_body.proofs.Examples.Modules.{nothing, number, number_to_number, demo}
 
@@ -248,7 +248,7 @@ delegated_too_far = refl
 
 -- its clause hands a number and a reference to the block around it
 tables_try : Takes [] []
-    (block (signature [] (I32 ∷ exnref ∷ [])) ∷ try_table nothing (catches_ref 1 0 ∷ []) ∷ return ∷ end ∷ return ∷ end ∷ throw_ref ∷ end ∷ [])
+    (block (signature [] (I32 ∷ caught ∷ [])) ∷ try_table nothing (catches_ref 1 0 ∷ []) ∷ return ∷ end ∷ return ∷ end ∷ drop ∷ drop ∷ end ∷ [])
 tables_try = refl
 
 hands_too_much : Refuses [] [] (block number ∷ try_table nothing (catches_ref 1 0 ∷ []) ∷ end ∷ const 7 ∷ end ∷ drop ∷ end ∷ [])
@@ -268,3 +268,9 @@ heights_ended : validated one [] (const 7 ∷ block number ∷ const 7 ∷ local
     ≡ Ok (state (record { operands = Known I32 ∷ Known I32 ∷ []; initialised = [] })
     (record { opened = OfFunction; start_types = []; end_types = one; height = 0; locals_height = 0; unreachable = false } ∷ []))
 heights_ended = refl
+
+-- A local that is set twice is initialised once.
+set_twice : validated one [] (const 7 ∷ local_set 3 ∷ const 7 ∷ local_set 3 ∷ [])
+    ≡ Ok (state (record { operands = []; initialised = 3 ∷ [] })
+    (record { opened = OfFunction; start_types = []; end_types = one; height = 0; locals_height = 0; unreachable = false } ∷ []))
+set_twice = refl

@@ -10,7 +10,7 @@ use Rattle.wasm_body.specs.Control.{Action, Nop, Plain, Branch, ConditionalBranc
 use Rattle.wasm_body.specs.Translation.{Located}
 use Rattle.wasm_body.specs.Naming.{NamedOperation, block_signature}
 use Rattle.wasm_body.specs.NormalForm.{Typing}
-use Rattle.wasm_body.specs.Validity.{Operand, Unknown, Known, Point, Change, Opened, OfLoop, OfIf, OfElse, OfCatch, OfCatchAll, OperandRules, Checked, demand, required, i32, exnref, opened_by, is_if, is_try, may_catch, is_catch, transfers, try_table_clauses, handed, push_each, ControlFrame, Stacks, State, state, above, up_to}
+use Rattle.wasm_body.specs.Validity.{Operand, Unknown, Known, Point, Change, Opened, OfLoop, OfIf, OfElse, OfCatch, OfCatchAll, OperandRules, Checked, demand, required, i32, exnref, opened_by, is_if, is_try, may_catch, is_catch, transfers, try_table_clauses, handed, unset, set_locals, push_each, ControlFrame, Stacks, State, state, above, up_to}
 use Rattle.wasm_body.specs.Validity as heights
 use Rattle.wasm_body.proofs.Validity.NestedFrames.{NestedFrame, NestedFrames, none, at, initialised_in, label, label_types, results, changed, unreachable, after_action, pop, pop_each, pop_all, opened_in, closes, given, targets, taken, condition, hand, catching, taken_by, frame_by, opens, alternative, handler, handler_of_all, ends, next_sequence, step, validate, function_frame, IsValid}
 
@@ -219,10 +219,10 @@ module _ {T : Type 0} (m : Typing) (r : OperandRules T) where
 
     changed_like : (k : Change T) → Holds fs f (heights.changed m r c k here) (changed k f.point)
     changed_like k = record {
-      stacks = ap (λ xs. record { operands = k.operands ++ xs; initialised = k.initialises ++ f.point.initialised }) (up_to_height f.point.operands (operands_of fs));
+      stacks = ap (λ xs. record { operands = k.operands ++ xs; initialised = set_locals k.initialises f.point.initialised }) (up_to_height f.point.operands (operands_of fs));
       unreachable = refl;
-      new = k.initialises ++ h.0.0;
-      nested = ap (λ l. k.initialises ++ l) h.0.1 ∙ sym (append_assoc k.initialises h.0.0 (initialised_in fs));
+      new = unset k.initialises f.point.initialised ++ h.0.0;
+      nested = let ns = unset k.initialises f.point.initialised in ap (λ l. ns ++ l) h.0.1 ∙ sym (append_assoc ns h.0.0 (initialised_in fs));
     }
 
     required_like : (change_of : Point T → Option (Change T))

@@ -8,7 +8,7 @@ use Rattle.wasm_body.specs.Control.{Action, Nop, Plain, Branch, ConditionalBranc
 use Rattle.wasm_body.specs.Translation.{Located}
 use Rattle.wasm_body.specs.Naming.{NamedOperation, block_signature}
 use Rattle.wasm_body.specs.NormalForm.{Typing}
-use Rattle.wasm_body.specs.Validity.{Operand, Unknown, Known, Point, Opened, OfFunction, OfLoop, OfIf, OfElse, OfCatch, OfCatchAll, Change, OperandRules, refused, Checked, demand, required, i32, exnref, opened_by, is_if, is_try, may_catch, is_catch, transfers, try_table_clauses, handed, push_each}
+use Rattle.wasm_body.specs.Validity.{Operand, Unknown, Known, Point, Opened, OfFunction, OfLoop, OfIf, OfElse, OfCatch, OfCatchAll, Change, OperandRules, refused, Checked, demand, required, i32, exnref, opened_by, is_if, is_try, may_catch, is_catch, transfers, try_table_clauses, handed, set_locals, push_each}
 
 -- A frame of the control stack. In the place of the heights of the two other stacks it holds what is above them: each frame has its
 -- own operands. One that isn't the innermost has the locals that were initialised when the next was opened, to which the closing of
@@ -59,7 +59,7 @@ results (f ∷ g ∷ fs) = results (g ∷ fs)
 -- ---- points
 
 abbrev pub changed : {T : Type 0} → Change T → Point T → Point T
-changed c p = record p { operands = c.operands; initialised = c.initialises ++ p.initialised }
+changed c p = record p { operands = c.operands; initialised = set_locals c.initialises p.initialised }
 
 -- "unreachable()": the operands are dropped down to the height of the frame
 abbrev pub unreachable : {T : Type 0} → Point T → Point T

@@ -1,7 +1,7 @@
 -- Bodies that are valid and bodies that are not, by the standard's text (section 3.4 and the appendix) and its test scripts `unreached-valid.wast`,
 -- `unreached-invalid.wast`, `select.wast`, `local_init.wast`, `global.wast`, `ref_is_null.wast`, `ref_as_non_null.wast`, `br_on_null.wast`,
 -- `br_on_non_null.wast`, `gc/br_on_cast.wast`, `gc/struct.wast`, `gc/array.wast`, `gc/extern.wast`, `return_call.wast` and others, by hand.
-use Rattle.std.specs.Prelude.{ℕ, [], ◌∷◌, true, pos, refl}
+use Rattle.std.specs.Prelude.{ℕ, List, [], ◌∷◌, true, pos, refl}
 use Rattle.wasm_types.specs.declared.val_type.AbstractHeapType.TheVariants as abstract
 use Rattle.wasm_types.specs.declared.val_type.HeapType.{HeapType}
 use Rattle.wasm_types.specs.declared.val_type.HeapType.TheVariants.{Abstract, Concrete}
@@ -13,7 +13,7 @@ use Rattle.wasm_operators.specs.declared.types.Space.TheVariants.{Tables, Types,
 use Rattle.wasm_operators.specs.Operations.{cast, index, local, number, heap, value, i64, lanes, operation}
 use Rattle.wasm_body.specs.Naming.{NamedOperation}
 use Rattle.wasm_body.proofs.Examples.Modules.{nothing}
-use Rattle.wasm_body.proofs.Examples.Operators.{unreachable, block, end, br_if, return_call, return_call_ref, return_call_indirect, call, call_ref, call_indirect, drop, local_get, local_set, add, const, br_on_null, br_on_non_null, br_on_null_cast, br_on_cast, br_on_cast_fail, struct_get}
+use Rattle.wasm_body.proofs.Examples.Operators.{unreachable, block, end, br_if, return, throw_ref, try_table, catches_all_ref, return_call, return_call_ref, return_call_indirect, call, call_ref, call_indirect, drop, local_get, local_set, add, const, br_on_null, br_on_non_null, br_on_null_cast, br_on_cast, br_on_cast_fail, struct_get}
 use Rattle.wasm_typing.specs.Rules.{Immediates, ref, ref_null}
 use Rattle.wasm_typing.proofs.Examples.Module.{Takes, Refuses, func_null, extern_null}
 
@@ -210,6 +210,25 @@ initialised_by_tee = refl
 
 initialised_inside : Refuses (ref (Concrete 2) ∷ []) (block nothing ∷ struct_new_default 2 ∷ local_set 1 ∷ end ∷ local_get 1 ∷ end ∷ [])
 initialised_inside = refl
+
+-- ---- caught exceptions
+
+exn : HeapType ℕ
+exn = Abstract abstract.Exn
+
+-- a block of this type that a clause `catch_all_ref` hands to
+abbrev catching : ValType ℕ → NamedOperation → List NamedOperation
+catching t after = block (signature [] (t ∷ [])) ∷ try_table nothing (catches_all_ref 0 ∷ []) ∷ return ∷ end ∷ return ∷ end ∷ after ∷ end ∷ []
+
+-- a caught exception isn't null
+caught : Takes [] (catching (ref exn) throw_ref)
+caught = refl
+
+caught_or_null : Takes [] (catching (ref_null exn) throw_ref)
+caught_or_null = refl
+
+caught_as_none : Refuses [] (catching (ref_null (Abstract abstract.NoExn)) throw_ref)
+caught_as_none = refl
 
 set_to_null : Refuses [] (null (Concrete 2) ∷ local_set 1 ∷ end ∷ [])
 set_to_null = refl
