@@ -213,7 +213,7 @@ initialised_inside = refl
 
 -- ---- caught exceptions
 
-exn : HeapType ℕ
+abbrev exn : HeapType ℕ
 exn = Abstract abstract.Exn
 
 -- a block of this type that a clause `catch_all_ref` hands to
