@@ -1,0 +1,13 @@
+-- of the types of sequences the algorithm asks only for the parameters of tags
+pub mod TagsDecide
+-- names by indices, and so the verdicts of accepted bodies
+pub mod RawNames
+pub mod RawVerdicts
+-- examples that pin the definitions
+pub mod Examples
+-- declared supertypes, step by step
+pub mod Supertypes
+-- lists of types that match
+pub mod MatchingLists
+-- numbers at which a list has true
+pub mod Marked

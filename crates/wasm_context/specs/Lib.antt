@@ -1,0 +1,9 @@
+-- the validation algorithm over operators as they are encoded, and its law
+pub mod Validation
+pub mod ValidationLaws
+-- valid definitions of types
+pub mod Definitions
+-- contexts, as the code has them
+pub mod Contexts
+-- lists of types that a context gives, and the types of blocks
+pub mod TypeLists

@@ -1,0 +1,19 @@
+//! What the types of a module's operators depend on (WebAssembly core specification 3.0, validation,
+//! contexts): the types and index spaces of the module, and which types match. The definitions are those
+//! of `wasm_typing`; this crate has them in code.
+#![tactic(auto)]
+
+mod blocks;
+mod context;
+mod laws;
+mod lookups;
+mod matching;
+mod types;
+
+pub use blocks::{BlockTypes, TypeList};
+pub use context::{AddressType, Context, GlobalType, TableType};
+pub use laws::law_raw_validity;
+pub use matching::{difference, matches_abstract};
+pub use types::{
+    CompositeType, DefinedType, FieldType, RawRefType, StorageType, has_default, is_number,
+};
