@@ -18,8 +18,8 @@ use Rattle.wasm_typing.specs.RecursiveTypes.{DeclaredType, Group}
 use Rattle.wasm_typing.specs.Rules.{ref, ref_null}
 use Rattle.wasm_typing.specs.StandardRules.{closes_all}
 use Rattle.wasm_typing.proofs.Examples.Module.{context}
-use Rattle.wasm_context.specs.Validation.{BodyContext, BodyState, named_block, raw_step, body_start}
-use Rattle.wasm_context.specs.Definitions.{are_valid_types}
+use Rattle.wasm_context.specs.Validation.{BodyContext, BodyState, named_block_type, raw_step, body_start}
+use Rattle.wasm_context.specs.ValidTypes.{are_valid_types}
 
 -- ---- operators as they are encoded
 

@@ -11,3 +11,13 @@ pub mod Supertypes
 pub mod MatchingLists
 -- numbers at which a list has true
 pub mod Marked
+-- the parts of the test for equal groups
+pub mod SameGroups
+-- keys of groups, which tell which are equal
+pub mod GroupKeys
+-- places in a map by keys
+pub mod KeyPlaces
+-- the types of groups, as one more is added
+pub mod Placing
+-- which definitions are valid
+pub mod ValidDefinitions

@@ -1,6 +1,6 @@
 -- Numbers at which a list has true.
 use Rattle.std.proofs.Common.{◌≡◌, ℕ, zero, suc, ◌+◌, ◌<◌, List, [], ◌∷◌, Bool, true, false, refl, ap, ◌∙◌, arith, eq-eqb}
-use Rattle.std.specs.Prelude.{◌||◌, ◌==◌, unwrap_or, slice_get}
+use Rattle.std.specs.Prelude.{◌||◌, unwrap_or, slice_get}
 use Rattle.std.proofs.lemmas.Bool.{ne_eqb}
 use Rattle.wasm_typing.specs.Contexts.{contains}
 use Rattle.wasm_context.specs.Contexts.{marked_from}

@@ -24,8 +24,8 @@ use Rattle.wasm_body.proofs.Translation.Steps.{all_of}
 use Rattle.wasm_body.proofs.Translation.Translations.{LeadAll, lead_all, translate_leads, same, translate_same}
 use Rattle.wasm_typing.specs.Contexts.{function_type_in}
 use Rattle.wasm_typing.specs.Matching.{holds_of, is_valid_value}
-use Rattle.wasm_context.specs.Validation.{BodyContext, named_block, named_index, raw_naming, raw_named, tag_signature}
-use Rattle.wasm_context.specs.ValidationLaws.{IsSameModule, SameNames}
+use Rattle.wasm_context.specs.Validation.{BodyContext, named_block_type, checked_index, raw_naming, raw_named, tag_signature}
+use Rattle.wasm_context.specs.ValidationLaws.{IsModuleOfContext, SameNames}
 
 abbrev Fine : {X : Type 0} → X → Checked X
 Fine x = Ok x
@@ -46,11 +46,11 @@ handler_label_is fs n l e =
 
 -- ---- indices and block types
 
-module _ (env : Environment) (c : BodyContext) (alike : IsSameModule env c) where
+module _ (env : Environment) (c : BodyContext) (alike : IsModuleOfContext env c) where
   found : (space : Space) (n m : ℕ) → id_at env space n ≡ Ok m → m ≡ n
   found space n m e = alike.index space n m (with_fault_ok Index (env.id_of space n) m e)
 
-  index_leads : (space : Space) (n m : ℕ) → id_at env space n ≡ Ok m → Fine m ≡ named_index c space n
+  index_leads : (space : Space) (n m : ℕ) → id_at env space n ≡ Ok m → Fine m ≡ checked_index c space n
   index_leads Tags n m e =
       let t = alike.tag n m (with_fault_ok Index (env.id_of Tags n) m e) in
       ap Fine (found Tags n m e) ∙ sym (ap (λ r. r >>= λ s. Fine n) t.1)
@@ -66,7 +66,7 @@ module _ (env : Environment) (c : BodyContext) (alike : IsSameModule env c) wher
   one t = signature [] (t ∷ [])
 
   reference_leads : (b : Bool) (h : HeapType ℕ) (s : Signature) → name_block env (Value (Ref (record { nullable = b; heap_type = h }))) ≡ Ok s
-      → Fine s ≡ named_block c (Value (Ref (record { nullable = b; heap_type = h })))
+      → Fine s ≡ named_block_type c (Value (Ref (record { nullable = b; heap_type = h })))
   reference_leads b (Abstract a) s e =
       let h : one (Ref (record { nullable = b; heap_type = Abstract a })) ≡ s = cc in ap Fine (sym h)
   reference_leads b (Concrete n) s e =
@@ -84,7 +84,7 @@ module _ (env : Environment) (c : BodyContext) (alike : IsSameModule env c) wher
       ∙ ap (λ x. Fine (one (of (Concrete x)))) (sym same_index) ∙ ap (λ x. Fine (one (of x))) a ∙ ap (λ x. Fine (one x)) b ∙ ap Fine d)
 
   -- a value type of the module is valid, and stays as it is
-  value_leads : (t : ValType ℕ) (s : Signature) → name_block env (Value t) ≡ Ok s → Fine s ≡ named_block c (Value t)
+  value_leads : (t : ValType ℕ) (s : Signature) → name_block env (Value t) ≡ Ok s → Fine s ≡ named_block_type c (Value t)
   value_leads I32 s e = let h : one I32 ≡ s = cc in ap Fine (sym h)
   value_leads I64 s e = let h : one I64 ≡ s = cc in ap Fine (sym h)
   value_leads F32 s e = let h : one F32 ≡ s = cc in ap Fine (sym h)
@@ -92,7 +92,7 @@ module _ (env : Environment) (c : BodyContext) (alike : IsSameModule env c) wher
   value_leads V128 s e = let h : one V128 ≡ s = cc in ap Fine (sym h)
   value_leads (Ref r) s e = reference_leads r.nullable r.heap_type s e
 
-  block_leads : (b : BlockType) (s : Signature) → name_block env b ≡ Ok s → Fine s ≡ named_block c b
+  block_leads : (b : BlockType) (s : Signature) → name_block env b ≡ Ok s → Fine s ≡ named_block_type c b
   block_leads Empty s e = let h : signature [] [] ≡ s = cc in ap Fine (sym h)
   block_leads (Value t) s e = value_leads t s e
   block_leads (FuncType n) s e =
@@ -119,7 +119,7 @@ module _ (env : Environment) (c : BodyContext) (alike : IsSameModule env c) wher
         let made : List (Immediate ℕ Signature) → Result NamedOperation ParseError = λ is. Ok (operation o.opcode is) in
         let made_here : List (Immediate ℕ Signature) → Checked NamedOperation = λ is. Ok (operation o.opcode is) in
         let is = bind_ok (translate_immediates (naming env fs) o.immediates) made n e in
-        let blocks = all_of (λ (b : BlockType). (s : Signature) → name_block env b ≡ Ok s → Fine s ≡ named_block c b) block_leads (block_types o.immediates) in
+        let blocks = all_of (λ (b : BlockType). (s : Signature) → name_block env b ≡ Ok s → Fine s ≡ named_block_type c b) block_leads (block_types o.immediates) in
         let stays = translate_leads (naming env fs) same (raw_naming c) o.immediates (lead_all (naming env fs) same (raw_naming c) leads o.immediates blocks) is.0 is.1 in
         let h : operation o.opcode is.0 ≡ n = cc is.2 in
         ap (λ r. r >>= made_here) (sym stays ∙ translate_same is.0) ∙ ap Fine h

@@ -19,7 +19,7 @@ use Rattle.wasm_body.proofs.Bytes.LawfulTyped.{named_somewhere}
 use Rattle.wasm_typing.specs.Contexts.{function_type_in}
 use Rattle.wasm_typing.specs.StandardRules.{standard_rules}
 use Rattle.wasm_context.specs.Validation.{BodyContext, BodyState, parameters_of, typing_in, named_step, raw_step, refusal_number, steps_through}
-use Rattle.wasm_context.specs.ValidationLaws.{IsSameModule, SameNames, SameVerdicts}
+use Rattle.wasm_context.specs.ValidationLaws.{IsModuleOfContext, SameNames, SameVerdicts}
 use Rattle.wasm_context.proofs.RawNames.{same_name}
 use Rattle.wasm_context.proofs.TagsDecide.{same_step}
 
@@ -37,7 +37,7 @@ have_names : (env : Environment) (xs : List Occurrence)
 have_names env [] h = tt
 have_names env (x ∷ xs) h = ((h.0.0, (named_parts env h.0.0 x.spelt x.named h.0.1).translated), have_names env xs h.1)
 
-module _ (env : Environment) (c : BodyContext) (alike : IsSameModule env c) where
+module _ (env : Environment) (c : BodyContext) (alike : IsModuleOfContext env c) where
   tag_alike : (type : Option ℕ) → parameters_of (required type >>= λ t. function_type_in c.operands t) ≡ parameters_or_none (option_and_then (signature_of env.types) type)
   tag_alike None = refl
   tag_alike (Some t) = parameters_alike (function_type_in c.operands t) ∙ sym (ap parameters_or_none (alike.function t))

@@ -41,8 +41,8 @@ address_of address.Address64 = standard.Address64
 abbrev pub table_of : TableType → standard.TableType
 table_of t = record { address = address_of t.address; element = t.element }
 
-abbrev pub global_of : GlobalType → standard.GlobalType
-global_of g = record { mutable = g.mutable; type = g.ty }
+abbrev pub global_type_in : GlobalType → standard.GlobalType
+global_type_in g = record { mutable = g.mutable; type = g.ty }
 
 -- the numbers from n on at which the list has true
 abbrev pub marked_from : ℕ → List Bool → List ℕ
@@ -62,19 +62,19 @@ operands_in c locals = record {
   referenced = marked_from 0 c.referenced.items;
   tables = map table_of c.tables.items;
   memories = map address_of c.memories.items;
-  globals = map global_of c.globals.items;
+  globals = map global_type_in c.globals.items;
   elements = c.elements.items;
   data_segments = c.data_segments;
   locals = locals;
 }
 
 -- the context outside of functions
-abbrev pub module_of : Context → OperandContext
-module_of c = operands_in c []
+abbrev pub without_locals : Context → OperandContext
+without_locals c = operands_in c []
 
 -- the types of a function type, by its index; none if it isn't one
 abbrev pub signature_at : Context → ℕ → Signature
-signature_at c n = result_unwrap_or (standard.function_type_in (module_of c) n) (signature [] [])
+signature_at c n = result_unwrap_or (standard.function_type_in (without_locals c) n) (signature [] [])
 
 abbrev pub params_at : Context → ℕ → Locals
 params_at c n = (signature_at c n).parameters

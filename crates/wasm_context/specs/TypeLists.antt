@@ -13,5 +13,5 @@ types_in c (types.One t) = t ∷ []
 types_in c (types.Params n) = params_at c n
 types_in c (types.Results n) = results_at c n
 
-abbrev pub block_signature : Context → BlockTypes → Signature
-block_signature c b = signature (types_in c b.params) (types_in c b.results)
+abbrev pub signature_of_block : Context → BlockTypes → Signature
+signature_of_block c b = signature (types_in c b.params) (types_in c b.results)

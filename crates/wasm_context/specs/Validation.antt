@@ -33,21 +33,21 @@ pub record BodyContext : Type 0 where
 -- ---- the name of an operator, by the indices of its own module
 
 -- "blocktype": a value type has to be valid, and a type index has to be that of a function type
-abbrev pub named_block : BodyContext → BlockType → Checked Signature
-named_block c Empty = Ok (signature [] [])
-named_block c (Value t) = demand (is_valid_value c.operands t) >>= λ u. Ok (signature [] (t ∷ []))
-named_block c (FuncType n) = function_type_in c.operands n
+abbrev pub named_block_type : BodyContext → BlockType → Checked Signature
+named_block_type c Empty = Ok (signature [] [])
+named_block_type c (Value t) = demand (is_valid_value c.operands t) >>= λ u. Ok (signature [] (t ∷ []))
+named_block_type c (FuncType n) = function_type_in c.operands n
 
 abbrev pub tag_signature : BodyContext → ℕ → Checked Signature
 tag_signature c tag = required (slice_get c.tags tag) >>= λ type. function_type_in c.operands type
 
 -- A tag has to be there. Any other index is looked up by the rule of its operator.
-abbrev pub named_index : BodyContext → Space → ℕ → Checked ℕ
-named_index c Tags n = tag_signature c n >>= λ s. Ok n
-named_index c space n = Ok n
+abbrev pub checked_index : BodyContext → Space → ℕ → Checked ℕ
+checked_index c Tags n = tag_signature c n >>= λ s. Ok n
+checked_index c space n = Ok n
 
 abbrev pub raw_naming : BodyContext → Translation ℕ BlockType ℕ Signature Refusal
-raw_naming c = record (keeping_numbers (λ l. Ok l) (named_block c) (λ e. e)) { index = named_index c }
+raw_naming c = record (keeping_numbers (λ l. Ok l) (named_block_type c) (λ e. e)) { index = checked_index c }
 
 abbrev pub raw_named : BodyContext → RawOperation → Checked NamedOperation
 raw_named c o = translate (raw_naming c) o

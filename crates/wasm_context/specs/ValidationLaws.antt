@@ -20,7 +20,7 @@ use Rattle.wasm_typing.specs.StandardRules.{standard_rules}
 use Rattle.wasm_context.specs.Validation.{BodyContext, BodyState, tag_signature, raw_named, refusal_number, steps_through}
 
 -- The environment is that of the module of the context: its ids are the indices, and it has the same function types and tags.
-pub record IsSameModule (env : Environment) (c : BodyContext) : Type 0 where
+pub record IsModuleOfContext (env : Environment) (c : BodyContext) : Type 0 where
   pub index : (space : Space) (n m : ℕ) → env.id_of space n ≡ Ok m → m ≡ n
   pub local : (n m : ℕ) → env.local_of n ≡ Ok m → m ≡ n
   pub type : (n m : ℕ) → env.id_of Types n ≡ Ok m → (t : DefinedType) × (slice_get c.operands.types n ≡ Some t)
@@ -31,11 +31,11 @@ pub record IsSameModule (env : Environment) (c : BodyContext) : Type 0 where
 -- An operator that has a name there has the same one here.
 abbrev pub SameNames : Type 0
 SameNames =
-    (env : Environment) (c : BodyContext) → IsSameModule env c →
+    (env : Environment) (c : BodyContext) → IsModuleOfContext env c →
     (fs : List (SequenceFrame Occurrence)) (o : RawOperation) (n : NamedOperation) → translate (naming env fs) o ≡ Ok n → raw_named c o ≡ Ok n
 
 -- So the operators of an accepted body have the same verdict, from any state on.
 abbrev pub SameVerdicts : Type 0
 SameVerdicts =
-    (env : Environment) (c : BodyContext) → IsSameModule env c → (xs : List Occurrence) (b : Body Occurrence) → Lawful env xs b → (s : BodyState) →
+    (env : Environment) (c : BodyContext) → IsModuleOfContext env c → (xs : List Occurrence) (b : Body Occurrence) → Lawful env xs b → (s : BodyState) →
     steps_through c s (map placed xs) ≡ with_fault (λ e. refusal_number) (validate (typing_of env) (standard_rules c.operands) (map name_at xs) s)

@@ -1,9 +1,9 @@
 //! What blocks take and give.
 ghost use Rattle.std.specs.Prelude.{◌≡◌, option_map};
 ghost use Rattle.wasm_body.specs.Validity.{required};
-ghost use Rattle.wasm_context.specs.Validation.{named_block};
+ghost use Rattle.wasm_context.specs.Validation.{named_block_type};
 ghost use Rattle.wasm_context.specs.Contexts.{Locals, context_of};
-ghost use Rattle.wasm_context.specs.TypeLists.{block_signature};
+ghost use Rattle.wasm_context.specs.TypeLists.{signature_of_block};
 
 use crate::context::Context;
 use wasm_operators::{BlockType, RawValType};
@@ -34,8 +34,8 @@ impl Context {
     /// What a block of this type takes and gives; `None` if the type names something that isn't there, or another
     /// type than that of functions.
     pub fn block_types(&self, ty: BlockType) -> Option<BlockTypes>
-        ensures { (locals : Locals) → named_block (context_of self.now locals) ty
-            ≡ required (option_map (block_signature self.now) result) }
+        ensures { (locals : Locals) → named_block_type (context_of self.now locals) ty
+            ≡ required (option_map (signature_of_block self.now) result) }
     {
         match ty {
             BlockType::Empty => Some(BlockTypes {

@@ -5,6 +5,9 @@
 
 mod blocks;
 mod context;
+mod declared_type;
+mod definitions;
+mod keys;
 mod laws;
 mod lookups;
 mod matching;
@@ -12,6 +15,8 @@ mod types;
 
 pub use blocks::{BlockTypes, TypeList};
 pub use context::{AddressType, Context, GlobalType, TableType};
+pub use declared_type::{DeclaredType, are_below};
+pub use definitions::Definitions;
 pub use laws::law_raw_validity;
 pub use matching::{difference, matches_abstract};
 pub use types::{

@@ -1,10 +1,11 @@
-//! What the indices of a module name. Each function returns `None`, or `false`, where nothing of its kind has the index.
+//! What the indices of a module name. Where nothing has the index, or nothing of the kind that is asked for, a
+//! function returns `None`, or `false`.
 ghost use Rattle.std.specs.Prelude.{◌≡◌, map, slice_get, option_map, nat_lt, IfSome, Some};
 ghost use Rattle.walrus_ir.specs.Types.{signature};
 ghost use Rattle.wasm_body.specs.Validity.{required};
 ghost use Rattle.wasm_typing.specs.Contexts.{contains, function_type_in, struct_type, array_type};
 ghost use Rattle.wasm_context.specs.Validation.{tag_signature};
-ghost use Rattle.wasm_context.specs.Contexts.{module_of, context_of, field_of, table_of, address_of, global_of, params_at, results_at, signature_at};
+ghost use Rattle.wasm_context.specs.Contexts.{without_locals, context_of, field_of, table_of, address_of, global_type_in, params_at, results_at, signature_at};
 
 use crate::context::{AddressType, Context, GlobalType, TableType};
 use crate::types::{CompositeType, FieldType, RawRefType};
@@ -15,7 +16,7 @@ impl Context {
 
     /// The types of the parameters and of the results of the function type with this index.
     pub fn function_type(&self, index: u32) -> Option<(&[RawValType], &[RawValType])>
-        ensures { function_type_in (module_of self.now) index
+        ensures { function_type_in (without_locals self.now) index
             ≡ required (option_map (λ s. signature s.0.now s.1.now) result) }
     {
         match self.types.get(index as usize) {
@@ -49,7 +50,7 @@ impl Context {
 
     /// The fields of the struct type with this index.
     pub fn struct_fields(&self, index: u32) -> Option<&[FieldType]>
-        ensures { struct_type (module_of self.now) index
+        ensures { struct_type (without_locals self.now) index
             ≡ required (option_map (λ fields. map field_of fields.now) result) }
     {
         match self.types.get(index as usize) {
@@ -63,7 +64,7 @@ impl Context {
 
     /// The type of the elements of the array type with this index.
     pub fn array_element(&self, index: u32) -> Option<FieldType>
-        ensures { array_type (module_of self.now) index ≡ required (option_map field_of result) }
+        ensures { array_type (without_locals self.now) index ≡ required (option_map field_of result) }
     {
         match self.types.get(index as usize) {
             Some(ty) => match ty.composite {
@@ -76,7 +77,7 @@ impl Context {
 
     /// The index of the type of the function with this index.
     pub fn function_of(&self, func: u32) -> Option<u32>
-        ensures { slice_get (module_of self.now).functions func ≡ result }
+        ensures { slice_get (without_locals self.now).functions func ≡ result }
     {
         self.functions.get(func as usize).copied()
     }
@@ -90,7 +91,7 @@ impl Context {
 
     /// Whether `ref.func` may name the function with this index.
     pub fn is_referenced(&self, func: u32) -> bool
-        ensures { contains func (module_of self.now).referenced ≡ result }
+        ensures { contains func (without_locals self.now).referenced ≡ result }
     {
         match self.mark(func) {
             Some(is_referenced) => is_referenced,
@@ -115,7 +116,7 @@ impl Context {
 
     /// The type of the table with this index.
     pub fn table(&self, index: u32) -> Option<TableType>
-        ensures { slice_get (module_of self.now).tables index ≡ option_map table_of result }
+        ensures { slice_get (without_locals self.now).tables index ≡ option_map table_of result }
     {
         match self.tables.get(index as usize) {
             Some(table) => Some(*table),
@@ -125,14 +126,14 @@ impl Context {
 
     /// The type of the addresses of the memory with this index.
     pub fn memory(&self, index: u32) -> Option<AddressType>
-        ensures { slice_get (module_of self.now).memories index ≡ option_map address_of result }
+        ensures { slice_get (without_locals self.now).memories index ≡ option_map address_of result }
     {
         self.memories.get(index as usize).copied()
     }
 
     /// The type of the global with this index.
     pub fn global(&self, index: u32) -> Option<GlobalType>
-        ensures { slice_get (module_of self.now).globals index ≡ option_map global_of result }
+        ensures { slice_get (without_locals self.now).globals index ≡ option_map global_type_in result }
     {
         match self.globals.get(index as usize) {
             Some(global) => Some(*global),
@@ -142,14 +143,14 @@ impl Context {
 
     /// The type of the element segment with this index.
     pub fn element(&self, index: u32) -> Option<RawRefType>
-        ensures { slice_get (module_of self.now).elements index ≡ result }
+        ensures { slice_get (without_locals self.now).elements index ≡ result }
     {
         self.elements.get(index as usize).copied()
     }
 
     /// Whether there is a data segment with this index.
     pub fn has_data(&self, index: u32) -> bool
-        ensures { nat_lt index (module_of self.now).data_segments ≡ result }
+        ensures { nat_lt index (without_locals self.now).data_segments ≡ result }
     {
         index < self.data_segments
     }

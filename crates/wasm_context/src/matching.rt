@@ -1,10 +1,14 @@
 //! Which types match (WebAssembly core specification 3.0, validation, matching).
-ghost use Rattle.std.specs.Prelude.{◌≡◌};
-ghost use Rattle.wasm_typing.specs.Matching.{matches_abstract, top_of, bottom_of, matches_heap, matches_reference, matches_value, matches_values, matches_storage, matches_defined, first_of, supertype_of, heap_kind_at, is_valid_heap, is_valid_value, top_heap, difference};
-ghost use Rattle.wasm_context.specs.Contexts.{Locals, operands_in, module_of, storage_of};
+ghost use Rattle.std.specs.Prelude.{◌≡◌, map};
+ghost use Rattle.wasm_typing.specs.Matching.{matches_abstract, top_of, bottom_of, matches_heap, matches_reference};
+ghost use Rattle.wasm_typing.specs.Matching.{matches_value, matches_values, matches_storage, matches_defined};
+ghost use Rattle.wasm_typing.specs.Matching.{first_of, supertype_of, heap_kind_at, is_valid_heap, is_valid_value};
+ghost use Rattle.wasm_typing.specs.Matching.{top_heap, difference};
+ghost use Rattle.wasm_context.specs.Contexts.{Locals, operands_in, without_locals, storage_of, field_of, composite_in};
+ghost use Rattle.wasm_context.specs.ValidTypes.{matches_field, matches_fields, matches_composite};
 
 use crate::context::Context;
-use crate::types::{CompositeType, RawRefType, StorageType};
+use crate::types::{CompositeType, FieldType, RawRefType, StorageType};
 use wasm_operators::{RawHeapType, RawValType};
 use wasm_types::{AbstractHeapType, HeapType, ValType};
 
@@ -85,7 +89,7 @@ pub fn difference(a: RawRefType, b: RawRefType) -> RawRefType
 impl Context {
     /// The index of the first type that is the same as the one with this index.
     fn first(&self, index: u32) -> u32
-        ensures { first_of (module_of self.now) index ≡ result }
+        ensures { first_of (without_locals self.now) index ≡ result }
     {
         match self.types.get(index as usize) {
             Some(ty) => ty.first,
@@ -95,7 +99,7 @@ impl Context {
 
     /// The index of the declared supertype of the type with this index, if it is there and has one.
     fn supertype(&self, index: u32) -> Option<u32>
-        ensures { supertype_of (module_of self.now) index ≡ result }
+        ensures { supertype_of (without_locals self.now) index ≡ result }
     {
         match self.types.get(index as usize) {
             Some(ty) => ty.supertype,
@@ -105,7 +109,7 @@ impl Context {
 
     /// The abstract heap type of the type with this index, if it is there.
     fn heap_kind(&self, index: u32) -> Option<AbstractHeapType>
-        ensures { heap_kind_at (module_of self.now) index ≡ result }
+        ensures { heap_kind_at (without_locals self.now) index ≡ result }
     {
         match self.types.get(index as usize) {
             Some(ty) => match &ty.composite {
@@ -117,10 +121,10 @@ impl Context {
         }
     }
 
-    /// Whether the type with the index `index`, or a declared supertype of it, is the same as the type with the
-    /// index `wanted`.
+    /// Whether a type, or a declared supertype of it, is the same as another type; both by their indices.
     fn matches_defined(&self, index: u32, wanted: u32) -> bool
-        ensures { (locals : Locals) → matches_defined (operands_in self.now locals) index wanted ≡ result }
+        ensures { (locals : Locals)
+            → matches_defined (operands_in self.now locals) index wanted ≡ result }
     {
         let first = self.first(wanted);
         let mut current = index;
@@ -138,7 +142,8 @@ impl Context {
 
     /// Whether one heap type matches another.
     pub fn matches_heap(&self, a: RawHeapType, b: RawHeapType) -> bool
-        ensures { (locals : Locals) → matches_heap (operands_in self.now locals) a b ≡ result }
+        ensures { (locals : Locals)
+            → matches_heap (operands_in self.now locals) a b ≡ result }
     {
         match a {
             HeapType::Abstract(x) => match b {
@@ -160,14 +165,16 @@ impl Context {
 
     /// Whether one reference type matches another.
     pub fn matches_reference(&self, a: RawRefType, b: RawRefType) -> bool
-        ensures { (locals : Locals) → matches_reference (operands_in self.now locals) a b ≡ result }
+        ensures { (locals : Locals)
+            → matches_reference (operands_in self.now locals) a b ≡ result }
     {
         (!a.nullable || b.nullable) && self.matches_heap(a.heap_type, b.heap_type)
     }
 
     /// Whether one value type matches another.
     pub fn matches_value(&self, a: RawValType, b: RawValType) -> bool
-        ensures { (locals : Locals) → matches_value (operands_in self.now locals) a b ≡ result }
+        ensures { (locals : Locals)
+            → matches_value (operands_in self.now locals) a b ≡ result }
     {
         match a {
             ValType::I32 => matches!(b, ValType::I32),
@@ -184,7 +191,8 @@ impl Context {
 
     /// Whether as many value types match others, each the one at its place.
     pub fn matches_values(&self, given: &[RawValType], wanted: &[RawValType]) -> bool
-        ensures { (locals : Locals) → matches_values (operands_in self.now locals) given.now wanted.now ≡ result }
+        ensures { (locals : Locals)
+            → matches_values (operands_in self.now locals) given.now wanted.now ≡ result }
     {
         if given.len() != wanted.len() {
             return false;
@@ -209,6 +217,58 @@ impl Context {
                 StorageType::Value(y) => self.matches_value(x, y),
                 _ => false,
             },
+        }
+    }
+
+    /// Whether one field matches another.
+    pub fn matches_field(&self, a: FieldType, b: FieldType) -> bool
+        ensures { (locals : Locals)
+            → matches_field (operands_in self.now locals) (field_of a) (field_of b) ≡ result }
+    {
+        a.mutable == b.mutable
+            && self.matches_storage(a.storage, b.storage)
+            && (!a.mutable || self.matches_storage(b.storage, a.storage))
+    }
+
+    /// Whether fields, of which there may be more, match others, each the one at its place.
+    pub fn matches_fields(&self, given: &[FieldType], wanted: &[FieldType]) -> bool
+        ensures { (locals : Locals)
+            → matches_fields (operands_in self.now locals)
+            (map field_of given.now) (map field_of wanted.now) ≡ result }
+    {
+        if given.len() < wanted.len() {
+            return false;
+        }
+        for (a, b) in given.iter().zip(wanted) {
+            if !self.matches_field(*a, *b) {
+                return false;
+            }
+        }
+        true
+    }
+
+    /// Whether what one type is matches what another is. Functions match the other way round in their parameters.
+    pub fn matches_composite(&self, a: &CompositeType, b: &CompositeType) -> bool
+        ensures { (locals : Locals)
+            → matches_composite (operands_in self.now locals)
+            (composite_in a.now) (composite_in b.now) ≡ result }
+    {
+        match (a, b) {
+            (
+                CompositeType::Function { params, results },
+                CompositeType::Function {
+                    params: wanted_params,
+                    results: wanted_results,
+                },
+            ) => {
+                self.matches_values(wanted_params, params)
+                    && self.matches_values(results, wanted_results)
+            }
+            (CompositeType::Struct(given), CompositeType::Struct(wanted)) => {
+                self.matches_fields(given, wanted)
+            }
+            (CompositeType::Array(x), CompositeType::Array(y)) => self.matches_field(*x, *y),
+            _ => false,
         }
     }
 

@@ -1,4 +1,4 @@
-use Rattle.std.proofs.Common.{◌≡◌, ℕ, suc, ◌+◌, ◌-◌, [], length, ◌≢◌, arith, rules, ap, sym, ◌∙◌}
+use Rattle.std.proofs.Common.{◌≡◌, suc, ◌+◌, ◌-◌, length, ◌≢◌, arith, rules, ap, sym, ◌∙◌}
 use Rattle.std.specs.Prelude.{map, None, Some}
 use Rattle.std.proofs.lemmas.List.{length-map}
 use Rattle.wasm_typing.specs.Matching.{first_of}

@@ -1,0 +1,2 @@
+-- atomic operators of seven widths
+pub mod Widths

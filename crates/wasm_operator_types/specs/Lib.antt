@@ -1,0 +1,4 @@
+-- numeric and vector operators
+pub mod NumericTypes
+-- accesses to memory
+pub mod AccessTypes

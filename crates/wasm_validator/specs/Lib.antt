@@ -1,0 +1,14 @@
+-- states that stand
+pub mod Standing
+-- operands, frames and locals
+pub mod States
+-- what the methods do
+pub mod Steps
+-- steps
+pub mod Core
+-- plain operators
+pub mod Plain
+-- operands that are popped, whatever their types
+pub mod Popped
+-- `br_on_null`
+pub mod NullBranches
