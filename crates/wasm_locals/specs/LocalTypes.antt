@@ -9,7 +9,7 @@ use Rattle.wasm_locals.specs.Runs.{types_of_runs}
 abbrev pub types_of_locals : LocalTypes → List (ValType ℕ)
 types_of_locals l = l.params.now ++ types_of_runs 0 l.declared.now
 
--- the answer is whether the local is among the initial ones, in each module
+-- `found` is whether the local is among the initial ones, in each module
 abbrev pub IsInitial : LocalTypes → ℕ → Bool → Type 0
-IsInitial l n answer =
-    (c : OperandContext) → c.locals ≡ types_of_locals l → answer ≡ contains n (initial_locals c (range_with_len 0 (length l.params.now)))
+IsInitial l n found =
+    (c : OperandContext) → c.locals ≡ types_of_locals l → found ≡ contains n (initial_locals c (range_with_len 0 (length l.params.now)))

@@ -24,12 +24,12 @@ use Rattle.wasm_context.specs.Validation.{BodyContext, BodyState, typing_in}
 use Rattle.wasm_validator.specs.declared.fault.Fault.{Fault}
 use Rattle.wasm_validator.specs.declared.state.Validator.{Validator}
 use Rattle.wasm_validator.specs.States.{Known}
-use Rattle.wasm_validator.specs.Steps.{Answers, setting_of, operand_stack, stacks_of, inner_of, open_state, labelled, pop_in, pop_all_in, push_each_in, typed_in, ReachesHeight}
+use Rattle.wasm_validator.specs.Steps.{ResultsIn, setting_of, operand_stack, stacks_of, inner_of, open_state, labelled, pop_in, pop_all_in, push_each_in, typed_in, ReachesHeight}
 use Rattle.wasm_validator.specs.Core.{step_of, open_frames, with_operand_stack, BranchRule, conditional_in, if_rule, non_null_rule, reference_rule, last_and_before}
 use Rattle.wasm_validator.proofs.TypedPoints.{typed_point, pops_all, up_to_height}
-use Rattle.wasm_validator.proofs.Answering.{nested, mapped}
+use Rattle.wasm_validator.proofs.StepResults.{nested, mapped}
 use Rattle.wasm_validator.proofs.Lists.{length_onto}
-use Rattle.wasm_validator.proofs.Standing.{before}
+use Rattle.wasm_validator.proofs.WellFormed.{before}
 
 -- ---- the last type first
 
@@ -138,15 +138,15 @@ module _ (v : Validator) (reach : ReachesHeight v) (o : NamedOperation) (n : ℕ
 -- a branch whose label and rule are these
 pub conditional_done : (v w : Validator) (n : ℕ) (rule : BranchRule) (d : ControlFrame) (ts us ws : List (ValType ℕ)) (r : Result (Unit {0}) Fault)
     → labelled v n ≡ Ok d → algorithm.label_types d ≡ ts → rule ts ≡ Ok (us ⟶ ws)
-    → Answers (typed_in (setting_of v) (inner_of v) us ws (operand_stack v)) r (operand_stack w) → w ≡ record v { operands = w.operands }
-    → Answers (conditional_in v n rule) r (open_state w)
+    → ResultsIn (typed_in (setting_of v) (inner_of v) us ws (operand_stack v)) r (operand_stack w) → w ≡ record v { operands = w.operands }
+    → ResultsIn (conditional_in v n rule) r (open_state w)
 conditional_done v w n rule d ts us ws r at types is h same =
     let done = λ (t : InstructionType). typed_in (setting_of v) (inner_of v) t.takes t.gives (operand_stack v) >>= λ xs. Ok (with_operand_stack v xs) in
     let e : conditional_in v n rule ≡ (typed_in (setting_of v) (inner_of v) us ws (operand_stack v) >>= λ xs. Ok (with_operand_stack v xs)) =
     ap (λ a. a >>= λ f. rule (algorithm.label_types f) >>= done) at ∙ ap (λ l. rule l >>= done) types ∙ ap (λ a. a >>= done) is in
     let shown : open_state w ≡ with_operand_stack v (operand_stack w) = ap open_state same in
-    subst (λ a. Answers a r (open_state w)) (sym e)
-    (subst (Answers (typed_in (setting_of v) (inner_of v) us ws (operand_stack v) >>= λ xs. Ok (with_operand_stack v xs)) r) (sym shown)
+    subst (λ a. ResultsIn a r (open_state w)) (sym e)
+    (subst (ResultsIn (typed_in (setting_of v) (inner_of v) us ws (operand_stack v) >>= λ xs. Ok (with_operand_stack v xs)) r) (sym shown)
     (mapped (typed_in (setting_of v) (inner_of v) us ws (operand_stack v)) (with_operand_stack v) r (operand_stack w) h))
 
 -- ---- rules of branches

@@ -22,7 +22,7 @@ use Rattle.wasm_validator.specs.declared.state.Validator.{Validator}
 use Rattle.wasm_validator.specs.States.{Known, of_value}
 use Rattle.wasm_validator.specs.Steps.{setting_of, stacks_of, inner_of, open_state, pop_each_in, push_each_in, pop_control_in}
 use Rattle.wasm_validator.specs.Core.{open_frames, begin_in, tag_there, HandsOn, with_caught, clause_step, clauses_step, begins_try_table}
-use Rattle.wasm_validator.proofs.Answering.{refuses}
+use Rattle.wasm_validator.proofs.StepResults.{refuses}
 
 -- ---- lists of types that match, from both ends
 

@@ -26,14 +26,14 @@ use Rattle.wasm_context.specs.TypeLists.{types_in, signature_of_block}
 use Rattle.wasm_context.specs.declared.blocks.BlockTypes.{BlockTypes}
 use Rattle.wasm_context.specs.declared.blocks.TypeList.{TypeList}
 use Rattle.wasm_context.specs.declared.context.Context.{Context}
-use Rattle.wasm_validator.specs.Standing.{is_function_frame, AreNested}
+use Rattle.wasm_validator.specs.WellFormed.{is_function_frame, AreNested}
 use Rattle.wasm_validator.specs.declared.frame.Frame.{Frame}
 use Rattle.wasm_validator.specs.States.{Known, opened_of, locals_height_of, control_frame, frames_onto}
-use Rattle.wasm_validator.specs.Steps.{Answers, setting_of, arguments_of, stacks_of, operand_stack, inner_of, outer_of, open_state, ended_of, pop_in, pop_all_in, pop_control_in, push_each_in, EntersFrame, OpensFrame, Leaves}
+use Rattle.wasm_validator.specs.Steps.{ResultsIn, setting_of, arguments_of, stacks_of, operand_stack, inner_of, outer_of, open_state, ended_of, pop_in, pop_all_in, pop_control_in, push_each_in, EntersFrame, OpensFrame, Leaves}
 use Rattle.wasm_validator.specs.Core.{step_of, open_frames, with_stack, begin_from, begin_in, begins_in, begins_if_with, begins_if, next_in, given_in, elses_in, ends_in, catches_in, delegates_in}
-use Rattle.wasm_validator.proofs.Answering.{nested, refuses}
+use Rattle.wasm_validator.proofs.StepResults.{nested, refuses}
 use Rattle.wasm_validator.proofs.Frames.{closes, closes_not, length_frames}
-use Rattle.wasm_validator.proofs.Standing.{before}
+use Rattle.wasm_validator.proofs.WellFormed.{before}
 
 -- ---- named operators
 
@@ -103,7 +103,7 @@ next_refused v allowed o starts h =
 -- the frame was closed, and another takes its place
 pub next_done : (v w x : Validator) (allowed : Bool) (o : Opened) (starts : TypeList) (r : Result (Unit {0}) Fault) → allowed ≡ true
     → pop_control_in (setting_of v) (inner_of v) (stacks_of v) ≡ Ok (stacks_of w) → w ≡ record v { operands = w.operands; set = w.set }
-    → OnOk r (EntersFrame w x o starts w.inner.ends) → IfErr r (λ e. e ≡ fault.Memory) → Answers (next_in v allowed o (types_in v.context.now starts)) r (open_state x)
+    → OnOk r (EntersFrame w x o starts w.inner.ends) → IfErr r (λ e. e ≡ fault.Memory) → ResultsIn (next_in v allowed o (types_in v.context.now starts)) r (open_state x)
 next_done v w x allowed o starts (Err fault.Memory) a p same h e = tt
 next_done v w x allowed o starts (Err fault.Refused) a p same h e = absurd cc
 next_done v w x allowed o starts (Ok u) a p same h e =
@@ -240,7 +240,7 @@ opening o types z t =
 
 pub begin_done : (v w x : Validator) (o : Opened) (types : BlockTypes) (r : Result (Unit {0}) Fault)
     → pop_all_in (setting_of v) (inner_of v) (types_in v.context.now types.params) (operand_stack v) ≡ Ok (operand_stack w) → w ≡ record v { operands = w.operands }
-    → OnOk r (OpensFrame w x o types.params types.results) → IfErr r (λ e. e ≡ fault.Memory) → Answers (begin_in v o (signature_of_block v.context.now types)) r (open_state x)
+    → OnOk r (OpensFrame w x o types.params types.results) → IfErr r (λ e. e ≡ fault.Memory) → ResultsIn (begin_in v o (signature_of_block v.context.now types)) r (open_state x)
 begin_done v w x o types (Err fault.Memory) p same h e = tt
 begin_done v w x o types (Err fault.Refused) p same h e = absurd cc
 begin_done v w x o types (Ok u) p same h e =
@@ -250,8 +250,8 @@ begin_done v w x o types (Ok u) p same h e =
 
 -- after the condition of an `if`
 pub if_done : (v w : Validator) (s : BodyState) (types : BlockTypes) (r : Result (Unit {0}) Fault) → w ≡ record v { operands = w.operands }
-    → Answers (begin_in w opened.If (signature_of_block w.context.now types)) r s → Answers (begin_from v (with_stack v (operand_stack w)) opened.If (signature_of_block v.context.now types)) r s
-if_done v w s types r same h = subst (λ (z : Validator). Answers (begin_from z (stacks_of z) opened.If (signature_of_block z.context.now types)) r s) same h
+    → ResultsIn (begin_in w opened.If (signature_of_block w.context.now types)) r s → ResultsIn (begin_from v (with_stack v (operand_stack w)) opened.If (signature_of_block v.context.now types)) r s
+if_done v w s types r same h = subst (λ (z : Validator). ResultsIn (begin_from z (stacks_of z) opened.If (signature_of_block z.context.now types)) r s) same h
 
 -- ---- what the code does where it closes a construct
 
@@ -267,10 +267,10 @@ alone : (f : ControlFrame) (fs : List ControlFrame) → AreNested (f ∷ fs) →
 alone f [] n h = refl
 alone f (g ∷ fs) n h = absurd (cc (n.0, h))
 
-pub given_answers : (a : Checked BodyState) (s t : BodyState) (r : Result (Unit {0}) Fault) → a ≡ Ok s → OnOk r (s ≡ t) → IfErr r (λ e. e ≡ fault.Memory) → Answers a r t
-given_answers a s t (Err fault.Memory) h k e = tt
-given_answers a s t (Err fault.Refused) h k e = absurd cc
-given_answers a s t (Ok u) h k e = h ∙ ap Ok k
+pub given_results : (a : Checked BodyState) (s t : BodyState) (r : Result (Unit {0}) Fault) → a ≡ Ok s → OnOk r (s ≡ t) → IfErr r (λ e. e ≡ fault.Memory) → ResultsIn a r t
+given_results a s t (Err fault.Memory) h k e = tt
+given_results a s t (Err fault.Refused) h k e = absurd cc
+given_results a s t (Ok u) h k e = h ∙ ap Ok k
 
 abbrev around : Validator → Stacks KnownOperand → List ControlFrame → BodyState
 around z t fs = algorithm.given (typing_in (setting_of z)) (standard_rules (setting_of z).operands) (inner_of z).end_types t fs

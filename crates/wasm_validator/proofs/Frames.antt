@@ -16,7 +16,7 @@ use Rattle.wasm_context.specs.TypeLists.{types_in}
 use Rattle.wasm_context.specs.declared.blocks.TypeList.{TypeList}
 use Rattle.wasm_context.specs.declared.context.Context.{Context}
 use Rattle.wasm_validator.specs.States.{Known, control_frame, frames_onto, opened_of, locals_height_of}
-use Rattle.wasm_validator.specs.Standing.{is_function_frame}
+use Rattle.wasm_validator.specs.WellFormed.{is_function_frame}
 use Rattle.wasm_validator.specs.Steps.{setting_of, operand_stack, stacks_of, inner_of, outer_of, open_state, pop_all_in, push_each_in, pop_control_in, EntersFrame, OpensFrame}
 
 -- ---- lists of frames

@@ -15,7 +15,7 @@ use Rattle.wasm_validator.specs.declared.operand.Operand.{Operand}
 use Rattle.wasm_validator.specs.States.{Known, known_of, operands_onto}
 use Rattle.wasm_validator.specs.Steps.{setting_of, inner_of, fits_in, pop_all_in}
 use Rattle.wasm_validator.specs.Core.{holds_from}
-use Rattle.wasm_validator.proofs.Answering.{fitting_is}
+use Rattle.wasm_validator.proofs.StepResults.{fitting_is}
 use Rattle.wasm_validator.proofs.Branches.{last_first}
 use Rattle.wasm_validator.proofs.Lists.{onto_last, length_onto}
 use Rattle.wasm_validator.proofs.Popping.{nothing_left}

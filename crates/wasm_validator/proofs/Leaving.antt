@@ -18,10 +18,10 @@ use Rattle.wasm_validator.specs.declared.fault.Fault.{Fault}
 use Rattle.wasm_validator.specs.declared.fault.Fault.TheVariants as fault
 use Rattle.wasm_validator.specs.declared.state.Validator.{Validator}
 use Rattle.wasm_validator.specs.States.{Known, of_value}
-use Rattle.wasm_validator.specs.Steps.{Answers, setting_of, operand_stack, stacks_of, inner_of, outer_of, labelled, pop_in, pop_all_in, push_each_in, typed_in, ReachesHeight}
+use Rattle.wasm_validator.specs.Steps.{ResultsIn, setting_of, operand_stack, stacks_of, inner_of, outer_of, labelled, pop_in, pop_all_in, push_each_in, typed_in, ReachesHeight}
 use Rattle.wasm_validator.specs.Core.{step_of, open_frames, with_stack, unreachable_with, branch_in, leaves_with, throws_in, tail_in}
 use Rattle.wasm_validator.proofs.TypedPoints.{pops_all}
-use Rattle.wasm_validator.proofs.Answering.{nested, goes_on}
+use Rattle.wasm_validator.proofs.StepResults.{nested, goes_on}
 use Rattle.wasm_validator.proofs.Branches.{last_first, push_after, high, low, whole, long, ends_low}
 
 -- ---- types that are popped and pushed, and one more
@@ -128,19 +128,19 @@ module _ (v : Validator) (reach : ReachesHeight v) where
 -- the last operand is popped, and then those before it
 pub tail_done : (v w : Validator) (s : BodyState) (ts us : List (ValType ℕ)) (t : ValType ℕ) (r : Result (Unit {0}) Fault)
     → matches_values (setting_of v).operands us (algorithm.results (open_frames v)) ≡ true
-    → pop_in (setting_of v) (inner_of v) t (operand_stack v) ≡ Ok (operand_stack w) → w ≡ record v { operands = w.operands } → Answers (leaves_with w ts) r s
-    → Answers (tail_in v (Ok (ts ++ t ∷ [] ⟶ us))) r s
+    → pop_in (setting_of v) (inner_of v) t (operand_stack v) ≡ Ok (operand_stack w) → w ≡ record v { operands = w.operands } → ResultsIn (leaves_with w ts) r s
+    → ResultsIn (tail_in v (Ok (ts ++ t ∷ [] ⟶ us))) r s
 tail_done v w s ts us t r h p same then =
     let rest : List Known → Checked BodyState = λ xs. pop_all_in (setting_of v) (inner_of v) ts xs >>= λ ys. Ok (unreachable_with v ys) in
-    let after : Answers (rest (operand_stack w)) r s = subst (λ (z : Validator). Answers (pop_all_in (setting_of z) (inner_of z) ts (operand_stack w) >>= λ ys. Ok (unreachable_with z ys)) r s) same then in
-    subst (λ a. Answers a r s) (sym (tail_tested v (ts ++ t ∷ []) us true h ∙ leaves_last v ts t))
+    let after : ResultsIn (rest (operand_stack w)) r s = subst (λ (z : Validator). ResultsIn (pop_all_in (setting_of z) (inner_of z) ts (operand_stack w) >>= λ ys. Ok (unreachable_with z ys)) r s) same then in
+    subst (λ a. ResultsIn a r s) (sym (tail_tested v (ts ++ t ∷ []) us true h ∙ leaves_last v ts t))
     (goes_on (pop_in (setting_of v) (inner_of v) t (operand_stack v)) rest (operand_stack w) s r p after)
 
 -- types were popped and pushed, and one more is pushed
 pub exchange_done : (v w x y : Validator) (ts : List (ValType ℕ)) (t u : ValType ℕ) (r : Result (Unit {0}) Fault)
     → pop_in (setting_of v) (inner_of v) t (operand_stack v) ≡ Ok (operand_stack w) → w ≡ record v { operands = w.operands }
     → typed_in (setting_of w) (inner_of w) ts ts (operand_stack w) ≡ Ok (operand_stack x) → OnOk r (operand_stack y ≡ of_value u ∷ operand_stack x) → IfErr r (λ e. e ≡ fault.Memory)
-    → Answers (typed_in (setting_of v) (inner_of v) (ts ++ t ∷ []) (ts ++ u ∷ []) (operand_stack v)) r (operand_stack y)
+    → ResultsIn (typed_in (setting_of v) (inner_of v) (ts ++ t ∷ []) (ts ++ u ∷ []) (operand_stack v)) r (operand_stack y)
 exchange_done v w x y ts t u (Err fault.Memory) p same q h e = tt
 exchange_done v w x y ts t u (Err fault.Refused) p same q h e = absurd cc
 exchange_done v w x y ts t u (Ok z) p same q h e =

@@ -1,13 +1,13 @@
 -- lists whose last item is the topmost
 pub mod Lists
 -- results of steps, one after the other
-pub mod Answering
+pub mod StepResults
 -- operands that are popped
 pub mod Popping
 -- frames that are opened and closed, and labels
 pub mod Frames
--- states that stand: after a step of the algorithm they stand again
-pub mod Standing
+-- well-formed states: after a step of the algorithm they are well-formed again
+pub mod WellFormed
 -- constructs
 pub mod Constructs
 -- the clauses of `try_table`

@@ -18,12 +18,12 @@ use Rattle.wasm_validator.specs.declared.fault.Fault.{Fault}
 use Rattle.wasm_validator.specs.declared.fault.Fault.TheVariants as fault
 use Rattle.wasm_validator.specs.declared.state.Validator.{Validator}
 use Rattle.wasm_validator.specs.States.{Known}
-use Rattle.wasm_validator.specs.Steps.{Answers, setting_of, operand_stack, inner_of, open_state, labelled, push_each_in, typed_in, ReachesHeight}
+use Rattle.wasm_validator.specs.Steps.{ResultsIn, setting_of, operand_stack, inner_of, open_state, labelled, push_each_in, typed_in, ReachesHeight}
 use Rattle.wasm_validator.specs.Plain.{point_in}
 use Rattle.wasm_validator.specs.Core.{with_operand_stack}
 use Rattle.wasm_validator.specs.Popped.{popped_reference, reference_in}
 use Rattle.wasm_validator.specs.NullBranches.{null_then, null_branch_in}
-use Rattle.wasm_validator.proofs.Answering.{passes_on}
+use Rattle.wasm_validator.proofs.StepResults.{passes_on}
 use Rattle.wasm_validator.proofs.TypedPoints.{pops_all, pushes}
 use Rattle.wasm_validator.proofs.PlainOperators.{low, long, change, after}
 use Rattle.wasm_validator.proofs.PointRules.{shifted, reference_over, reference_whole, done, without_option}
@@ -81,12 +81,12 @@ module _ (v w : Validator) (n : ℕ) (d : ControlFrame) (list : TypeList) (ts : 
       ∙ ap (λ a. a >>= null_then v ts) pops
       ∙ sym (ap (λ (u : Validator). typed_in (setting_of u) (inner_of u) ts ts xs >>= then_in) same)
 
-  pub null_unapplied : (e : Fault) (x : List Known) (s : BodyState) → Answers (typed_in (setting_of w) (inner_of w) ts ts (operand_stack w)) (Err e) x → Answers (null_branch_in v n) (Err e) s
-  null_unapplied e x s h = subst (λ a. Answers a (Err e) s) (sym branch_by) (passes_on (typed_in (setting_of w) (inner_of w) ts ts (operand_stack w)) then_in x s e h)
+  pub null_unapplied : (e : Fault) (x : List Known) (s : BodyState) → ResultsIn (typed_in (setting_of w) (inner_of w) ts ts (operand_stack w)) (Err e) x → ResultsIn (null_branch_in v n) (Err e) s
+  null_unapplied e x s h = subst (λ a. ResultsIn a (Err e) s) (sym branch_by) (passes_on (typed_in (setting_of w) (inner_of w) ts ts (operand_stack w)) then_in x s e h)
 
   pub null_pushed : (x y : Validator) (o : Known) (r : Result (Unit {0}) Fault) → typed_in (setting_of w) (inner_of w) ts ts (operand_stack w) ≡ Ok (operand_stack x)
       → x ≡ record w { operands = x.operands } → o ≡ algorithm.Known (not_null k) → OnOk r (operand_stack y ≡ o ∷ operand_stack x) → IfErr r (λ e. e ≡ fault.Memory)
-      → y ≡ record x { operands = y.operands } → Answers (null_branch_in v n) r (open_state y)
+      → y ≡ record x { operands = y.operands } → ResultsIn (null_branch_in v n) r (open_state y)
   null_pushed x y o (Err fault.Memory) typed again is h e last = tt
   null_pushed x y o (Err fault.Refused) typed again is h e last = absurd cc
   null_pushed x y o (Ok u) typed again is h e last =

@@ -21,20 +21,20 @@ use Rattle.wasm_context.specs.Validation.{BodyContext, BodyState, typing_in, nam
 use Rattle.wasm_validator.specs.declared.fault.Fault.{Fault}
 use Rattle.wasm_validator.specs.declared.state.Validator.{Validator}
 use Rattle.wasm_validator.specs.States.{Known}
-use Rattle.wasm_validator.specs.Steps.{Answers, setting_of, operand_stack, stacks_of, inner_of, outer_of, open_state, pop_in, pop_all_in, push_each_in, typed_in, ReachesHeight}
+use Rattle.wasm_validator.specs.Steps.{ResultsIn, setting_of, operand_stack, stacks_of, inner_of, outer_of, open_state, pop_in, pop_all_in, push_each_in, typed_in, ReachesHeight}
 use Rattle.wasm_validator.specs.Plain.{stacks_with, state_with_stacks, plain_in, point_in, changed_in, pointed_in}
-use Rattle.wasm_validator.proofs.Answering.{nested, mapped}
+use Rattle.wasm_validator.proofs.StepResults.{nested, mapped}
 use Rattle.wasm_validator.proofs.Lists.{length_onto}
 use Rattle.wasm_validator.proofs.TypedPoints.{typed_point}
 
 -- operands that were popped and pushed, by a type that initialises no locals
 pub typed_done : (v w : Validator) (ts us : List (ValType ℕ)) (r : Result (Unit {0}) Fault)
-    → Answers (typed_in (setting_of v) (inner_of v) ts us (operand_stack v)) r (operand_stack w) → w ≡ record v { operands = w.operands }
-    → Answers (plain_in v (Ok (ts ⟶ us))) r (open_state w)
+    → ResultsIn (typed_in (setting_of v) (inner_of v) ts us (operand_stack v)) r (operand_stack w) → w ≡ record v { operands = w.operands }
+    → ResultsIn (plain_in v (Ok (ts ⟶ us))) r (open_state w)
 typed_done v w ts us r h same =
     let done = λ (xs : List Known). state_with_stacks v (stacks_with v [] xs) in
     let shown : open_state w ≡ done (operand_stack w) = ap open_state same in
-    subst (Answers (plain_in v (Ok (ts ⟶ us))) r) (sym shown) (mapped (typed_in (setting_of v) (inner_of v) ts us (operand_stack v)) done r (operand_stack w) h)
+    subst (ResultsIn (plain_in v (Ok (ts ⟶ us))) r) (sym shown) (mapped (typed_in (setting_of v) (inner_of v) ts us (operand_stack v)) done r (operand_stack w) h)
 
 -- ---- what the algorithm does at a plain operator
 
@@ -121,8 +121,8 @@ last_then b f ts t us xs =
 -- ---- types that are looked up, test by test
 
 pub same_type : (v w : Validator) (type want : Checked InstructionType) (r : Result (Unit {0}) Fault) → type ≡ want
-    → Answers (plain_in v want) r (open_state w) → Answers (plain_in v type) r (open_state w)
-same_type v w type want r e h = subst (λ t. Answers (plain_in v t) r (open_state w)) (sym e) h
+    → ResultsIn (plain_in v want) r (open_state w) → ResultsIn (plain_in v type) r (open_state w)
+same_type v w type want r e h = subst (λ t. ResultsIn (plain_in v t) r (open_state w)) (sym e) h
 
 pub bound : {X Y : Type 0} (a : Checked X) (x : X) (k : X → Checked Y) → a ≡ Ok x → (a >>= k) ≡ k x
 bound a x k h = ap (λ b. b >>= k) h
@@ -143,8 +143,8 @@ demanded a result k e h = ap (λ b. b >>= k) (e ∙ ap demand h)
 -- one more operand, of the last type
 pub last_done : (v u w : Validator) (ts : List (ValType ℕ)) (t : ValType ℕ) (us : List (ValType ℕ)) (r : Result (Unit {0}) Fault)
     → pop_in (setting_of v) (inner_of v) t (operand_stack v) ≡ Ok (operand_stack u) → u ≡ record v { operands = u.operands }
-    → Answers (typed_in (setting_of u) (inner_of u) ts us (operand_stack u)) r (operand_stack w) → w ≡ record u { operands = w.operands }
-    → Answers (plain_in v (Ok (ts ++ t ∷ [] ⟶ us))) r (open_state w)
+    → ResultsIn (typed_in (setting_of u) (inner_of u) ts us (operand_stack u)) r (operand_stack w) → w ≡ record u { operands = w.operands }
+    → ResultsIn (plain_in v (Ok (ts ++ t ∷ [] ⟶ us))) r (open_state w)
 last_done v u w ts t us r pops same done again =
     let b = setting_of v in
     let f = inner_of v in
@@ -152,4 +152,4 @@ last_done v u w ts t us r pops same done again =
     last_then b f ts t us (operand_stack v) ∙ ap (λ a. a >>= typed_in b f ts us) pops ∙ sym (ap (λ x. typed_in (setting_of x) (inner_of x) ts us (operand_stack u)) same) in
     let with_those : Validator → Validator = λ x. record x { operands = w.operands } in
     let whole : w ≡ record v { operands = w.operands } = again ∙ ap with_those same in
-    typed_done v w (ts ++ t ∷ []) us r (subst (λ a. Answers a r (operand_stack w)) (sym here) done) whole
+    typed_done v w (ts ++ t ∷ []) us r (subst (λ a. ResultsIn a r (operand_stack w)) (sym here) done) whole

@@ -27,7 +27,7 @@ use Rattle.wasm_validator.specs.States.{Known, of_value}
 use Rattle.wasm_validator.specs.Steps.{setting_of, operand_stack, stacks_of, inner_of, open_state, pop_in, ReachesHeight}
 use Rattle.wasm_validator.specs.Plain.{plain_in, point_in, changed_in, pointed_in, local_get_in}
 use Rattle.wasm_validator.specs.Popped.{popped, popped_reference, any_in, reference_in, topmost, leaving_in, drops_in, picks_in, selects_in, tests_null_in, non_null_in, converts_in}
-use Rattle.wasm_validator.proofs.Answering.{nested}
+use Rattle.wasm_validator.proofs.StepResults.{nested}
 use Rattle.wasm_validator.proofs.PoppedOperands.{by_height}
 use Rattle.wasm_validator.proofs.TypedPoints.{at_height, over_height, pops, required_again}
 use Rattle.wasm_validator.proofs.PlainOperators.{high, low, whole, long, change, after, of_type as of_type_rule, rule_then, does_plain}

@@ -16,8 +16,8 @@ use Rattle.wasm_validator.specs.declared.fault.Fault.{Fault}
 use Rattle.wasm_validator.specs.declared.state.Validator.{Validator}
 use Rattle.wasm_validator.specs.States.{Known}
 use Rattle.wasm_validator.specs.Plain.{field_types}
-use Rattle.wasm_validator.specs.Steps.{Answers, setting_of, operand_stack, inner_of, pop_in, pop_each_in, pop_all_in}
-use Rattle.wasm_validator.proofs.Answering.{passes_on}
+use Rattle.wasm_validator.specs.Steps.{ResultsIn, setting_of, operand_stack, inner_of, pop_in, pop_each_in, pop_all_in}
+use Rattle.wasm_validator.proofs.StepResults.{passes_on}
 
 -- the last of the first types
 pub take_then : (b : BodyContext) (f : ControlFrame) (ts : List (ValType ℕ)) (k n : ℕ) (t : ValType ℕ) (xs : List Known) → n ≡ k + 1 → slice_get ts k ≡ Some t
@@ -72,21 +72,21 @@ module _ (v u w : Validator) (k n : ℕ) (t : ValType ℕ) (more : n ≡ k + 1) 
       sym (take_then b f ts k n t (operand_stack u) more at ∙ ap (λ a. a >>= pop_all_in b f (take k ts)) (sym (popping (λ a. a)) ∙ popped)) ∙ h
 
   pub fields_end : (ts : List (ValType ℕ)) (whole : Checked (List Known)) (e : Fault) → slice_get ts k ≡ Some t
-      → Answers (pop_in (setting_of u) (inner_of u) t (operand_stack u)) (Err e) (operand_stack w) → pop_all_in b f (take n ts) (operand_stack u) ≡ whole
-      → Answers whole (Err e) (operand_stack w)
+      → ResultsIn (pop_in (setting_of u) (inner_of u) t (operand_stack u)) (Err e) (operand_stack w) → pop_all_in b f (take n ts) (operand_stack u) ≡ whole
+      → ResultsIn whole (Err e) (operand_stack w)
   fields_end ts whole e at popped h =
-      subst (λ a. Answers a (Err e) (operand_stack w)) (sym (take_then b f ts k n t (operand_stack u) more at) ∙ h)
+      subst (λ a. ResultsIn a (Err e) (operand_stack w)) (sym (take_then b f ts k n t (operand_stack u) more at) ∙ h)
       (passes_on (pop_in b f t (operand_stack u)) (pop_all_in b f (take k ts)) (operand_stack w) (operand_stack w) e
-      (subst (λ a. Answers a (Err e) (operand_stack w)) (popping (λ a. a)) popped))
+      (subst (λ a. ResultsIn a (Err e) (operand_stack w)) (popping (λ a. a)) popped))
 
   pub same_on : (whole : Checked (List Known)) → pop_in (setting_of u) (inner_of u) t (operand_stack u) ≡ Ok (operand_stack w)
       → pop_each_in b f (replicate n t) (operand_stack u) ≡ whole → pop_each_in b f (replicate k t) (operand_stack w) ≡ whole
   same_on whole popped h =
       sym (same_then b f k n t (operand_stack u) more ∙ ap (λ a. a >>= pop_each_in b f (replicate k t)) (sym (popping (λ a. a)) ∙ popped)) ∙ h
 
-  pub same_end : (whole : Checked (List Known)) (e : Fault) → Answers (pop_in (setting_of u) (inner_of u) t (operand_stack u)) (Err e) (operand_stack w)
-      → pop_each_in b f (replicate n t) (operand_stack u) ≡ whole → Answers whole (Err e) (operand_stack w)
+  pub same_end : (whole : Checked (List Known)) (e : Fault) → ResultsIn (pop_in (setting_of u) (inner_of u) t (operand_stack u)) (Err e) (operand_stack w)
+      → pop_each_in b f (replicate n t) (operand_stack u) ≡ whole → ResultsIn whole (Err e) (operand_stack w)
   same_end whole e popped h =
-      subst (λ a. Answers a (Err e) (operand_stack w)) (sym (same_then b f k n t (operand_stack u) more) ∙ h)
+      subst (λ a. ResultsIn a (Err e) (operand_stack w)) (sym (same_then b f k n t (operand_stack u) more) ∙ h)
       (passes_on (pop_in b f t (operand_stack u)) (pop_each_in b f (replicate k t)) (operand_stack w) (operand_stack w) e
-      (subst (λ a. Answers a (Err e) (operand_stack w)) (popping (λ a. a)) popped))
+      (subst (λ a. ResultsIn a (Err e) (operand_stack w)) (popping (λ a. a)) popped))

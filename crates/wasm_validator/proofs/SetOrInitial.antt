@@ -13,13 +13,13 @@ or_false : (b : Bool) → (b || false) ≡ b
 or_false true = refl
 or_false false = refl
 
-pub contains_initial : (n : ℕ) (set initial : List ℕ) (answer : Bool) → contains n initial ≡ answer → answer ≡ true → contains n (set ++ initial) ≡ answer
-contains_initial n set initial answer e h =
+pub contains_initial : (n : ℕ) (set initial : List ℕ) (found : Bool) → contains n initial ≡ found → found ≡ true → contains n (set ++ initial) ≡ found
+contains_initial n set initial found e h =
     list_any-append (nat_eq n) set initial ∙ (ap (λ b. contains n set || b) (e ∙ h) ∙ (or_true (contains n set) ∙ sym h))
 
-pub contains_set : (n : ℕ) (set initial : List ℕ) (answer in_set : Bool) → contains n initial ≡ answer → answer ≡ false → contains n set ≡ in_set
+pub contains_set : (n : ℕ) (set initial : List ℕ) (found in_set : Bool) → contains n initial ≡ found → found ≡ false → contains n set ≡ in_set
     → contains n (set ++ initial) ≡ in_set
-contains_set n set initial answer in_set e h f =
+contains_set n set initial found in_set e h f =
     list_any-append (nat_eq n) set initial ∙ (ap (λ b. contains n set || b) (e ∙ h) ∙ (or_false (contains n set) ∙ f))
 
 set_local : (n : ℕ) (ls : List ℕ) (is_set : Bool) → contains n ls ≡ is_set → set_locals (n ∷ []) ls ≡ cond is_set ls (n ∷ ls)

@@ -13,9 +13,9 @@ use Rattle.wasm_context.specs.Validation.{BodyState, typing_in}
 use Rattle.wasm_validator.specs.declared.fault.Fault.{Fault}
 use Rattle.wasm_validator.specs.declared.state.Validator.{Validator}
 use Rattle.wasm_validator.specs.States.{Known}
-use Rattle.wasm_validator.specs.Steps.{Answers, setting_of, operand_stack, stacks_of, inner_of, labelled, pop_in, pop_all_in}
+use Rattle.wasm_validator.specs.Steps.{ResultsIn, setting_of, operand_stack, stacks_of, inner_of, labelled, pop_in, pop_all_in}
 use Rattle.wasm_validator.specs.Core.{open_frames, with_stack, holds_in, targets_in, leaves_with, table_in}
-use Rattle.wasm_validator.proofs.Answering.{nested, goes_on, passes_on}
+use Rattle.wasm_validator.proofs.StepResults.{nested, goes_on, passes_on}
 use Rattle.wasm_validator.proofs.Leaving.{leaving, popped_then}
 
 module _ (v : Validator) where
@@ -71,12 +71,12 @@ chosen_with v ns n xs =
 
 -- what follows where the index was popped
 pub table_then : (v w : Validator) (s : BodyState) (ns : List ℕ) (n : ℕ) (r : Result (Unit {0}) Fault) → pop_in (setting_of v) (inner_of v) I32 (operand_stack v) ≡ Ok (operand_stack w)
-    → w ≡ record v { operands = w.operands } → Answers (chosen_in w n ns) r s → Answers (table_in v (ns, n)) r s
+    → w ≡ record v { operands = w.operands } → ResultsIn (chosen_in w n ns) r s → ResultsIn (table_in v (ns, n)) r s
 table_then v w s ns n r p same h =
     let popped = pop_in (setting_of v) (inner_of v) I32 (operand_stack v) in
-    let after : Answers (chosen w n ns >>= leaving w) r s = subst (λ a. Answers a r s) (sym (chosen_is w n ns)) h in
-    let then : Answers (chosen_with v ns n (operand_stack w) >>= leaving v) r s = subst (λ (z : Validator). Answers (chosen z n ns >>= leaving z) r s) same after in
-    subst (λ a. Answers a r s) (sym (nested popped (chosen_with v ns n) (leaving v)))
+    let after : ResultsIn (chosen w n ns >>= leaving w) r s = subst (λ a. ResultsIn a r s) (sym (chosen_is w n ns)) h in
+    let then : ResultsIn (chosen_with v ns n (operand_stack w) >>= leaving v) r s = subst (λ (z : Validator). ResultsIn (chosen z n ns >>= leaving z) r s) same after in
+    subst (λ a. ResultsIn a r s) (sym (nested popped (chosen_with v ns n) (leaving v)))
     (goes_on popped (λ xs. chosen_with v ns n xs >>= leaving v) (operand_stack w) s r p then)
 
 -- ---- what the code does
@@ -89,13 +89,13 @@ module _ (v w : Validator) (t : Table) (s : BodyState) (ns : List ℕ) (n : ℕ)
       ap (λ a. a >>= λ f. targets_in w (length (label_types f)) ns >>= λ u. leaves_with w (label_types f)) at
       ∙ ap (λ l. targets_in w (length l) ns >>= λ u. leaves_with w l) (types ∙ sym listed)
 
-  table_by : (r : Result (Unit {0}) Fault) → Answers (targets_in w (length ts) ns >>= λ u. leaves_with w ts) r s → Answers (table_in v t) r s
+  table_by : (r : Result (Unit {0}) Fault) → ResultsIn (targets_in w (length ts) ns >>= λ u. leaves_with w ts) r s → ResultsIn (table_in v t) r s
   table_by r h =
-      subst (λ l. Answers (table_in v (l, t.1)) r s) targets
-      (subst (λ m. Answers (table_in v (ns, m)) r s) default (table_then v w s ns n r popped same (subst (λ a. Answers a r s) (sym chosen_by) h)))
+      subst (λ l. ResultsIn (table_in v (l, t.1)) r s) targets
+      (subst (λ m. ResultsIn (table_in v (ns, m)) r s) default (table_then v w s ns n r popped same (subst (λ a. ResultsIn a r s) (sym chosen_by) h)))
 
-  pub table_done : (r : Result (Unit {0}) Fault) → targets_in w (length ts) ns ≡ Ok tt → Answers (leaves_with w ts) r s → Answers (table_in v t) r s
+  pub table_done : (r : Result (Unit {0}) Fault) → targets_in w (length ts) ns ≡ Ok tt → ResultsIn (leaves_with w ts) r s → ResultsIn (table_in v t) r s
   table_done r h k = table_by r (goes_on (targets_in w (length ts) ns) (λ u. leaves_with w ts) tt s r h k)
 
-  pub table_untaken : (e : Fault) → Answers (targets_in w (length ts) ns) (Err e) tt → Answers (table_in v t) (Err e) s
+  pub table_untaken : (e : Fault) → ResultsIn (targets_in w (length ts) ns) (Err e) tt → ResultsIn (table_in v t) (Err e) s
   table_untaken e h = table_by (Err e) (passes_on (targets_in w (length ts) ns) (λ u. leaves_with w ts) tt s e h)

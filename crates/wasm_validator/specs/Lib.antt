@@ -1,5 +1,5 @@
--- states that stand
-pub mod Standing
+-- well-formed states
+pub mod WellFormed
 -- operands, frames and locals
 pub mod States
 -- what the methods do

@@ -20,10 +20,10 @@ use Rattle.wasm_validator.specs.declared.frame.Opened.{Opened}
 use Rattle.wasm_validator.specs.States.{Known, operands_onto, initial_of, control_frame, frames_onto, opened_of}
 
 -- The result of a step is this; or memory ran out. After a refusal nothing is said of the state.
-abbrev pub Answers : {X : Type 0} → Checked X → Result (Unit {0}) Fault → X → Type 0
-Answers want (Ok u) new = want ≡ Ok new
-Answers want (Err fault.Refused) new = want ≡ Err refused
-Answers want (Err fault.Memory) new = Unit {0}
+abbrev pub ResultsIn : {X : Type 0} → Checked X → Result (Unit {0}) Fault → X → Type 0
+ResultsIn want (Ok u) new = want ≡ Ok new
+ResultsIn want (Err fault.Refused) new = want ≡ Err refused
+ResultsIn want (Err fault.Memory) new = Unit {0}
 
 -- ---- the state
 

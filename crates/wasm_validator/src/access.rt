@@ -9,7 +9,7 @@ ghost use Rattle.wasm_typing.specs.Rules.{is_aligned, memory_size, memory_grow, 
 ghost use Rattle.wasm_typing.specs.RuleLaws.{type_of_operator};
 ghost use Rattle.wasm_context.specs.Contexts.{address_of};
 ghost use Rattle.wasm_operator_types.specs.AccessTypes.{type_of_access, given_by};
-ghost use Rattle.wasm_validator.specs.Steps.{Answers};
+ghost use Rattle.wasm_validator.specs.Steps.{ResultsIn};
 
 use crate::fault::Fault;
 use crate::state::Validator;
@@ -47,7 +47,7 @@ impl Validator<'_> {
 
     /// An access to memory.
     fn access(&mut self, ty: AccessType, memarg: RawMemArg) -> Result<(), Fault>
-        ensures plain { Answers (plain_in self.old
+        ensures plain { ResultsIn (plain_in self.old
             (type_of_access ty (setting_of self.old).operands (access_of memarg))) result (open_state self.new) }
         ensures open { self.new.ended ≡ self.old.ended }
     {
@@ -70,7 +70,7 @@ impl Validator<'_> {
 
     /// Pops operands of these types, and pushes one of another, if there is one.
     fn gives(&mut self, takes: &[RawValType], gives: Option<RawValType>) -> Result<(), Fault>
-        ensures plain { Answers (plain_in self.old (Ok (takes.now ⟶ given_by gives))) result
+        ensures plain { ResultsIn (plain_in self.old (Ok (takes.now ⟶ given_by gives))) result
             (open_state self.new) }
         ensures open { self.new.ended ≡ self.old.ended }
     {
@@ -82,7 +82,7 @@ impl Validator<'_> {
 
     /// A load.
     pub(crate) fn load(&mut self, kind: LoadKind, memarg: RawMemArg) -> Result<(), Fault>
-        ensures plain { Answers (plain_in self.old
+        ensures plain { ResultsIn (plain_in self.old
             (type_of_operator (setting_of self.old).operands (load_operation kind (access_of memarg))))
             result (open_state self.new) }
         ensures open { self.new.ended ≡ self.old.ended }
@@ -92,7 +92,7 @@ impl Validator<'_> {
 
     /// A store.
     pub(crate) fn store(&mut self, kind: StoreKind, memarg: RawMemArg) -> Result<(), Fault>
-        ensures plain { Answers (plain_in self.old
+        ensures plain { ResultsIn (plain_in self.old
             (type_of_operator (setting_of self.old).operands (store_operation kind (access_of memarg))))
             result (open_state self.new) }
         ensures open { self.new.ended ≡ self.old.ended }
@@ -106,7 +106,7 @@ impl Validator<'_> {
         kind: LoadSimdKind,
         memarg: RawMemArg,
     ) -> Result<(), Fault>
-        ensures plain { Answers (plain_in self.old
+        ensures plain { ResultsIn (plain_in self.old
             (type_of_operator (setting_of self.old).operands
             (vector_access_operation kind (access_of memarg)))) result (open_state self.new) }
         ensures open { self.new.ended ≡ self.old.ended }
@@ -116,7 +116,7 @@ impl Validator<'_> {
 
     /// An atomic access other than a load or a store.
     pub(crate) fn atomic(&mut self, kind: AtomicKind, memarg: RawMemArg) -> Result<(), Fault>
-        ensures plain { Answers (plain_in self.old
+        ensures plain { ResultsIn (plain_in self.old
             (type_of_operator (setting_of self.old).operands (atomic_operation kind (access_of memarg))))
             result (open_state self.new) }
         ensures open { self.new.ended ≡ self.old.ended }
@@ -126,7 +126,7 @@ impl Validator<'_> {
 
     /// `memory.size`
     pub(crate) fn memory_size(&mut self, memory: u32) -> Result<(), Fault>
-        ensures plain { Answers (plain_in self.old (memory_size (setting_of self.old).operands memory))
+        ensures plain { ResultsIn (plain_in self.old (memory_size (setting_of self.old).operands memory))
             result (open_state self.new) }
         ensures open { self.new.ended ≡ self.old.ended }
     {
@@ -138,7 +138,7 @@ impl Validator<'_> {
 
     /// `memory.grow`
     pub(crate) fn memory_grow(&mut self, memory: u32) -> Result<(), Fault>
-        ensures plain { Answers (plain_in self.old (memory_grow (setting_of self.old).operands memory))
+        ensures plain { ResultsIn (plain_in self.old (memory_grow (setting_of self.old).operands memory))
             result (open_state self.new) }
         ensures open { self.new.ended ≡ self.old.ended }
     {
@@ -150,7 +150,7 @@ impl Validator<'_> {
 
     /// `memory.fill`
     pub(crate) fn memory_fill(&mut self, memory: u32) -> Result<(), Fault>
-        ensures plain { Answers (plain_in self.old (memory_fill (setting_of self.old).operands memory))
+        ensures plain { ResultsIn (plain_in self.old (memory_fill (setting_of self.old).operands memory))
             result (open_state self.new) }
         ensures open { self.new.ended ≡ self.old.ended }
     {
@@ -162,7 +162,7 @@ impl Validator<'_> {
 
     /// `memory.copy`
     pub(crate) fn memory_copy(&mut self, target: u32, source: u32) -> Result<(), Fault>
-        ensures plain { Answers (plain_in self.old
+        ensures plain { ResultsIn (plain_in self.old
             (memory_copy (setting_of self.old).operands target source)) result (open_state self.new) }
         ensures open { self.new.ended ≡ self.old.ended }
     {
@@ -177,7 +177,7 @@ impl Validator<'_> {
 
     /// `memory.init`
     pub(crate) fn memory_init(&mut self, segment: u32, memory: u32) -> Result<(), Fault>
-        ensures plain { Answers (plain_in self.old
+        ensures plain { ResultsIn (plain_in self.old
             (memory_init (setting_of self.old).operands segment memory)) result (open_state self.new) }
         ensures open { self.new.ended ≡ self.old.ended }
     {
@@ -192,7 +192,7 @@ impl Validator<'_> {
 
     /// `data.drop`
     pub(crate) fn data_drop(&mut self, segment: u32) -> Result<(), Fault>
-        ensures plain { Answers (plain_in self.old (data_drop (setting_of self.old).operands segment)) result
+        ensures plain { ResultsIn (plain_in self.old (data_drop (setting_of self.old).operands segment)) result
             (open_state self.new) }
         ensures open { self.new.ended ≡ self.old.ended }
     {

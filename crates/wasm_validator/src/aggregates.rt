@@ -5,7 +5,7 @@ ghost use Rattle.wasm_body.specs.Validity.{required, demand};
 ghost use Rattle.wasm_typing.specs.Contexts.{unpacked, has_default as default_of};
 ghost use Rattle.wasm_typing.specs.Rules.{struct_new_default, struct_get, struct_set, array_new, array_new_default, array_new_from, from_data, from_elements, array_get, array_set, array_fill, array_copy, array_init_from};
 ghost use Rattle.wasm_context.specs.Contexts.{field_of};
-ghost use Rattle.wasm_validator.specs.Steps.{Answers};
+ghost use Rattle.wasm_validator.specs.Steps.{ResultsIn};
 
 use crate::fault::Fault;
 use crate::references::reference;
@@ -68,7 +68,7 @@ impl Validator<'_> {
 
     /// `struct.new_default`
     pub(crate) fn struct_new_default(&mut self, ty: u32) -> Result<(), Fault>
-        ensures plain { Answers (plain_in self.old (struct_new_default (setting_of self.old).operands ty)) result (open_state self.new) }
+        ensures plain { ResultsIn (plain_in self.old (struct_new_default (setting_of self.old).operands ty)) result (open_state self.new) }
         ensures open { self.new.ended ≡ self.old.ended }
     {
         let Some(fields) = self.context.struct_fields(ty) else {
@@ -82,7 +82,7 @@ impl Validator<'_> {
 
     /// `struct.get`, `struct.get_s` and `struct.get_u`
     pub(crate) fn struct_get(&mut self, signed: bool, ty: u32, field: u32) -> Result<(), Fault>
-        ensures plain { Answers (plain_in self.old (struct_get signed (setting_of self.old).operands ty field)) result (open_state self.new) }
+        ensures plain { ResultsIn (plain_in self.old (struct_get signed (setting_of self.old).operands ty field)) result (open_state self.new) }
         ensures open { self.new.ended ≡ self.old.ended }
     {
         let Some(field) = self.field(ty, field) else {
@@ -99,7 +99,7 @@ impl Validator<'_> {
 
     /// `struct.set`
     pub(crate) fn struct_set(&mut self, ty: u32, field: u32) -> Result<(), Fault>
-        ensures plain { Answers (plain_in self.old (struct_set (setting_of self.old).operands ty field)) result (open_state self.new) }
+        ensures plain { ResultsIn (plain_in self.old (struct_set (setting_of self.old).operands ty field)) result (open_state self.new) }
         ensures open { self.new.ended ≡ self.old.ended }
     {
         let Some(field) = self.field(ty, field) else {
@@ -119,7 +119,7 @@ impl Validator<'_> {
 
     /// `array.new`
     pub(crate) fn array_new(&mut self, ty: u32) -> Result<(), Fault>
-        ensures plain { Answers (plain_in self.old (array_new (setting_of self.old).operands ty)) result (open_state self.new) }
+        ensures plain { ResultsIn (plain_in self.old (array_new (setting_of self.old).operands ty)) result (open_state self.new) }
         ensures open { self.new.ended ≡ self.old.ended }
     {
         let Some(element) = self.context.array_element(ty) else {
@@ -133,7 +133,7 @@ impl Validator<'_> {
 
     /// `array.new_default`
     pub(crate) fn array_new_default(&mut self, ty: u32) -> Result<(), Fault>
-        ensures plain { Answers (plain_in self.old (array_new_default (setting_of self.old).operands ty)) result (open_state self.new) }
+        ensures plain { ResultsIn (plain_in self.old (array_new_default (setting_of self.old).operands ty)) result (open_state self.new) }
         ensures open { self.new.ended ≡ self.old.ended }
     {
         let Some(element) = self.context.array_element(ty) else {
@@ -147,7 +147,7 @@ impl Validator<'_> {
 
     /// `array.new_data`
     pub(crate) fn array_new_data(&mut self, ty: u32, segment: u32) -> Result<(), Fault>
-        ensures plain { Answers (plain_in self.old (array_new_from from_data (setting_of self.old).operands ty segment)) result (open_state self.new) }
+        ensures plain { ResultsIn (plain_in self.old (array_new_from from_data (setting_of self.old).operands ty segment)) result (open_state self.new) }
         ensures open { self.new.ended ≡ self.old.ended }
     {
         let Some(element) = self.context.array_element(ty) else {
@@ -164,7 +164,7 @@ impl Validator<'_> {
 
     /// `array.new_elem`
     pub(crate) fn array_new_elem(&mut self, ty: u32, segment: u32) -> Result<(), Fault>
-        ensures plain { Answers (plain_in self.old (array_new_from from_elements (setting_of self.old).operands ty segment)) result (open_state self.new) }
+        ensures plain { ResultsIn (plain_in self.old (array_new_from from_elements (setting_of self.old).operands ty segment)) result (open_state self.new) }
         ensures open { self.new.ended ≡ self.old.ended }
     {
         let Some(element) = self.context.array_element(ty) else {
@@ -181,7 +181,7 @@ impl Validator<'_> {
 
     /// `array.get`, `array.get_s` and `array.get_u`
     pub(crate) fn array_get(&mut self, signed: bool, ty: u32) -> Result<(), Fault>
-        ensures plain { Answers (plain_in self.old (array_get signed (setting_of self.old).operands ty)) result (open_state self.new) }
+        ensures plain { ResultsIn (plain_in self.old (array_get signed (setting_of self.old).operands ty)) result (open_state self.new) }
         ensures open { self.new.ended ≡ self.old.ended }
     {
         let Some(element) = self.context.array_element(ty) else {
@@ -198,7 +198,7 @@ impl Validator<'_> {
 
     /// `array.set`
     pub(crate) fn array_set(&mut self, ty: u32) -> Result<(), Fault>
-        ensures plain { Answers (plain_in self.old (array_set (setting_of self.old).operands ty)) result (open_state self.new) }
+        ensures plain { ResultsIn (plain_in self.old (array_set (setting_of self.old).operands ty)) result (open_state self.new) }
         ensures open { self.new.ended ≡ self.old.ended }
     {
         let Some(element) = self.context.array_element(ty) else {
@@ -219,7 +219,7 @@ impl Validator<'_> {
 
     /// `array.fill`
     pub(crate) fn array_fill(&mut self, ty: u32) -> Result<(), Fault>
-        ensures plain { Answers (plain_in self.old (array_fill (setting_of self.old).operands ty)) result (open_state self.new) }
+        ensures plain { ResultsIn (plain_in self.old (array_fill (setting_of self.old).operands ty)) result (open_state self.new) }
         ensures open { self.new.ended ≡ self.old.ended }
     {
         let Some(element) = self.context.array_element(ty) else {
@@ -241,7 +241,7 @@ impl Validator<'_> {
 
     /// `array.copy`
     pub(crate) fn array_copy(&mut self, target: u32, source: u32) -> Result<(), Fault>
-        ensures plain { Answers (plain_in self.old (array_copy (setting_of self.old).operands target source)) result (open_state self.new) }
+        ensures plain { ResultsIn (plain_in self.old (array_copy (setting_of self.old).operands target source)) result (open_state self.new) }
         ensures open { self.new.ended ≡ self.old.ended }
     {
         let Some(to) = self.context.array_element(target) else {
@@ -267,7 +267,7 @@ impl Validator<'_> {
 
     /// `array.init_data`
     pub(crate) fn array_init_data(&mut self, ty: u32, segment: u32) -> Result<(), Fault>
-        ensures plain { Answers (plain_in self.old (array_init_from from_data (setting_of self.old).operands ty segment)) result (open_state self.new) }
+        ensures plain { ResultsIn (plain_in self.old (array_init_from from_data (setting_of self.old).operands ty segment)) result (open_state self.new) }
         ensures open { self.new.ended ≡ self.old.ended }
     {
         let Some(element) = self.context.array_element(ty) else {
@@ -289,7 +289,7 @@ impl Validator<'_> {
 
     /// `array.init_elem`
     pub(crate) fn array_init_elem(&mut self, ty: u32, segment: u32) -> Result<(), Fault>
-        ensures plain { Answers (plain_in self.old (array_init_from from_elements (setting_of self.old).operands ty segment)) result (open_state self.new) }
+        ensures plain { ResultsIn (plain_in self.old (array_init_from from_elements (setting_of self.old).operands ty segment)) result (open_state self.new) }
         ensures open { self.new.ended ≡ self.old.ended }
     {
         let Some(element) = self.context.array_element(ty) else {

@@ -5,9 +5,9 @@ ghost use Rattle.wasm_body.specs.Validity.{required, demand, results, exnref};
 ghost use Rattle.wasm_typing.specs.Operands.{◌⟶◌};
 ghost use Rattle.wasm_typing.specs.Rules.{call, call_ref, call_indirect};
 ghost use Rattle.wasm_typing.specs.StandardRules.{label_parts, reference_type, is_cast};
-ghost use Rattle.wasm_validator.specs.Standing.{Stands};
+ghost use Rattle.wasm_validator.specs.WellFormed.{IsWellFormed};
 ghost use Rattle.wasm_context.specs.TypeLists.{types_in};
-ghost use Rattle.wasm_validator.specs.Steps.{Answers};
+ghost use Rattle.wasm_validator.specs.Steps.{ResultsIn};
 ghost use Rattle.wasm_validator.specs.Core.{last_and_before};
 
 use crate::fault::Fault;
@@ -66,7 +66,7 @@ impl Validator<'_> {
 
     /// "pop_vals" of these types, after which code can't be reached.
     pub(crate) fn leave_with(&mut self, types: &[RawValType]) -> Result<(), Fault>
-        ensures leaves { Answers (leaves_with self.old types.now) result (open_state self.new) }
+        ensures leaves { ResultsIn (leaves_with self.old types.now) result (open_state self.new) }
         ensures open { self.new.ended ≡ self.old.ended }
     {
         match self.pop_all(types) {
@@ -80,7 +80,7 @@ impl Validator<'_> {
 
     /// `br`
     pub(crate) fn branch(&mut self, label: u32) -> Result<(), Fault>
-        ensures branches { Answers (branch_in self.old label) result (open_state self.new) }
+        ensures branches { ResultsIn (branch_in self.old label) result (open_state self.new) }
         ensures open { self.new.ended ≡ self.old.ended }
     {
         let Some(list) = self.label(label) else {
@@ -96,7 +96,7 @@ impl Validator<'_> {
         last: RawValType,
         left: Option<RawValType>,
     ) -> Result<(), Fault>
-        ensures typed { Answers (typed_in (setting_of self.old) (inner_of self.old)
+        ensures typed { ResultsIn (typed_in (setting_of self.old) (inner_of self.old)
             (types.now ++ last ∷ []) (types.now ++ option_to_list left) (operand_stack self.old))
             result (operand_stack self.new) }
         ensures same { self.new ≡ record self.old { operands = self.new.operands } }
@@ -118,7 +118,7 @@ impl Validator<'_> {
     /// `br_if`
     pub(crate) fn branch_if(&mut self, label: u32) -> Result<(), Fault>
         requires { ReachesHeight self.old }
-        ensures branches { Answers (conditional_in self.old label if_rule) result (open_state self.new) }
+        ensures branches { ResultsIn (conditional_in self.old label if_rule) result (open_state self.new) }
         ensures open { self.new.ended ≡ self.old.ended }
     {
         let Some(list) = self.label(label) else {
@@ -130,7 +130,7 @@ impl Validator<'_> {
     /// `br_on_non_null`
     pub(crate) fn branch_on_non_null(&mut self, label: u32) -> Result<(), Fault>
         requires { ReachesHeight self.old }
-        ensures branches { Answers (conditional_in self.old label non_null_rule) result
+        ensures branches { ResultsIn (conditional_in self.old label non_null_rule) result
             (open_state self.new) }
         ensures open { self.new.ended ≡ self.old.ended }
     {
@@ -167,7 +167,7 @@ impl Validator<'_> {
         stays: RawRefType,
     ) -> Result<(), Fault>
         requires { ReachesHeight self.old }
-        ensures branches { Answers (conditional_in self.old label
+        ensures branches { ResultsIn (conditional_in self.old label
             (reference_rule (setting_of self.old).operands from to branches stays)) result
             (open_state self.new) }
         ensures open { self.new.ended ≡ self.old.ended }
@@ -190,7 +190,7 @@ impl Validator<'_> {
     /// `br_on_cast`
     pub(crate) fn branch_on_cast(&mut self, cast: RawCast) -> Result<(), Fault>
         requires { ReachesHeight self.old }
-        ensures branches { Answers (cast_in self.old cast) result (open_state self.new) }
+        ensures branches { ResultsIn (cast_in self.old cast) result (open_state self.new) }
         ensures open { self.new.ended ≡ self.old.ended }
     {
         let (from, to) = cast_types(cast);
@@ -200,7 +200,7 @@ impl Validator<'_> {
     /// `br_on_cast_fail`
     pub(crate) fn branch_on_cast_fail(&mut self, cast: RawCast) -> Result<(), Fault>
         requires { ReachesHeight self.old }
-        ensures branches { Answers (cast_fail_in self.old cast) result (open_state self.new) }
+        ensures branches { ResultsIn (cast_fail_in self.old cast) result (open_state self.new) }
         ensures open { self.new.ended ≡ self.old.ended }
     {
         let (from, to) = cast_types(cast);
@@ -219,7 +219,7 @@ impl Validator<'_> {
 
     /// `return`
     pub(crate) fn return_results(&mut self) -> Result<(), Fault>
-        ensures leaves { Answers (leaves_with self.old (results (open_frames self.old))) result
+        ensures leaves { ResultsIn (leaves_with self.old (results (open_frames self.old))) result
             (open_state self.new) }
         ensures open { self.new.ended ≡ self.old.ended }
     {
@@ -229,7 +229,7 @@ impl Validator<'_> {
 
     /// `throw`
     pub(crate) fn throw(&mut self, tag: u32) -> Result<(), Fault>
-        ensures leaves { Answers (throws_in self.old tag) result (open_state self.new) }
+        ensures leaves { ResultsIn (throws_in self.old tag) result (open_state self.new) }
         ensures open { self.new.ended ≡ self.old.ended }
     {
         match self.context.tag_type(tag) {
@@ -240,7 +240,7 @@ impl Validator<'_> {
 
     /// `throw_ref`
     pub(crate) fn throw_ref(&mut self) -> Result<(), Fault>
-        ensures leaves { Answers (leaves_with self.old (exnref ∷ [])) result (open_state self.new) }
+        ensures leaves { ResultsIn (leaves_with self.old (exnref ∷ [])) result (open_state self.new) }
         ensures open { self.new.ended ≡ self.old.ended }
     {
         self.leave_with(&[EXNREF])
@@ -248,7 +248,7 @@ impl Validator<'_> {
 
     /// `rethrow`
     pub(crate) fn rethrow(&mut self, depth: u32) -> Result<(), Fault>
-        ensures leaves { Answers (rethrows_in self.old depth) result (open_state self.new) }
+        ensures leaves { ResultsIn (rethrows_in self.old depth) result (open_state self.new) }
         ensures open { self.new.ended ≡ self.old.ended }
     {
         let Some(frame) = self.frame(depth) else {
@@ -268,7 +268,7 @@ impl Validator<'_> {
         last: Option<RawValType>,
         gives: &[RawValType],
     ) -> Result<(), Fault>
-        ensures leaves { Answers (tail_in self.old
+        ensures leaves { ResultsIn (tail_in self.old
             (Ok (params.now ++ option_to_list last ⟶ gives.now))) result (open_state self.new) }
         ensures open { self.new.ended ≡ self.old.ended }
     {
@@ -290,7 +290,7 @@ impl Validator<'_> {
 
     /// `return_call`
     pub(crate) fn return_call(&mut self, func: u32) -> Result<(), Fault>
-        ensures leaves { Answers (tail_in self.old (call (setting_of self.old).operands func)) result
+        ensures leaves { ResultsIn (tail_in self.old (call (setting_of self.old).operands func)) result
             (open_state self.new) }
         ensures open { self.new.ended ≡ self.old.ended }
     {
@@ -305,7 +305,7 @@ impl Validator<'_> {
 
     /// `return_call_ref`
     pub(crate) fn return_call_ref(&mut self, ty: u32) -> Result<(), Fault>
-        ensures leaves { Answers (tail_in self.old (call_ref (setting_of self.old).operands ty)) result
+        ensures leaves { ResultsIn (tail_in self.old (call_ref (setting_of self.old).operands ty)) result
             (open_state self.new) }
         ensures open { self.new.ended ≡ self.old.ended }
     {
@@ -321,7 +321,7 @@ impl Validator<'_> {
 
     /// `return_call_indirect`
     pub(crate) fn return_call_indirect(&mut self, ty: u32, table: u32) -> Result<(), Fault>
-        ensures leaves { Answers (tail_in self.old
+        ensures leaves { ResultsIn (tail_in self.old
             (call_indirect (setting_of self.old).operands ty table)) result (open_state self.new) }
         ensures open { self.new.ended ≡ self.old.ended }
     {

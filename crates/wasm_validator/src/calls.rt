@@ -2,7 +2,7 @@
 ghost use Rattle.std.specs.Prelude.{◌≡◌, ◌∷◌, [], ◌++◌, Ok};
 ghost use Rattle.wasm_typing.specs.Operands.{◌⟶◌};
 ghost use Rattle.wasm_typing.specs.Rules.{call, call_ref, call_indirect};
-ghost use Rattle.wasm_validator.specs.Steps.{Answers};
+ghost use Rattle.wasm_validator.specs.Steps.{ResultsIn};
 
 use crate::fault::Fault;
 use crate::references::reference;
@@ -28,7 +28,7 @@ impl Validator<'_> {
         last: RawValType,
         gives: &[RawValType],
     ) -> Result<(), Fault>
-        ensures plain { Answers (plain_in self.old (Ok (takes.now ++ last ∷ [] ⟶ gives.now))) result
+        ensures plain { ResultsIn (plain_in self.old (Ok (takes.now ++ last ∷ [] ⟶ gives.now))) result
             (open_state self.new) }
         ensures open { self.new.ended ≡ self.old.ended }
     {
@@ -40,7 +40,7 @@ impl Validator<'_> {
 
     /// `call`
     pub(crate) fn call(&mut self, func: u32) -> Result<(), Fault>
-        ensures plain { Answers (plain_in self.old (call (setting_of self.old).operands func)) result
+        ensures plain { ResultsIn (plain_in self.old (call (setting_of self.old).operands func)) result
             (open_state self.new) }
         ensures open { self.new.ended ≡ self.old.ended }
     {
@@ -56,7 +56,7 @@ impl Validator<'_> {
 
     /// `call_ref`
     pub(crate) fn call_ref(&mut self, ty: u32) -> Result<(), Fault>
-        ensures plain { Answers (plain_in self.old (call_ref (setting_of self.old).operands ty)) result
+        ensures plain { ResultsIn (plain_in self.old (call_ref (setting_of self.old).operands ty)) result
             (open_state self.new) }
         ensures open { self.new.ended ≡ self.old.ended }
     {
@@ -72,7 +72,7 @@ impl Validator<'_> {
 
     /// `call_indirect`
     pub(crate) fn call_indirect(&mut self, ty: u32, table: u32) -> Result<(), Fault>
-        ensures plain { Answers (plain_in self.old
+        ensures plain { ResultsIn (plain_in self.old
             (call_indirect (setting_of self.old).operands ty table)) result (open_state self.new) }
         ensures open { self.new.ended ≡ self.old.ended }
     {

@@ -4,10 +4,10 @@ ghost use Rattle.wasm_validator.specs.declared.fault.Fault.TheVariants.{Memory a
 ghost use Rattle.walrus_ir.specs.Types.{signature};
 ghost use Rattle.wasm_body.specs.Validity.{refused, demand, is_if, is_try, may_catch};
 ghost use Rattle.wasm_typing.specs.Matching.{matches_values};
-ghost use Rattle.wasm_validator.specs.Standing.{Stands, is_function_frame};
+ghost use Rattle.wasm_validator.specs.WellFormed.{IsWellFormed, is_function_frame};
 ghost use Rattle.wasm_context.specs.TypeLists.{types_in, signature_of_block};
 ghost use Rattle.wasm_validator.specs.States.{opened_of};
-ghost use Rattle.wasm_validator.specs.Steps.{Answers};
+ghost use Rattle.wasm_validator.specs.Steps.{ResultsIn};
 
 use crate::fault::Fault;
 use crate::frame::Opened;
@@ -30,7 +30,7 @@ impl Validator<'_> {
     /// Opens a sequence of these types.
     fn begin_with(&mut self, opened: Opened, types: BlockTypes) -> Result<(), Fault>
         requires { is_function_frame (opened_of opened) ≡ false }
-        ensures begins { Answers (begin_in self.old opened (signature_of_block self.old.context.now types))
+        ensures begins { ResultsIn (begin_in self.old opened (signature_of_block self.old.context.now types))
             result (open_state self.new) }
         ensures open { self.new.ended ≡ self.old.ended }
     {
@@ -43,7 +43,7 @@ impl Validator<'_> {
     /// `block`, `loop` and `try`
     pub(crate) fn begin(&mut self, opened: Opened, ty: BlockType) -> Result<(), Fault>
         requires { is_function_frame (opened_of opened) ≡ false }
-        ensures begins { Answers (begins_in self.old opened ty) result (open_state self.new) }
+        ensures begins { ResultsIn (begins_in self.old opened ty) result (open_state self.new) }
         ensures open { self.new.ended ≡ self.old.ended }
     {
         match self.context.block_types(ty) {
@@ -54,7 +54,7 @@ impl Validator<'_> {
 
     /// `if`
     pub(crate) fn begin_if(&mut self, ty: BlockType) -> Result<(), Fault>
-        ensures begins { Answers (begins_if self.old ty) result (open_state self.new) }
+        ensures begins { ResultsIn (begins_if self.old ty) result (open_state self.new) }
         ensures open { self.new.ended ≡ self.old.ended }
     {
         let Some(types) = self.context.block_types(ty) else {
@@ -128,7 +128,7 @@ impl Validator<'_> {
         ty: BlockType,
         catches: &CatchList<'_>,
     ) -> Result<(), Fault>
-        ensures begins { Answers (begins_try_table self.old ty catches.now) result (open_state self.new) }
+        ensures begins { ResultsIn (begins_try_table self.old ty catches.now) result (open_state self.new) }
         ensures open { self.new.ended ≡ self.old.ended }
     {
         let Some(types) = self.context.block_types(ty) else {
@@ -144,7 +144,7 @@ impl Validator<'_> {
     fn reopen(&mut self, allowed: bool, opened: Opened, starts: TypeList) -> Result<(), Fault>
         requires inner { IsTrue allowed → is_function_frame (opened_of self.old.inner.opened) ≡ false }
         requires opened { is_function_frame (opened_of opened) ≡ false }
-        ensures goes_on { Answers (next_in self.old allowed opened (types_in self.old.context.now starts))
+        ensures goes_on { ResultsIn (next_in self.old allowed opened (types_in self.old.context.now starts))
             result (open_state self.new) }
         ensures same { self.new ≡ record self.old { operands = self.new.operands; set = self.new.set; inner = self.new.inner } }
     {
@@ -166,7 +166,7 @@ impl Validator<'_> {
 
     /// `else`
     pub(crate) fn else_sequence(&mut self) -> Result<(), Fault>
-        ensures goes_on { Answers (elses_in self.old) result (open_state self.new) }
+        ensures goes_on { ResultsIn (elses_in self.old) result (open_state self.new) }
         ensures same { self.new ≡ record self.old { operands = self.new.operands; set = self.new.set; inner = self.new.inner } }
     {
         self.reopen(self.is_if(), Opened::Else, self.inner.starts)
@@ -181,7 +181,7 @@ impl Validator<'_> {
 
     /// `catch`
     pub(crate) fn catch(&mut self, tag: u32) -> Result<(), Fault>
-        ensures goes_on { Answers (catches_in self.old tag) result (open_state self.new) }
+        ensures goes_on { ResultsIn (catches_in self.old tag) result (open_state self.new) }
         ensures open { self.new.ended ≡ self.old.ended }
     {
         match self.context.tag_type(tag) {
@@ -192,7 +192,7 @@ impl Validator<'_> {
 
     /// `catch_all`
     pub(crate) fn catch_all(&mut self) -> Result<(), Fault>
-        ensures goes_on { Answers (catches_all_in self.old) result (open_state self.new) }
+        ensures goes_on { ResultsIn (catches_all_in self.old) result (open_state self.new) }
         ensures open { self.new.ended ≡ self.old.ended }
     {
         self.reopen(self.may_catch(), Opened::CatchAll, TypeList::Empty)
@@ -219,7 +219,7 @@ impl Validator<'_> {
 
     /// `delegate`
     pub(crate) fn delegate(&mut self, depth: u32) -> Result<(), Fault>
-        ensures goes_on { Answers (delegates_in self.old depth) result (open_state self.new) }
+        ensures goes_on { ResultsIn (delegates_in self.old depth) result (open_state self.new) }
         ensures open { self.new.ended ≡ self.old.ended }
     {
         if !self.is_try() {
@@ -239,7 +239,7 @@ impl Validator<'_> {
         requires around { 0 < length self.old.outer.items }
         requires inner { is_function_frame (opened_of self.old.inner.opened) ≡ false }
         requires parted { is_if (opened_of self.old.inner.opened) ≡ false }
-        ensures goes_on { Answers (ends_in self.old) result (open_state self.new) }
+        ensures goes_on { ResultsIn (ends_in self.old) result (open_state self.new) }
         ensures open { self.new.ended ≡ self.old.ended }
     {
         match self.pop_control() {
@@ -252,7 +252,7 @@ impl Validator<'_> {
     fn end_function(&mut self) -> Result<(), Fault>
         requires alone { outer_of self.old ≡ [] }
         requires inner { is_function_frame (opened_of self.old.inner.opened) ≡ true }
-        ensures goes_on { Answers (ends_in self.old) result (ended_of self.new) }
+        ensures goes_on { ResultsIn (ends_in self.old) result (ended_of self.new) }
         ensures ended { OnOk result (self.new.ended ≡ true) }
     {
         match self.pop_list(self.inner.ends) {
@@ -268,9 +268,9 @@ impl Validator<'_> {
 
     /// `end`, of an `if` without `else`, which is read as `else end`.
     fn end_if(&mut self) -> Result<(), Fault>
-        requires stands { Stands (open_state self.old) }
+        requires well_formed { IsWellFormed (open_state self.old) }
         requires inner { is_if (opened_of self.old.inner.opened) ≡ true }
-        ensures goes_on { Answers (ends_in self.old) result (open_state self.new) }
+        ensures goes_on { ResultsIn (ends_in self.old) result (open_state self.new) }
         ensures open { self.new.ended ≡ self.old.ended }
     {
         match self.else_sequence() {
@@ -281,9 +281,9 @@ impl Validator<'_> {
 
     /// `end`
     pub(crate) fn end(&mut self) -> Result<(), Fault>
-        requires stands { Stands (open_state self.old) }
+        requires well_formed { IsWellFormed (open_state self.old) }
         requires open { self.old.ended ≡ false }
-        ensures { Answers (ends_in self.old) result (whole_state_of self.new) }
+        ensures { ResultsIn (ends_in self.old) result (whole_state_of self.new) }
     {
         match self.inner.opened {
             Opened::Function => self.end_function(),

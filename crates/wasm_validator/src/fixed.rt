@@ -5,7 +5,7 @@ ghost use Rattle.wasm_types.specs.declared.val_type.HeapType.TheVariants.{Abstra
 ghost use Rattle.wasm_types.specs.declared.val_type.ValType.TheVariants as value;
 ghost use Rattle.wasm_typing.specs.Operands.{◌⟶◌};
 ghost use Rattle.wasm_typing.specs.Rules.{ref, ref_null};
-ghost use Rattle.wasm_validator.specs.Steps.{Answers};
+ghost use Rattle.wasm_validator.specs.Steps.{ResultsIn};
 
 use crate::fault::Fault;
 use crate::references::reference;
@@ -19,7 +19,7 @@ impl Validator<'_> {
 
     /// A constant of a type.
     pub(crate) fn constant(&mut self, ty: RawValType) -> Result<(), Fault>
-        ensures plain { Answers (plain_in self.old (Ok ([] ⟶ ty ∷ []))) result (open_state self.new) }
+        ensures plain { ResultsIn (plain_in self.old (Ok ([] ⟶ ty ∷ []))) result (open_state self.new) }
         ensures open { self.new.ended ≡ self.old.ended }
     {
         self.typed(&[], &[ty])
@@ -27,7 +27,7 @@ impl Validator<'_> {
 
     /// `i64.add128` and `i64.sub128`
     pub(crate) fn wide_binary(&mut self) -> Result<(), Fault>
-        ensures plain { Answers (plain_in self.old
+        ensures plain { ResultsIn (plain_in self.old
             (Ok (value.I64 ∷ value.I64 ∷ value.I64 ∷ value.I64 ∷ [] ⟶ value.I64 ∷ value.I64 ∷ []))) result
             (open_state self.new) }
         ensures open { self.new.ended ≡ self.old.ended }
@@ -40,7 +40,7 @@ impl Validator<'_> {
 
     /// `i64.mul_wide_s` and `i64.mul_wide_u`
     pub(crate) fn widening(&mut self) -> Result<(), Fault>
-        ensures plain { Answers (plain_in self.old
+        ensures plain { ResultsIn (plain_in self.old
             (Ok (value.I64 ∷ value.I64 ∷ [] ⟶ value.I64 ∷ value.I64 ∷ []))) result (open_state self.new) }
         ensures open { self.new.ended ≡ self.old.ended }
     {
@@ -49,7 +49,7 @@ impl Validator<'_> {
 
     /// `i8x16.swizzle`
     pub(crate) fn swizzle(&mut self) -> Result<(), Fault>
-        ensures plain { Answers (plain_in self.old
+        ensures plain { ResultsIn (plain_in self.old
             (Ok (value.V128 ∷ value.V128 ∷ [] ⟶ value.V128 ∷ []))) result (open_state self.new) }
         ensures open { self.new.ended ≡ self.old.ended }
     {
@@ -58,7 +58,7 @@ impl Validator<'_> {
 
     /// `v128.bitselect`
     pub(crate) fn bitselect(&mut self) -> Result<(), Fault>
-        ensures plain { Answers (plain_in self.old
+        ensures plain { ResultsIn (plain_in self.old
             (Ok (value.V128 ∷ value.V128 ∷ value.V128 ∷ [] ⟶ value.V128 ∷ []))) result (open_state self.new) }
         ensures open { self.new.ended ≡ self.old.ended }
     {
@@ -70,7 +70,7 @@ impl Validator<'_> {
 
     /// `ref.eq`
     pub(crate) fn reference_equality(&mut self) -> Result<(), Fault>
-        ensures plain { Answers (plain_in self.old
+        ensures plain { ResultsIn (plain_in self.old
             (Ok (ref_null (AbstractHeap abstract.Eq) ∷ ref_null (AbstractHeap abstract.Eq) ∷ [] ⟶ value.I32 ∷ [])))
             result (open_state self.new) }
         ensures open { self.new.ended ≡ self.old.ended }
@@ -81,7 +81,7 @@ impl Validator<'_> {
 
     /// `array.len`
     pub(crate) fn array_length(&mut self) -> Result<(), Fault>
-        ensures plain { Answers (plain_in self.old
+        ensures plain { ResultsIn (plain_in self.old
             (Ok (ref_null (AbstractHeap abstract.Array) ∷ [] ⟶ value.I32 ∷ []))) result (open_state self.new) }
         ensures open { self.new.ended ≡ self.old.ended }
     {
@@ -91,7 +91,7 @@ impl Validator<'_> {
 
     /// `ref.i31`
     pub(crate) fn i31_new(&mut self) -> Result<(), Fault>
-        ensures plain { Answers (plain_in self.old
+        ensures plain { ResultsIn (plain_in self.old
             (Ok (value.I32 ∷ [] ⟶ ref (AbstractHeap abstract.I31) ∷ []))) result (open_state self.new) }
         ensures open { self.new.ended ≡ self.old.ended }
     {
@@ -101,7 +101,7 @@ impl Validator<'_> {
 
     /// `i31.get_s` and `i31.get_u`
     pub(crate) fn i31_get(&mut self) -> Result<(), Fault>
-        ensures plain { Answers (plain_in self.old
+        ensures plain { ResultsIn (plain_in self.old
             (Ok (ref_null (AbstractHeap abstract.I31) ∷ [] ⟶ value.I32 ∷ []))) result (open_state self.new) }
         ensures open { self.new.ended ≡ self.old.ended }
     {
@@ -111,7 +111,7 @@ impl Validator<'_> {
 
     /// `atomic.fence`
     pub(crate) fn fence(&mut self) -> Result<(), Fault>
-        ensures plain { Answers (plain_in self.old (Ok ([] ⟶ []))) result (open_state self.new) }
+        ensures plain { ResultsIn (plain_in self.old (Ok ([] ⟶ []))) result (open_state self.new) }
         ensures open { self.new.ended ≡ self.old.ended }
     {
         self.typed(&[], &[])

@@ -1,7 +1,7 @@
 //! Operators for globals.
 ghost use Rattle.std.specs.Prelude.{◌≡◌};
 ghost use Rattle.wasm_typing.specs.Rules.{global_get, global_set};
-ghost use Rattle.wasm_validator.specs.Steps.{Answers};
+ghost use Rattle.wasm_validator.specs.Steps.{ResultsIn};
 
 use crate::fault::Fault;
 use crate::state::Validator;
@@ -12,7 +12,7 @@ impl Validator<'_> {
 
     /// `global.get`
     pub(crate) fn global_get(&mut self, global: u32) -> Result<(), Fault>
-        ensures plain { Answers (plain_in self.old (global_get (setting_of self.old).operands global)) result (open_state self.new) }
+        ensures plain { ResultsIn (plain_in self.old (global_get (setting_of self.old).operands global)) result (open_state self.new) }
         ensures open { self.new.ended ≡ self.old.ended }
     {
         match self.context.global(global) {
@@ -23,7 +23,7 @@ impl Validator<'_> {
 
     /// `global.set`
     pub(crate) fn global_set(&mut self, global: u32) -> Result<(), Fault>
-        ensures plain { Answers (plain_in self.old (global_set (setting_of self.old).operands global)) result (open_state self.new) }
+        ensures plain { ResultsIn (plain_in self.old (global_set (setting_of self.old).operands global)) result (open_state self.new) }
         ensures open { self.new.ended ≡ self.old.ended }
     {
         let Some(global) = self.context.global(global) else {

@@ -1,6 +1,6 @@
 //! `br_on_null`.
 ghost use Rattle.std.specs.Prelude.{◌≡◌};
-ghost use Rattle.wasm_validator.specs.Steps.{Answers};
+ghost use Rattle.wasm_validator.specs.Steps.{ResultsIn};
 
 use crate::fault::Fault;
 use crate::popped_references::{not_null, operand_of_reference};
@@ -14,7 +14,7 @@ impl Validator<'_> {
     /// `br_on_null`
     pub(crate) fn branch_on_null(&mut self, label: u32) -> Result<(), Fault>
         requires { ReachesHeight self.old }
-        ensures branches { Answers (null_branch_in self.old label) result (open_state self.new) }
+        ensures branches { ResultsIn (null_branch_in self.old label) result (open_state self.new) }
         ensures open { self.new.ended ≡ self.old.ended }
     {
         let Some(list) = self.label(label) else {

@@ -5,7 +5,7 @@ ghost use Rattle.wasm_body.specs.Validity.{required};
 ghost use Rattle.wasm_typing.specs.Operands.{may_be_number, one_of};
 ghost use Rattle.wasm_typing.specs.Rules.{selected_of};
 ghost use Rattle.wasm_validator.specs.States.{known_of};
-ghost use Rattle.wasm_validator.specs.Steps.{Answers};
+ghost use Rattle.wasm_validator.specs.Steps.{ResultsIn};
 
 use crate::fault::Fault;
 use crate::operand::Operand;
@@ -71,7 +71,7 @@ impl Validator<'_> {
 
     /// `drop`
     pub(crate) fn drop_operand(&mut self) -> Result<(), Fault>
-        ensures plain { Answers (drops_in self.old) result (open_state self.new) }
+        ensures plain { ResultsIn (drops_in self.old) result (open_state self.new) }
         ensures open { self.new.ended ≡ self.old.ended }
     {
         match self.pop_any() {
@@ -82,7 +82,7 @@ impl Validator<'_> {
 
     /// `select` of a type
     pub(crate) fn select_typed(&mut self, ty: RawValType) -> Result<(), Fault>
-        ensures plain { Answers (plain_in self.old
+        ensures plain { ResultsIn (plain_in self.old
             (selected_of (setting_of self.old).operands (value ty ∷ []))) result (open_state self.new) }
         ensures open { self.new.ended ≡ self.old.ended }
     {
@@ -94,7 +94,7 @@ impl Validator<'_> {
 
     /// `select`
     pub(crate) fn select(&mut self) -> Result<(), Fault>
-        ensures plain { Answers (selects_in self.old) result (open_state self.new) }
+        ensures plain { ResultsIn (selects_in self.old) result (open_state self.new) }
         ensures open { self.new.ended ≡ self.old.ended }
     {
         match self.pop(ValType::I32) {

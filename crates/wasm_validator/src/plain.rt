@@ -9,7 +9,7 @@ ghost use Rattle.wasm_typing.specs.Operands.{◌⟶◌};
 ghost use Rattle.wasm_typing.specs.Rules.{at_lanes};
 ghost use Rattle.wasm_typing.specs.RuleLaws.{type_of_operator};
 ghost use Rattle.wasm_types.specs.declared.val_type.ValType.TheVariants as value;
-ghost use Rattle.wasm_validator.specs.Steps.{Answers};
+ghost use Rattle.wasm_validator.specs.Steps.{ResultsIn};
 
 use crate::fault::Fault;
 use crate::state::Validator;
@@ -32,7 +32,7 @@ impl Validator<'_> {
     #[inline(always)]
     #[tactic(auto, using(crate::proofs::PlainOperators::typed_done))]
     pub(crate) fn typed(&mut self, takes: &[RawValType], gives: &[RawValType]) -> Result<(), Fault>
-        ensures plain { Answers (plain_in self.old (Ok (takes.now ⟶ gives.now))) result (open_state self.new) }
+        ensures plain { ResultsIn (plain_in self.old (Ok (takes.now ⟶ gives.now))) result (open_state self.new) }
         ensures open { self.new.ended ≡ self.old.ended }
     {
         self.apply(takes, gives)
@@ -40,7 +40,7 @@ impl Validator<'_> {
 
     /// An operator of one operand.
     pub(crate) fn unary(&mut self, op: UnaryOp) -> Result<(), Fault>
-        ensures plain { Answers (plain_in self.old
+        ensures plain { ResultsIn (plain_in self.old
             (type_of_operator (setting_of self.old).operands (unary_operation op))) result (open_state self.new) }
         ensures open { self.new.ended ≡ self.old.ended }
     {
@@ -52,7 +52,7 @@ impl Validator<'_> {
 
     /// An operator of two operands.
     pub(crate) fn binary(&mut self, op: BinaryOp) -> Result<(), Fault>
-        ensures plain { Answers (plain_in self.old
+        ensures plain { ResultsIn (plain_in self.old
             (type_of_operator (setting_of self.old).operands (binary_operation op))) result (open_state self.new) }
         ensures open { self.new.ended ≡ self.old.ended }
     {
@@ -64,7 +64,7 @@ impl Validator<'_> {
 
     /// An operator of three operands.
     pub(crate) fn ternary(&mut self, op: TernaryOp) -> Result<(), Fault>
-        ensures plain { Answers (plain_in self.old
+        ensures plain { ResultsIn (plain_in self.old
             (type_of_operator (setting_of self.old).operands (ternary_operation op))) result (open_state self.new) }
         ensures open { self.new.ended ≡ self.old.ended }
     {
@@ -74,7 +74,7 @@ impl Validator<'_> {
 
     /// `i8x16.shuffle`
     pub(crate) fn shuffle(&mut self, indices: &[u8; 16]) -> Result<(), Fault>
-        ensures plain { Answers (plain_in self.old
+        ensures plain { ResultsIn (plain_in self.old
             (at_lanes (value.V128 ∷ value.V128 ∷ []) (value.V128 ∷ []) (setting_of self.old).operands
             (lanes indices.now ∷ []))) result (open_state self.new) }
         ensures open { self.new.ended ≡ self.old.ended }

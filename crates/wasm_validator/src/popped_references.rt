@@ -4,7 +4,7 @@ ghost use Rattle.wasm_body.specs.Validity.{required, Known as KnownAs};
 ghost use Rattle.wasm_typing.specs.Operands.{as_reference, may_be_null, not_null};
 ghost use Rattle.wasm_validator.specs.States.{known_of};
 ghost use Rattle.wasm_validator.specs.Popped.{known_reference};
-ghost use Rattle.wasm_validator.specs.Steps.{Answers};
+ghost use Rattle.wasm_validator.specs.Steps.{ResultsIn};
 
 use crate::fault::Fault;
 use crate::operand::{Operand, Reference};
@@ -80,7 +80,7 @@ impl Validator<'_> {
 
     /// `ref.is_null`
     pub(crate) fn is_null(&mut self) -> Result<(), Fault>
-        ensures plain { Answers (tests_null_in self.old) result (open_state self.new) }
+        ensures plain { ResultsIn (tests_null_in self.old) result (open_state self.new) }
         ensures open { self.new.ended ≡ self.old.ended }
     {
         match self.pop_reference() {
@@ -91,7 +91,7 @@ impl Validator<'_> {
 
     /// `ref.as_non_null`
     pub(crate) fn as_non_null(&mut self) -> Result<(), Fault>
-        ensures plain { Answers (non_null_in self.old) result (open_state self.new) }
+        ensures plain { ResultsIn (non_null_in self.old) result (open_state self.new) }
         ensures open { self.new.ended ≡ self.old.ended }
     {
         match self.pop_reference() {
@@ -106,7 +106,7 @@ impl Validator<'_> {
         from: AbstractHeapType,
         to: AbstractHeapType,
     ) -> Result<(), Fault>
-        ensures plain { Answers (converts_in self.old from to) result (open_state self.new) }
+        ensures plain { ResultsIn (converts_in self.old from to) result (open_state self.new) }
         ensures open { self.new.ended ≡ self.old.ended }
     {
         let found = match self.pop_reference() {

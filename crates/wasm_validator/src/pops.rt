@@ -3,7 +3,7 @@ ghost use Rattle.std.specs.Prelude.{◌≡◌, replicate, Ok};
 ghost use Rattle.wasm_typing.specs.Operands.{◌⟶◌};
 ghost use Rattle.wasm_typing.specs.Rules.{struct_new, array_new_fixed};
 ghost use Rattle.wasm_validator.specs.Plain.{field_types};
-ghost use Rattle.wasm_validator.specs.Steps.{Answers};
+ghost use Rattle.wasm_validator.specs.Steps.{ResultsIn};
 
 use crate::fault::Fault;
 use crate::references::reference;
@@ -18,7 +18,7 @@ impl Validator<'_> {
 
     /// "pop_vals" of the types of fields.
     pub(crate) fn pop_fields(&mut self, fields: &[FieldType]) -> Result<(), Fault>
-        ensures pops { Answers (pop_all_in (setting_of self.old) (inner_of self.old) (field_types fields.now)
+        ensures pops { ResultsIn (pop_all_in (setting_of self.old) (inner_of self.old) (field_types fields.now)
             (operand_stack self.old)) result (operand_stack self.new) }
         ensures same { self.new ≡ record self.old { operands = self.new.operands } }
     {
@@ -36,7 +36,7 @@ impl Validator<'_> {
     /// "pop_vals" of one type, so many times. Once nothing is left above the height of an unreachable
     /// frame, it ends.
     pub(crate) fn pop_same(&mut self, ty: RawValType, count: u32) -> Result<(), Fault>
-        ensures pops { Answers (pop_all_in (setting_of self.old) (inner_of self.old) (replicate count ty)
+        ensures pops { ResultsIn (pop_all_in (setting_of self.old) (inner_of self.old) (replicate count ty)
             (operand_stack self.old)) result (operand_stack self.new) }
         ensures same { self.new ≡ record self.old { operands = self.new.operands } }
     {
@@ -56,7 +56,7 @@ impl Validator<'_> {
 
     /// Pops operands of the types of fields, and pushes some of those.
     fn apply_fields(&mut self, fields: &[FieldType], gives: &[RawValType]) -> Result<(), Fault>
-        ensures typed { Answers (typed_in (setting_of self.old) (inner_of self.old) (field_types fields.now)
+        ensures typed { ResultsIn (typed_in (setting_of self.old) (inner_of self.old) (field_types fields.now)
             gives.now (operand_stack self.old)) result (operand_stack self.new) }
         ensures same { self.new ≡ record self.old { operands = self.new.operands } }
     {
@@ -68,7 +68,7 @@ impl Validator<'_> {
 
     /// Pops operands of one type, so many, and pushes some of those.
     fn apply_same(&mut self, ty: RawValType, count: u32, gives: &[RawValType]) -> Result<(), Fault>
-        ensures typed { Answers (typed_in (setting_of self.old) (inner_of self.old) (replicate count ty)
+        ensures typed { ResultsIn (typed_in (setting_of self.old) (inner_of self.old) (replicate count ty)
             gives.now (operand_stack self.old)) result (operand_stack self.new) }
         ensures same { self.new ≡ record self.old { operands = self.new.operands } }
     {
@@ -81,7 +81,7 @@ impl Validator<'_> {
     /// The same as what the algorithm does.
     #[tactic(auto, using(crate::proofs::PlainOperators::typed_done))]
     fn typed_fields(&mut self, fields: &[FieldType], gives: &[RawValType]) -> Result<(), Fault>
-        ensures plain { Answers (plain_in self.old (Ok (field_types fields.now ⟶ gives.now))) result
+        ensures plain { ResultsIn (plain_in self.old (Ok (field_types fields.now ⟶ gives.now))) result
             (open_state self.new) }
         ensures open { self.new.ended ≡ self.old.ended }
     {
@@ -91,7 +91,7 @@ impl Validator<'_> {
     /// The same as what the algorithm does.
     #[tactic(auto, using(crate::proofs::PlainOperators::typed_done))]
     fn typed_same(&mut self, ty: RawValType, count: u32, gives: &[RawValType]) -> Result<(), Fault>
-        ensures plain { Answers (plain_in self.old (Ok (replicate count ty ⟶ gives.now))) result
+        ensures plain { ResultsIn (plain_in self.old (Ok (replicate count ty ⟶ gives.now))) result
             (open_state self.new) }
         ensures open { self.new.ended ≡ self.old.ended }
     {
@@ -100,7 +100,7 @@ impl Validator<'_> {
 
     /// `struct.new`
     pub(crate) fn struct_new(&mut self, ty: u32) -> Result<(), Fault>
-        ensures plain { Answers (plain_in self.old (struct_new (setting_of self.old).operands ty)) result
+        ensures plain { ResultsIn (plain_in self.old (struct_new (setting_of self.old).operands ty)) result
             (open_state self.new) }
         ensures open { self.new.ended ≡ self.old.ended }
     {
@@ -113,7 +113,7 @@ impl Validator<'_> {
 
     /// `array.new_fixed`
     pub(crate) fn array_new_fixed(&mut self, ty: u32, count: u32) -> Result<(), Fault>
-        ensures plain { Answers (plain_in self.old
+        ensures plain { ResultsIn (plain_in self.old
             (array_new_fixed (setting_of self.old).operands ty count)) result (open_state self.new) }
         ensures open { self.new.ended ≡ self.old.ended }
     {

@@ -1,7 +1,7 @@
 //! Operators on references, by their types.
 ghost use Rattle.std.specs.Prelude.{◌≡◌};
 ghost use Rattle.wasm_typing.specs.Rules.{reference_to, null_reference, function_reference, reference_test, reference_cast};
-ghost use Rattle.wasm_validator.specs.Steps.{Answers};
+ghost use Rattle.wasm_validator.specs.Steps.{ResultsIn};
 
 use crate::fault::Fault;
 use crate::state::Validator;
@@ -25,7 +25,7 @@ impl Validator<'_> {
 
     /// `ref.null`
     pub(crate) fn null_reference(&mut self, heap: RawHeapType) -> Result<(), Fault>
-        ensures plain { Answers (plain_in self.old (null_reference (setting_of self.old).operands heap)) result (open_state self.new) }
+        ensures plain { ResultsIn (plain_in self.old (null_reference (setting_of self.old).operands heap)) result (open_state self.new) }
         ensures open { self.new.ended ≡ self.old.ended }
     {
         if !self.context.is_valid_heap(heap) {
@@ -36,7 +36,7 @@ impl Validator<'_> {
 
     /// `ref.func`
     pub(crate) fn function_reference(&mut self, func: u32) -> Result<(), Fault>
-        ensures plain { Answers (plain_in self.old (function_reference (setting_of self.old).operands func)) result (open_state self.new) }
+        ensures plain { ResultsIn (plain_in self.old (function_reference (setting_of self.old).operands func)) result (open_state self.new) }
         ensures open { self.new.ended ≡ self.old.ended }
     {
         let Some(ty) = self.context.function_of(func) else {
@@ -50,7 +50,7 @@ impl Validator<'_> {
 
     /// `ref.test`
     pub(crate) fn reference_test(&mut self, heap: RawHeapType) -> Result<(), Fault>
-        ensures plain { Answers (plain_in self.old (reference_test (setting_of self.old).operands heap)) result (open_state self.new) }
+        ensures plain { ResultsIn (plain_in self.old (reference_test (setting_of self.old).operands heap)) result (open_state self.new) }
         ensures open { self.new.ended ≡ self.old.ended }
     {
         match self.context.top_heap(heap) {
@@ -61,7 +61,7 @@ impl Validator<'_> {
 
     /// `ref.cast`
     pub(crate) fn reference_cast(&mut self, nullable: bool, heap: RawHeapType) -> Result<(), Fault>
-        ensures plain { Answers (plain_in self.old (reference_cast nullable (setting_of self.old).operands heap)) result (open_state self.new) }
+        ensures plain { ResultsIn (plain_in self.old (reference_cast nullable (setting_of self.old).operands heap)) result (open_state self.new) }
         ensures open { self.new.ended ≡ self.old.ended }
     {
         match self.context.top_heap(heap) {

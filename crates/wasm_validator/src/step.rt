@@ -4,8 +4,8 @@ ghost use Rattle.wasm_operators.specs.declared.types.Opcode.TheVariants.{Byte};
 ghost use Rattle.wasm_operators.specs.Meaning.{meaning};
 ghost use Rattle.wasm_operators.specs.Operations.{operation};
 ghost use Rattle.wasm_context.specs.Validation.{raw_step};
-ghost use Rattle.wasm_validator.specs.Standing.{Stands};
-ghost use Rattle.wasm_validator.specs.Steps.{Answers};
+ghost use Rattle.wasm_validator.specs.WellFormed.{IsWellFormed};
+ghost use Rattle.wasm_validator.specs.Steps.{ResultsIn};
 
 use crate::fault::Fault;
 use crate::frame::Opened;
@@ -19,7 +19,7 @@ impl Validator<'_> {
 
     /// `unreachable`
     fn unreachable(&mut self) -> Result<(), Fault>
-        ensures leaves { Answers (step_of self.old (operation (Byte 0x00) [])) result (open_state self.new) }
+        ensures leaves { ResultsIn (step_of self.old (operation (Byte 0x00) [])) result (open_state self.new) }
         ensures open { self.new.ended ≡ self.old.ended }
     {
         self.set_unreachable();
@@ -29,10 +29,10 @@ impl Validator<'_> {
     /// Takes an operator where the function's frame is open.
     #[inline(always)]
     fn step_inside(&mut self, op: &Operator<'_>) -> Result<(), Fault>
-        requires stands { Stands (open_state self.old) }
+        requires well_formed { IsWellFormed (open_state self.old) }
         requires reach { ReachesHeight self.old }
         requires open { self.old.ended ≡ false }
-        ensures { Answers (raw_step (setting_of self.old) (meaning op.now) (open_state self.old)) result
+        ensures { ResultsIn (raw_step (setting_of self.old) (meaning op.now) (open_state self.old)) result
             (whole_state_of self.new) }
     {
         match op {
@@ -109,10 +109,10 @@ impl Validator<'_> {
 
     /// Takes an operator. After the function none is accepted.
     pub fn step(&mut self, op: &Operator<'_>) -> Result<(), Fault>
-        requires { Stands (whole_state_of self.old) }
-        ensures step { Answers (raw_step (setting_of self.old) (meaning op.now)
+        requires { IsWellFormed (whole_state_of self.old) }
+        ensures step { ResultsIn (raw_step (setting_of self.old) (meaning op.now)
             (whole_state_of self.old)) result (whole_state_of self.new) }
-        ensures stands { OnOk result (Stands (whole_state_of self.new)) }
+        ensures well_formed { OnOk result (IsWellFormed (whole_state_of self.new)) }
     {
         if self.ended {
             return Err(Fault::Refused);

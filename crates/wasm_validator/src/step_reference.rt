@@ -2,7 +2,7 @@
 ghost use Rattle.std.specs.Prelude.{◌≡◌};
 ghost use Rattle.wasm_operators.specs.ReferenceOperations.{reference_operation};
 ghost use Rattle.wasm_context.specs.Validation.{raw_step};
-ghost use Rattle.wasm_validator.specs.Steps.{Answers};
+ghost use Rattle.wasm_validator.specs.Steps.{ResultsIn};
 
 use crate::fault::Fault;
 use crate::state::Validator;
@@ -15,7 +15,7 @@ impl Validator<'_> {
     /// Takes an operator on references, structs or arrays.
     pub(crate) fn step_reference(&mut self, op: ReferenceOp) -> Result<(), Fault>
         requires { ReachesHeight self.old }
-        ensures goes_on { Answers (raw_step (setting_of self.old) (reference_operation op)
+        ensures goes_on { ResultsIn (raw_step (setting_of self.old) (reference_operation op)
             (open_state self.old)) result (open_state self.new) }
         ensures open { self.new.ended ≡ self.old.ended }
     {

@@ -1,6 +1,6 @@
 //! `br_table`.
 ghost use Rattle.std.specs.Prelude.{◌≡◌};
-ghost use Rattle.wasm_validator.specs.Steps.{Answers};
+ghost use Rattle.wasm_validator.specs.Steps.{ResultsIn};
 
 use crate::fault::Fault;
 use crate::state::Validator;
@@ -16,7 +16,7 @@ impl Validator<'_> {
     /// Whether operands of these types are on the stack, so that "pop_vals" would pop them.
     fn holds(&self, types: &[RawValType]) -> Result<(), Fault>
         requires { ReachesHeight self.now }
-        ensures { Answers (holds_in self.now types.now) result tt }
+        ensures { ResultsIn (holds_in self.now types.now) result tt }
     {
         let mut left = types.len();
         let mut height = self.operands.len();
@@ -39,7 +39,7 @@ impl Validator<'_> {
     /// Whether the label has so many types, and operands of these types are on the stack.
     fn may_go(&self, label: u32, arity: usize) -> Result<(), Fault>
         requires { ReachesHeight self.now }
-        ensures { Answers (target_step self.now arity label) result tt }
+        ensures { ResultsIn (target_step self.now arity label) result tt }
     {
         let Some(list) = self.label(label) else {
             return Err(Fault::Refused);
@@ -54,7 +54,7 @@ impl Validator<'_> {
     /// Whether that holds of each of these labels.
     fn may_go_to_each(&self, targets: Targets<'_>, arity: usize) -> Result<(), Fault>
         requires { ReachesHeight self.now }
-        ensures { Answers (targets_in self.now arity targets.entry) result tt }
+        ensures { ResultsIn (targets_in self.now arity targets.entry) result tt }
     {
         let mut left = targets;
         while let Some(label) = left.next() {
@@ -69,7 +69,7 @@ impl Validator<'_> {
     /// `br_table`
     pub(crate) fn branch_table(&mut self, table: &BrTable<'_>) -> Result<(), Fault>
         requires { ReachesHeight self.old }
-        ensures branches { Answers (table_in self.old table.now) result (open_state self.new) }
+        ensures branches { ResultsIn (table_in self.old table.now) result (open_state self.new) }
         ensures open { self.new.ended ≡ self.old.ended }
     {
         match self.pop(ValType::I32) {

@@ -1,7 +1,7 @@
 //! Operators for tables and element segments.
 ghost use Rattle.std.specs.Prelude.{◌≡◌};
 ghost use Rattle.wasm_typing.specs.Rules.{table_get, table_set, table_size, table_grow, table_fill, table_copy, table_init, elem_drop};
-ghost use Rattle.wasm_validator.specs.Steps.{Answers};
+ghost use Rattle.wasm_validator.specs.Steps.{ResultsIn};
 
 use crate::fault::Fault;
 use crate::state::Validator;
@@ -13,7 +13,7 @@ impl Validator<'_> {
 
     /// `table.get`
     pub(crate) fn table_get(&mut self, table: u32) -> Result<(), Fault>
-        ensures plain { Answers (plain_in self.old (table_get (setting_of self.old).operands table)) result (open_state self.new) }
+        ensures plain { ResultsIn (plain_in self.old (table_get (setting_of self.old).operands table)) result (open_state self.new) }
         ensures open { self.new.ended ≡ self.old.ended }
     {
         match self.context.table(table) {
@@ -24,7 +24,7 @@ impl Validator<'_> {
 
     /// `table.set`
     pub(crate) fn table_set(&mut self, table: u32) -> Result<(), Fault>
-        ensures plain { Answers (plain_in self.old (table_set (setting_of self.old).operands table)) result (open_state self.new) }
+        ensures plain { ResultsIn (plain_in self.old (table_set (setting_of self.old).operands table)) result (open_state self.new) }
         ensures open { self.new.ended ≡ self.old.ended }
     {
         match self.context.table(table) {
@@ -35,7 +35,7 @@ impl Validator<'_> {
 
     /// `table.size`
     pub(crate) fn table_size(&mut self, table: u32) -> Result<(), Fault>
-        ensures plain { Answers (plain_in self.old (table_size (setting_of self.old).operands table)) result (open_state self.new) }
+        ensures plain { ResultsIn (plain_in self.old (table_size (setting_of self.old).operands table)) result (open_state self.new) }
         ensures open { self.new.ended ≡ self.old.ended }
     {
         match self.context.table(table) {
@@ -46,7 +46,7 @@ impl Validator<'_> {
 
     /// `table.grow`
     pub(crate) fn table_grow(&mut self, table: u32) -> Result<(), Fault>
-        ensures plain { Answers (plain_in self.old (table_grow (setting_of self.old).operands table)) result (open_state self.new) }
+        ensures plain { ResultsIn (plain_in self.old (table_grow (setting_of self.old).operands table)) result (open_state self.new) }
         ensures open { self.new.ended ≡ self.old.ended }
     {
         match self.context.table(table) {
@@ -60,7 +60,7 @@ impl Validator<'_> {
 
     /// `table.fill`
     pub(crate) fn table_fill(&mut self, table: u32) -> Result<(), Fault>
-        ensures plain { Answers (plain_in self.old (table_fill (setting_of self.old).operands table)) result (open_state self.new) }
+        ensures plain { ResultsIn (plain_in self.old (table_fill (setting_of self.old).operands table)) result (open_state self.new) }
         ensures open { self.new.ended ≡ self.old.ended }
     {
         match self.context.table(table) {
@@ -78,7 +78,7 @@ impl Validator<'_> {
 
     /// `table.copy`
     pub(crate) fn table_copy(&mut self, target: u32, source: u32) -> Result<(), Fault>
-        ensures plain { Answers (plain_in self.old (table_copy (setting_of self.old).operands target source)) result (open_state self.new) }
+        ensures plain { ResultsIn (plain_in self.old (table_copy (setting_of self.old).operands target source)) result (open_state self.new) }
         ensures open { self.new.ended ≡ self.old.ended }
     {
         let Some(to) = self.context.table(target) else {
@@ -102,7 +102,7 @@ impl Validator<'_> {
 
     /// `table.init`
     pub(crate) fn table_init(&mut self, element: u32, table: u32) -> Result<(), Fault>
-        ensures plain { Answers (plain_in self.old (table_init (setting_of self.old).operands element table)) result (open_state self.new) }
+        ensures plain { ResultsIn (plain_in self.old (table_init (setting_of self.old).operands element table)) result (open_state self.new) }
         ensures open { self.new.ended ≡ self.old.ended }
     {
         let Some(table) = self.context.table(table) else {
@@ -119,7 +119,7 @@ impl Validator<'_> {
 
     /// `elem.drop`
     pub(crate) fn elem_drop(&mut self, element: u32) -> Result<(), Fault>
-        ensures plain { Answers (plain_in self.old (elem_drop (setting_of self.old).operands element)) result (open_state self.new) }
+        ensures plain { ResultsIn (plain_in self.old (elem_drop (setting_of self.old).operands element)) result (open_state self.new) }
         ensures open { self.new.ended ≡ self.old.ended }
     {
         match self.context.element(element) {

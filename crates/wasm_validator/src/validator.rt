@@ -5,8 +5,8 @@ ghost use Rattle.wasm_validator.specs.declared.fault.Fault.TheVariants.{Memory a
 ghost use Rattle.wasm_body.specs.Validity.{demand, refused, up_to};
 ghost use Rattle.wasm_context.specs.TypeLists.{types_in};
 ghost use Rattle.wasm_validator.specs.States.{known_of, opened_of, IsTypeList};
-ghost use Rattle.wasm_validator.specs.Standing.{is_function_frame};
-ghost use Rattle.wasm_validator.specs.Steps.{Answers};
+ghost use Rattle.wasm_validator.specs.WellFormed.{is_function_frame};
+ghost use Rattle.wasm_validator.specs.Steps.{ResultsIn};
 
 use crate::fault::Fault;
 use crate::frame::{Frame, Opened};
@@ -29,7 +29,7 @@ fn label_types(frame: &Frame) -> TypeList
 /// "error_if" of the contrary.
 #[inline(always)]
 pub(crate) fn demand(test: bool) -> Result<(), Fault>
-    ensures { Answers (demand test) result tt }
+    ensures { ResultsIn (demand test) result tt }
 {
     if test { Ok(()) } else { Err(Fault::Refused) }
 }
@@ -55,7 +55,7 @@ impl Validator<'_> {
     /// Whether an operand matches a type.
     #[inline(always)]
     pub(crate) fn fits(&self, operand: Operand, expected: RawValType) -> Result<(), Fault>
-        ensures { Answers (fits_in (setting_of self.now) (known_of operand) expected) result tt }
+        ensures { ResultsIn (fits_in (setting_of self.now) (known_of operand) expected) result tt }
     {
         match operand {
             Operand::Unknown => Ok(()),
@@ -80,7 +80,7 @@ impl Validator<'_> {
     /// "pop_val(expect)"
     #[inline(always)]
     pub(crate) fn pop(&mut self, expected: RawValType) -> Result<(), Fault>
-        ensures pops { Answers (pop_in (setting_of self.old) (inner_of self.old) expected
+        ensures pops { ResultsIn (pop_in (setting_of self.old) (inner_of self.old) expected
             (operand_stack self.old)) result (operand_stack self.new) }
         ensures same { self.new ≡ record self.old { operands = self.new.operands } }
         ensures reach { ReachesHeight self.old → ReachesHeight self.new }
@@ -96,7 +96,7 @@ impl Validator<'_> {
 
     /// "pop_vals". Once nothing is left above the height of an unreachable frame, it ends.
     pub(crate) fn pop_all(&mut self, types: &[RawValType]) -> Result<(), Fault>
-        ensures pops { Answers (pop_all_in (setting_of self.old) (inner_of self.old) types.now
+        ensures pops { ResultsIn (pop_all_in (setting_of self.old) (inner_of self.old) types.now
             (operand_stack self.old)) result (operand_stack self.new) }
         ensures same { self.new ≡ record self.old { operands = self.new.operands } }
         ensures reach { ReachesHeight self.old → ReachesHeight self.new }
@@ -134,7 +134,7 @@ impl Validator<'_> {
 
     /// Pops operands of these types, and pushes some of those.
     pub(crate) fn apply(&mut self, takes: &[RawValType], gives: &[RawValType]) -> Result<(), Fault>
-        ensures typed { Answers (typed_in (setting_of self.old) (inner_of self.old) takes.now gives.now
+        ensures typed { ResultsIn (typed_in (setting_of self.old) (inner_of self.old) takes.now gives.now
             (operand_stack self.old)) result (operand_stack self.new) }
         ensures same { self.new ≡ record self.old { operands = self.new.operands } }
         ensures reach { ReachesHeight self.old → ReachesHeight self.new }
@@ -147,7 +147,7 @@ impl Validator<'_> {
 
     /// "pop_vals" of a list of the context.
     pub(crate) fn pop_list(&mut self, list: TypeList) -> Result<(), Fault>
-        ensures pops { Answers (pop_all_in (setting_of self.old) (inner_of self.old)
+        ensures pops { ResultsIn (pop_all_in (setting_of self.old) (inner_of self.old)
             (types_in self.old.context.now list) (operand_stack self.old)) result (operand_stack self.new) }
         ensures same { self.new ≡ record self.old { operands = self.new.operands } }
         ensures reach { ReachesHeight self.old → ReachesHeight self.new }
@@ -182,7 +182,7 @@ impl Validator<'_> {
     /// "pop_ctrl", but for the frame itself, which isn't the function's.
     pub(crate) fn pop_control(&mut self) -> Result<(), Fault>
         requires { is_function_frame (opened_of self.old.inner.opened) ≡ false }
-        ensures pops { Answers (pop_control_in (setting_of self.old) (inner_of self.old)
+        ensures pops { ResultsIn (pop_control_in (setting_of self.old) (inner_of self.old)
             (stacks_of self.old)) result (stacks_of self.new) }
         ensures same { self.new ≡ record self.old { operands = self.new.operands; set = self.new.set } }
     {

@@ -5,7 +5,7 @@ ghost use Rattle.wasm_typing.specs.Contexts.{contains};
 ghost use Rattle.wasm_typing.specs.Rules.{local_set, local_tee};
 ghost use Rattle.wasm_locals.specs.LocalTypes.{types_of_locals};
 ghost use Rattle.wasm_validator.specs.declared.fault.Fault.TheVariants.{Memory as MemoryFault};
-ghost use Rattle.wasm_validator.specs.Steps.{Answers};
+ghost use Rattle.wasm_validator.specs.Steps.{ResultsIn};
 
 use crate::fault::Fault;
 use crate::state::Validator;
@@ -42,7 +42,7 @@ impl Validator<'_> {
 
     /// `local.get`
     pub(crate) fn local_get(&mut self, local: u32) -> Result<(), Fault>
-        ensures plain { Answers (local_get_in self.old local) result (open_state self.new) }
+        ensures plain { ResultsIn (local_get_in self.old local) result (open_state self.new) }
         ensures open { self.new.ended ≡ self.old.ended }
     {
         let Some(ty) = self.locals.get(local) else {
@@ -56,7 +56,7 @@ impl Validator<'_> {
 
     /// `local.set`
     pub(crate) fn local_set(&mut self, local: u32) -> Result<(), Fault>
-        ensures plain { Answers (plain_in self.old (local_set (setting_of self.old).operands local)) result
+        ensures plain { ResultsIn (plain_in self.old (local_set (setting_of self.old).operands local)) result
             (open_state self.new) }
         ensures open { self.new.ended ≡ self.old.ended }
     {
@@ -71,7 +71,7 @@ impl Validator<'_> {
 
     /// `local.tee`
     pub(crate) fn local_tee(&mut self, local: u32) -> Result<(), Fault>
-        ensures plain { Answers (plain_in self.old (local_tee (setting_of self.old).operands local)) result
+        ensures plain { ResultsIn (plain_in self.old (local_tee (setting_of self.old).operands local)) result
             (open_state self.new) }
         ensures open { self.new.ended ≡ self.old.ended }
     {

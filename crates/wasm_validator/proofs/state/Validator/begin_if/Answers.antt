@@ -5,7 +5,7 @@ use Rattle.wasm_locals.specs.LocalTypes.{types_of_locals}
 use Rattle.wasm_validator.specs.declared.frame.Opened.TheVariants.{If}
 use Rattle.wasm_validator.specs.Steps.{setting_of, inner_of, operand_stack, open_state, pop_in}
 use Rattle.wasm_validator.specs.Core.{begin_from, begins_if_with, with_stack}
-use Rattle.wasm_validator.proofs.Answering.{goes_on}
+use Rattle.wasm_validator.proofs.StepResults.{goes_on}
 use Rattle.wasm_validator.proofs.Constructs.{if_done}
 use Rattle.wasm_validator.proofs.state.Validator.begin_if.Goals as goal
 

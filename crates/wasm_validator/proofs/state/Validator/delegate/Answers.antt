@@ -2,7 +2,7 @@ use Rattle.std.proofs.Common.{◌≡◌, ◌<◌, ◌≤◌, [], length, true, f
 use Rattle.wasm_validator.specs.Steps.{arguments_of, outer_of, open_state}
 use Rattle.wasm_validator.specs.Core.{given_in, delegates_in}
 use Rattle.wasm_validator.proofs.Frames.{length_frames, none_there}
-use Rattle.wasm_validator.proofs.Constructs.{delegate_refused, delegate_nowhere, delegate_given, given_answers, somewhere}
+use Rattle.wasm_validator.proofs.Constructs.{delegate_refused, delegate_nowhere, delegate_given, given_results, somewhere}
 use Rattle.wasm_validator.proofs.state.Validator.delegate.Goals as goal
 
 pub returns-then-not-is_try-clause-goes_on : goal.returns-then-not-is_try-clause-goes_on
@@ -32,5 +32,5 @@ returns-in-Ok-clause-goes_on c =
     let within : c.args.depth < length (outer_of v) = omega arith in
     let d = somewhere (outer_of v) c.args.depth within in
     let t : c.is_try.result ≡ true = search rules in
-    given_answers (delegates_in v c.args.depth) (given_in w) (open_state c.give.new.self) c.give.result
+    given_results (delegates_in v c.args.depth) (given_in w) (open_state c.give.new.self) c.give.result
     (delegate_given v c.args.depth w d.0 (sym c.is_try.ensures ∙ t) d.1 c.in-Ok.ensures.pops c.in-Ok.ensures.same) c.give.ensures.ok c.give.ensures.err

@@ -8,7 +8,7 @@ use Rattle.wasm_typing.specs.Contexts.{struct_type, unpacked}
 use Rattle.wasm_typing.specs.Operands.{◌⟶◌}
 use Rattle.wasm_typing.specs.Rules.{struct_set, ref_null}
 use Rattle.wasm_validator.specs.Steps.{setting_of}
-use Rattle.wasm_validator.proofs.Answering.{nested}
+use Rattle.wasm_validator.proofs.StepResults.{nested}
 use Rattle.wasm_validator.proofs.PlainOperators.{same_type, bound, passed}
 use Rattle.wasm_validator.proofs.state.Validator.struct_set.Goals as goal
 

@@ -4,7 +4,7 @@ use Rattle.wasm_body.specs.Validity.{results}
 use Rattle.wasm_typing.specs.Matching.{matches_values}
 use Rattle.wasm_typing.specs.Operands.{◌⟶◌}
 use Rattle.wasm_locals.specs.LocalTypes.{types_of_locals}
-use Rattle.wasm_validator.specs.Steps.{Answers, setting_of, open_state}
+use Rattle.wasm_validator.specs.Steps.{ResultsIn, setting_of, open_state}
 use Rattle.wasm_validator.specs.Core.{open_frames, tail_in}
 use Rattle.wasm_validator.proofs.Leaving.{tail_done}
 use Rattle.wasm_validator.proofs.state.Validator.tail_call.Goals as goal
@@ -19,5 +19,5 @@ returns-in-Ok-clause-leaves c =
     let t : c.matches_values.result ≡ true = search rules in
     let fits : matches_values (setting_of v).operands us (results (open_frames v)) ≡ true =
     ap (matches_values (setting_of v).operands us) (c.results-list.ensures ∙ sym c.types_of.ensures) ∙ c.matches_values.ensures (types_of_locals v.locals) ∙ t in
-    subst (λ o. Answers (tail_in v (Ok (c.args.params.now ++ option_to_list o ⟶ us))) r s) (sym c.in-Some.is)
+    subst (λ o. ResultsIn (tail_in v (Ok (c.args.params.now ++ option_to_list o ⟶ us))) r s) (sym c.in-Some.is)
     (tail_done v w s c.args.params.now us c.in-Some.ty r fits c.in-Ok.ensures.pops c.in-Ok.ensures.same c.leave_with.ensures.leaves)

@@ -1,4 +1,4 @@
--- States that stand: after a step of the algorithm they stand again.
+-- Well-formed states: after a step of the algorithm they are well-formed again.
 use Rattle.std.proofs.Common.{◌≡◌, ℕ, ◌-◌, ◌≤◌, List, [], ◌∷◌, length, reverse, Bool, true, false, Ok, Err, refl, sym, ap, ◌∙◌, subst, arith, length-append}
 use Rattle.std.specs.Prelude.{nat_eq, if◌then◌else◌, Option}
 use Rattle.std.proofs.lemmas.List.{length-drop}
@@ -10,7 +10,7 @@ use Rattle.wasm_body.specs.Naming.{NamedOperation, block_signature}
 use Rattle.wasm_body.specs.NormalForm.{Typing}
 use Rattle.wasm_body.specs.Validity as algorithm
 use Rattle.wasm_body.specs.Validity.{Operand, Unknown, Known, Change, OperandRules, Checked, refused, demand, required, i32, exnref, opened_by, is_if, is_try, may_catch, is_catch, transfers, ControlFrame, Stacks, State, state, up_to}
-use Rattle.wasm_validator.specs.Standing.{is_function_frame, AreNested, AreOver, Stands}
+use Rattle.wasm_validator.specs.WellFormed.{is_function_frame, AreNested, AreOver, IsWellFormed}
 
 -- ---- results
 
@@ -146,7 +146,7 @@ module _ {T : Type 0} (m : Typing) (r : OperandRules T) where
       subst (λ (u : Stacks T). f.height ≤ length u.operands) same l
 
   after : (test : Bool) (f : ControlFrame) (s : Stacks T) (fs : List ControlFrame) → f.height ≤ length s.operands → AreNested (f ∷ fs)
-      → Stands (if test then algorithm.unreachable m r f s fs else state s (f ∷ fs))
+      → IsWellFormed (if test then algorithm.unreachable m r f s fs else state s (f ∷ fs))
   after false f s fs l n = (l, n)
   after true f s fs l n = let b = reaches_up f.height s.operands l in ((omega arith), replaced f (record f { unreachable = true }) fs refl refl n)
 
@@ -160,7 +160,7 @@ module _ {T : Type 0} (m : Typing) (r : OperandRules T) where
   condition (TryTable cs) f xs ys h l = let same : xs ≡ ys = cc in subst (λ (zs : List (Operand T)). f.height ≤ length zs) same l
 
   opens : (k : Construct) (ins outs : List (ValType ℕ)) (t : Stacks T) (f : ControlFrame) (fs : List ControlFrame) → f.height ≤ length t.operands → AreNested (f ∷ fs)
-      → Stands (algorithm.push_control m r (opened_by k) ins outs t (f ∷ fs))
+      → IsWellFormed (algorithm.push_control m r (opened_by k) ins outs t (f ∷ fs))
   opens k ins outs t f fs l n = (pushes ins t.operands, (not_function_opened k, l, n))
 
   closes : (f : ControlFrame) (s t : Stacks T) → algorithm.pop_control m r f s ≡ Ok t → length t.operands ≡ f.height
@@ -172,7 +172,7 @@ module _ {T : Type 0} (m : Typing) (r : OperandRules T) where
       let is : length p.0 ≡ f.height = grind (arith, nat_tests) in
       subst (λ (u : Stacks T). length u.operands ≡ f.height) same is
 
-  given : (ts : List (ValType ℕ)) (s : Stacks T) (fs : List ControlFrame) → AreOver s.operands fs → Stands (algorithm.given m r ts s fs)
+  given : (ts : List (ValType ℕ)) (s : Stacks T) (fs : List ControlFrame) → AreOver s.operands fs → IsWellFormed (algorithm.given m r ts s fs)
   given ts s [] h = tt
   given ts s (f ∷ fs) h = let p = pushes ts s.operands in let l : f.height ≤ length s.operands = h.0 in ((omega arith), h.1)
 
@@ -189,53 +189,53 @@ module _ {T : Type 0} (m : Typing) (r : OperandRules T) where
   checks_end algorithm.OfCatchAll f s t h = let same : s ≡ t = cc in ap (λ (u : Stacks T). length u.operands) (sym same)
 
   reopens : (o : algorithm.Opened) (ins outs : List (ValType ℕ)) (f : ControlFrame) (s : Stacks T) (fs : List ControlFrame) → is_function_frame o ≡ false → is_function_frame f.opened ≡ false
-      → length s.operands ≡ f.height → AreNested (f ∷ fs) → Stands (algorithm.push_control m r o ins outs s fs)
+      → length s.operands ≡ f.height → AreNested (f ∷ fs) → IsWellFormed (algorithm.push_control m r o ins outs s fs)
   reopens o ins outs f s fs p q e n =
       let l = pushes ins s.operands in
       next_frame (algorithm.push_each m r ins s.operands) f (algorithm.control m r s o ins outs) fs q p e (omega arith) n
 
   continues : (k : Control) (f : ControlFrame) (s : Stacks T) (fs : List ControlFrame) (next : State T) → algorithm.next_sequence m r k f s fs ≡ Ok next
-      → length s.operands ≡ f.height → AreNested (f ∷ fs) → Stands next
+      → length s.operands ≡ f.height → AreNested (f ∷ fs) → IsWellFormed next
   continues Else f s fs next h e n =
       let p = before (demand (is_if f.opened)) (λ u. Ok (algorithm.push_control m r algorithm.OfElse f.start_types f.end_types s fs)) next h in
       let same : algorithm.push_control m r algorithm.OfElse f.start_types f.end_types s fs ≡ next = cc (p.2) in
-      subst (λ (u : State T). Stands u) same (reopens algorithm.OfElse f.start_types f.end_types f s fs refl (not_function_if f.opened (demanded (is_if f.opened) p.0 p.1)) e n)
+      subst (λ (u : State T). IsWellFormed u) same (reopens algorithm.OfElse f.start_types f.end_types f s fs refl (not_function_if f.opened (demanded (is_if f.opened) p.0 p.1)) e n)
   continues (Catch tag) f s fs next h e n =
       let p = before (demand (may_catch f.opened)) (λ u. Ok (algorithm.push_control m r algorithm.OfCatch (m.tag_parameters tag) f.end_types s fs)) next h in
       let same : algorithm.push_control m r algorithm.OfCatch (m.tag_parameters tag) f.end_types s fs ≡ next = cc (p.2) in
-      subst (λ (u : State T). Stands u) same (reopens algorithm.OfCatch (m.tag_parameters tag) f.end_types f s fs refl (not_function_catch f.opened (demanded (may_catch f.opened) p.0 p.1)) e n)
+      subst (λ (u : State T). IsWellFormed u) same (reopens algorithm.OfCatch (m.tag_parameters tag) f.end_types f s fs refl (not_function_catch f.opened (demanded (may_catch f.opened) p.0 p.1)) e n)
   continues CatchAll f s fs next h e n =
       let p = before (demand (may_catch f.opened)) (λ u. Ok (algorithm.push_control m r algorithm.OfCatchAll [] f.end_types s fs)) next h in
       let same : algorithm.push_control m r algorithm.OfCatchAll [] f.end_types s fs ≡ next = cc (p.2) in
-      subst (λ (u : State T). Stands u) same (reopens algorithm.OfCatchAll [] f.end_types f s fs refl (not_function_catch f.opened (demanded (may_catch f.opened) p.0 p.1)) e n)
+      subst (λ (u : State T). IsWellFormed u) same (reopens algorithm.OfCatchAll [] f.end_types f s fs refl (not_function_catch f.opened (demanded (may_catch f.opened) p.0 p.1)) e n)
   continues End f s fs next h e n =
       let p = before (algorithm.checks_end m r f.opened f s) (λ t. Ok (algorithm.given m r f.end_types t fs)) next h in
       let same : algorithm.given m r f.end_types p.0 fs ≡ next = cc (p.2) in
       let long = checks_end f.opened f s p.0 p.1 in
-      subst (λ (u : State T). Stands u) same (given f.end_types p.0 fs (around p.0.operands f fs (omega arith) n))
+      subst (λ (u : State T). IsWellFormed u) same (given f.end_types p.0 fs (around p.0.operands f fs (omega arith) n))
   continues (Delegate d) f s fs next h e n =
       let p = before (demand (is_try f.opened)) (λ u. algorithm.labelled_frame fs d >>= λ g. Ok (algorithm.given m r f.end_types s fs)) next h in
       let q = before (algorithm.labelled_frame fs d) (λ g. Ok (algorithm.given m r f.end_types s fs)) next p.2 in
       let same : algorithm.given m r f.end_types s fs ≡ next = cc (q.2) in
-      subst (λ (u : State T). Stands u) same (given f.end_types s fs (around s.operands f fs (omega arith) n))
+      subst (λ (u : State T). IsWellFormed u) same (given f.end_types s fs (around s.operands f fs (omega arith) n))
   continues (Does action) f s fs next h e n = absurd cc
   continues (Opens k) f s fs next h e n = absurd cc
 
   -- ---- a step
 
-  pub steps : (k : Control) (o : NamedOperation) (s : Stacks T) (fs : List ControlFrame) (next : State T) → algorithm.step_in m r k o s fs ≡ Ok next → AreOver s.operands fs → Stands next
+  pub steps : (k : Control) (o : NamedOperation) (s : Stacks T) (fs : List ControlFrame) (next : State T) → algorithm.step_in m r k o s fs ≡ Ok next → AreOver s.operands fs → IsWellFormed next
   steps k o s [] next h g = absurd cc
   steps (Does action) o s (f ∷ fs) next h g =
       let p = before (algorithm.taken m r action o f (f ∷ fs) s) (λ t. Ok (algorithm.after_action m r action f t fs)) next h in
       let same : algorithm.after_action m r action f p.0 fs ≡ next = cc (p.2) in
-      subst (λ (u : State T). Stands u) same (after (transfers action) f p.0 fs (takes action o f (f ∷ fs) s p.0 p.1 g.0) g.1)
+      subst (λ (u : State T). IsWellFormed u) same (after (transfers action) f p.0 fs (takes action o f (f ∷ fs) s p.0 p.1 g.0) g.1)
   steps (Opens k) o s (f ∷ fs) next h g =
       let p = before (algorithm.taken_by m r k o f s) (λ t. algorithm.opens m r k o t (f ∷ fs)) next h in
       let c = before (algorithm.condition m r k f s.operands) (λ xs. algorithm.popping m r f (block_signature o).parameters (algorithm.with_operands m r s xs)) p.0 p.1 in
       let l = popping f (block_signature o).parameters (algorithm.with_operands m r s c.0) p.0 c.2 (condition k f s.operands c.0 c.1 g.0) in
       let q = before (algorithm.checks_catches m r k o (f ∷ fs) p.0) (λ u. Ok (algorithm.push_control m r (opened_by k) (block_signature o).parameters (block_signature o).results p.0 (f ∷ fs))) next p.2 in
       let same : algorithm.push_control m r (opened_by k) (block_signature o).parameters (block_signature o).results p.0 (f ∷ fs) ≡ next = cc (q.2) in
-      subst (λ (u : State T). Stands u) same (opens k (block_signature o).parameters (block_signature o).results p.0 f fs l g.1)
+      subst (λ (u : State T). IsWellFormed u) same (opens k (block_signature o).parameters (block_signature o).results p.0 f fs l g.1)
   steps Else o s (f ∷ fs) next h g =
       let p = before (algorithm.pop_control m r f s) (λ t. algorithm.next_sequence m r Else f t fs) next h in
       continues Else f p.0 fs next p.2 (closes f s p.0 p.1) g.1

@@ -17,5 +17,5 @@ abbrev pub AreOver : {X : Type 0} → List X → List ControlFrame → Type 0
 AreOver xs [] = Unit {0}
 AreOver xs (f ∷ fs) = (f.height ≤ length xs) × AreNested (f ∷ fs)
 
-abbrev pub Stands : {T : Type 0} → State T → Type 0
-Stands s = AreOver s.stacks.operands s.controls
+abbrev pub IsWellFormed : {T : Type 0} → State T → Type 0
+IsWellFormed s = AreOver s.stacks.operands s.controls

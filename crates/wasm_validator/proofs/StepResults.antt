@@ -9,25 +9,25 @@ use Rattle.wasm_context.specs.Validation.{BodyContext, typing_in}
 use Rattle.wasm_validator.specs.declared.fault.Fault.{Fault}
 use Rattle.wasm_validator.specs.declared.fault.Fault.TheVariants as fault
 use Rattle.wasm_validator.specs.States.{Known}
-use Rattle.wasm_validator.specs.Steps.{Answers, fits_in}
+use Rattle.wasm_validator.specs.Steps.{ResultsIn, fits_in}
 
 -- a step that was the last
-pub passes_on : {X Y : Type 0} (a : Checked X) (k : X → Checked Y) (x : X) (y : Y) (e : Fault) → Answers a (Err e) x → Answers (a >>= k) (Err e) y
+pub passes_on : {X Y : Type 0} (a : Checked X) (k : X → Checked Y) (x : X) (y : Y) (e : Fault) → ResultsIn a (Err e) x → ResultsIn (a >>= k) (Err e) y
 passes_on a k x y fault.Refused h = ap (λ r. r >>= k) h
 passes_on a k x y fault.Memory h = tt
 
 -- a step, and then others
-pub goes_on : {X Y : Type 0} (a : Checked X) (k : X → Checked Y) (x : X) (y : Y) (r : Result (Unit {0}) Fault) → a ≡ Ok x → Answers (k x) r y → Answers (a >>= k) r y
-goes_on a k x y r h then = subst (λ w. Answers (w >>= k) r y) (sym h) then
+pub goes_on : {X Y : Type 0} (a : Checked X) (k : X → Checked Y) (x : X) (y : Y) (r : Result (Unit {0}) Fault) → a ≡ Ok x → ResultsIn (k x) r y → ResultsIn (a >>= k) r y
+goes_on a k x y r h then = subst (λ w. ResultsIn (w >>= k) r y) (sym h) then
 
 -- a test alone
-pub tested : {X : Type 0} (a : Checked (Unit {0})) (x : X) (r : Result (Unit {0}) Fault) → Answers a r tt → Answers (a >>= λ u. Ok x) r x
+pub tested : {X : Type 0} (a : Checked (Unit {0})) (x : X) (r : Result (Unit {0}) Fault) → ResultsIn a r tt → ResultsIn (a >>= λ u. Ok x) r x
 tested a x (Ok u) h = ap (λ w. w >>= λ u. Ok x) h
 tested a x (Err fault.Refused) h = ap (λ w. w >>= λ u. Ok x) h
 tested a x (Err fault.Memory) h = tt
 
 -- a step whose result becomes another
-pub mapped : {X Y : Type 0} (a : Checked X) (k : X → Y) (r : Result (Unit {0}) Fault) (x : X) → Answers a r x → Answers (a >>= λ y. Ok (k y)) r (k x)
+pub mapped : {X Y : Type 0} (a : Checked X) (k : X → Y) (r : Result (Unit {0}) Fault) (x : X) → ResultsIn a r x → ResultsIn (a >>= λ y. Ok (k y)) r (k x)
 mapped a k (Ok u) x h = ap (λ w. w >>= λ y. Ok (k y)) h
 mapped a k (Err fault.Refused) x h = ap (λ w. w >>= λ y. Ok (k y)) h
 mapped a k (Err fault.Memory) x h = tt
