@@ -31,7 +31,7 @@ use Rattle.walrus_context.specs.OpenTrees.{OpenTrees, Opens, Pops, EndsAt, AddsC
 use Rattle.walrus_context.specs.Keeping.{slots, IsTry, IsWithinFrames, Holds, IsAppended}
 use Rattle.walrus_parser.specs.Advancing.{Keeps, KeepsProgress, occurrence, Advances, IsStep}
 use Rattle.walrus_parser.specs.BodyParsers.{state_with}
-use Rattle.walrus_parser.specs.Handlers.{clause_operation, caught, handler_kind, handler_clause, has_clauses}
+use Rattle.walrus_parser.specs.Handlers.{clause_operation, caught_tag, handler_kind, handler_clause, has_clauses}
 use Rattle.walrus_parser.proofs.Clauses.{GainsClause, AddsClause}
 use Rattle.walrus_parser.proofs.ConstructKinds.{MayHaveClause, by_clause}
 use Rattle.walrus_context.proofs.LastClauses.{last_clause, clause_kept}
@@ -113,7 +113,7 @@ has_try clause g fs (o ∷ os) x e some frames opener refused =
 module _ (env : Environment) (f : SequenceFrame Occurrence) (fs : List (SequenceFrame Occurrence)) where
   abbrev pub clause_named : Option ℕ → Bool → Result NamedOperation ParseError
   clause_named tag allowed =
-      unless allowed CatchOutsideTry >>= λ _. caught env tag >>= λ h. has_pick env (signature h.1 (construct_results (f ∷ fs))) >>= λ _. Ok (clause_operation h.0)
+      unless allowed CatchOutsideTry >>= λ _. caught_tag env tag >>= λ h. has_pick env (signature h.1 (construct_results (f ∷ fs))) >>= λ _. Ok (clause_operation h.0)
 
   same_moves : is_some (catch_all_moves f) ≡ is_some (catch_moves f)
   same_moves = by_frame f
@@ -191,7 +191,7 @@ parameters_are env tag s e = by_type (slice_get env.tags tag) e
     by_type (Some type) q = by_signature (signature_of env.types type) q
     by_type None q = absurd cc
 
-is_tagged : (env : Environment) (tag : Option ℕ) (h : Option ℕ × List (ValType ℕ)) → caught env tag ≡ Ok h → IsTagged env h.0 h.1
+is_tagged : (env : Environment) (tag : Option ℕ) (h : Option ℕ × List (ValType ℕ)) → caught_tag env tag ≡ Ok h → IsTagged env h.0 h.1
 is_tagged env None h e = let same : (None, []) ≡ h = cc e in subst (λ z. IsTagged env z.0 z.1) same refl
 is_tagged env (Some n) h e = by_id (id_at env Tags n) e
   where
@@ -242,8 +242,8 @@ module _ (old mid : OpenTrees) (ifs : List IfElseState) (s : Sequence Occurrence
 
   module _ (may : has_clauses c.kind ≡ true) where
     -- lookups return the same as before
-    caught_before : caught (env_of old) tag ≡ caught (env_of mid) tag
-    caught_before = ap (λ t. caught (env_of t) tag) (sym popped.closes.is)
+    caught_before : caught_tag (env_of old) tag ≡ caught_tag (env_of mid) tag
+    caught_before = ap (λ t. caught_tag (env_of t) tag) (sym popped.closes.is)
 
     -- so a construct is open
     not_outermost : Kept [] → ⊥
@@ -252,20 +252,20 @@ module _ (old mid : OpenTrees) (ifs : List IfElseState) (s : Sequence Occurrence
         let no : has_clauses kind.FunctionEntry ≡ true = ap has_clauses (sym outermost.kind ∙ kind_is) ∙ may in absurd (cc no)
 
     named_as : (l : Layer Occurrence) (ls : List (Layer Occurrence)) → Kept (l ∷ ls) →
-        named_in (env_of old) (frames_of (l ∷ ls)) (clause_operation tag) ≡ (caught (env_of old) tag >>= λ h. has_pick (env_of old) (signature h.1 c.end_types.items) >>= λ _. Ok (clause_operation h.0))
+        named_in (env_of old) (frames_of (l ∷ ls)) (clause_operation tag) ≡ (caught_tag (env_of old) tag >>= λ h. has_pick (env_of old) (signature h.1 c.end_types.items) >>= λ _. Ok (clause_operation h.0))
     named_as l ls keeps =
         let inside = within l ls keeps in
         named_clause (env_of old) (frame_of l.construct) (frames_of ls) tag
         ∙ ap (clause_named (env_of old) (frame_of l.construct) (frames_of ls) tag) (allows_clause l.construct ∙ ap has_clauses (sym inside.encloses.kind ∙ kind_is) ∙ may)
-        ∙ ap (λ r. caught (env_of old) tag >>= λ h. has_pick (env_of old) (signature h.1 r) >>= λ _. let q : Result NamedOperation ParseError = Ok (clause_operation h.0) in q) (results_around l.construct (frames_of ls) ∙ sym inside.encloses.gives ∙ ends)
+        ∙ ap (λ r. caught_tag (env_of old) tag >>= λ h. has_pick (env_of old) (signature h.1 r) >>= λ _. let q : Result NamedOperation ParseError = Ok (clause_operation h.0) in q) (results_around l.construct (frames_of ls) ∙ sym inside.encloses.gives ∙ ends)
 
     -- the tag isn't found
-    pub not_caught : (e : ParseError) → caught (env_of mid) tag ≡ Err e → (ls : List (Layer Occurrence)) → Kept ls → named_in (env_of old) (frames_of ls) (clause_operation tag) ≡ Err e
+    pub not_caught : (e : ParseError) → caught_tag (env_of mid) tag ≡ Err e → (ls : List (Layer Occurrence)) → Kept ls → named_in (env_of old) (frames_of ls) (clause_operation tag) ≡ Err e
     not_caught e after [] keeps = absurd (not_outermost keeps)
-    not_caught e after (l ∷ ls) keeps = let is : caught (env_of old) tag ≡ Err e = caught_before ∙ after in named_as l ls keeps ∙ ap (λ r. r >>= λ h. has_pick (env_of old) (signature h.1 c.end_types.items) >>= λ _. let q : Result NamedOperation ParseError = Ok (clause_operation h.0) in q) is
+    not_caught e after (l ∷ ls) keeps = let is : caught_tag (env_of old) tag ≡ Err e = caught_before ∙ after in named_as l ls keeps ∙ ap (λ r. r >>= λ h. has_pick (env_of old) (signature h.1 c.end_types.items) >>= λ _. let q : Result NamedOperation ParseError = Ok (clause_operation h.0) in q) is
 
-    module _ (h : Option ℕ × List (ValType ℕ)) (after : caught (env_of mid) tag ≡ Ok h) (end : OpenTrees) (ended : EndsAt mid end block location) (gives : List (ValType ℕ)) (gives_is : gives ≡ c.end_types.items) where
-      is_caught : caught (env_of old) tag ≡ Ok h
+    module _ (h : Option ℕ × List (ValType ℕ)) (after : caught_tag (env_of mid) tag ≡ Ok h) (end : OpenTrees) (ended : EndsAt mid end block location) (gives : List (ValType ℕ)) (gives_is : gives ≡ c.end_types.items) where
+      is_caught : caught_tag (env_of old) tag ≡ Ok h
       is_caught = caught_before ∙ after
 
       same_module : end.module ≡ old.module

@@ -19,9 +19,9 @@ clause_operation (Some tag) = operation catch_opcode (index Tags tag ∷ [])
 clause_operation None = catch_all_operation
 
 -- what a handler catches: its tag, as an id, if it has one; and the parameters of the tag
-abbrev pub caught : Environment → Option ℕ → Result (Option ℕ × List (ValType ℕ)) ParseError
-caught env None = Ok (None, [])
-caught env (Some n) = id_at env Tags n >>= λ tag. tag_type env tag >>= λ s. Ok (Some tag, s.parameters)
+abbrev pub caught_tag : Environment → Option ℕ → Result (Option ℕ × List (ValType ℕ)) ParseError
+caught_tag env None = Ok (None, [])
+caught_tag env (Some n) = id_at env Tags n >>= λ tag. tag_type env tag >>= λ s. Ok (Some tag, s.parameters)
 
 -- the kind of a handler in its `try`
 abbrev pub handler_kind : {A : Type 0} → Option A → BlockKind

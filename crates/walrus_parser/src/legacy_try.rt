@@ -4,7 +4,7 @@ ghost use Rattle.wasm_operators.specs.declared.types.Opcode.TheVariants.{Byte};
 ghost use Rattle.wasm_operators.specs.Operations.{operation, block};
 ghost use Rattle.wasm_body.specs.Control.{delegate_operation};
 ghost use Rattle.walrus_parser.specs.BodyParsers.{IsSameBody, ParsesStep};
-ghost use Rattle.walrus_parser.specs.Handlers.{clause_operation, caught, handler_kind, handler_clause, has_clauses};
+ghost use Rattle.walrus_parser.specs.Handlers.{clause_operation, caught_tag, handler_kind, handler_clause, has_clauses};
 ghost use Rattle.walrus_context.specs.OpenTrees.{env_of};
 ghost use Rattle.wasm_numbers.specs.Results.{Gives};
 
@@ -51,7 +51,7 @@ impl<'a> BodyParser<'a> {
     /// What a clause catches: the tag with this old index, or all tags.
     fn caught(&self, tag: Option<u32>) -> Result<Caught<'a>, ParseError>
         ensures { Gives (λ h. (h.tag, h.parameters.now)) result
-            (caught (env_of self.now.context) tag) }
+            (caught_tag (env_of self.now.context) tag) }
     {
         let Some(index) = tag else {
             return Ok(Caught {
