@@ -10,7 +10,7 @@ use crate::input::Input;
 
 impl Input<'_> {
     /// The flags of a segment, which are at most `most`.
-    fn segment_flags(&mut self, most: u32) -> Result<u32, ModuleError>
+    pub fn segment_flags(&mut self, most: u32) -> Result<u32, ModuleError>
         ensures same_end { self.new.end ≡ self.old.end }
         ensures is { Gives (λ flags. (flags, self.new.rest.now)) result
             (checked number (flags_up_to most) self.old.end self.old.rest.now) }
@@ -134,7 +134,7 @@ impl Input<'_> {
     }
 
     /// Reads past the elements of a segment: expressions, or indices of functions.
-    fn elements(&mut self, are_expressions: bool) -> Result<(), ModuleError>
+    pub fn elements(&mut self, are_expressions: bool) -> Result<(), ModuleError>
         ensures same_end { self.new.end ≡ self.old.end }
         ensures is { Gives (λ _. (tt, self.new.rest.now)) result (elements_part are_expressions
             self.old.end self.old.rest.now) }
