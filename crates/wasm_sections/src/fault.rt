@@ -63,8 +63,7 @@ pub enum ModuleFault {
     /// The kind of the elements of a segment isn't 0.
     #[error("the kind of an element is not 0")]
     BadElementKind,
-    /// A constant expression has an operator that opens, divides or leaves a construct; or, where a module
-    /// is validated, another one that isn't constant.
+    /// A constant expression has an operator that opens, divides or leaves a construct.
     #[error("this operator is not allowed in a constant expression")]
     BadConstant,
     /// Nothing in the module has this index.
@@ -115,29 +114,6 @@ pub enum ModuleFault {
     /// wrote other bodies the second time; or functions were imported or added with other changes.
     #[error("a function is changed otherwise than before")]
     InconsistentChange,
-    /// A type names a type after its recursive group; or the supertype that it declares comes after it,
-    /// is final, or isn't matched by it.
-    #[error("a type is not valid")]
-    InvalidType,
-    /// The minimum of a table or of a memory is greater than its maximum, or one of both than an address
-    /// reaches; or a table is shared.
-    #[error("the limits are not valid")]
-    InvalidLimits,
-    /// The type of a tag has results.
-    #[error("the type of a tag has results")]
-    TagResults,
-    /// The start function has parameters or results.
-    #[error("the start function has parameters or results")]
-    StartType,
-    /// A table has no initial value, and its elements have no default one.
-    #[error("a table whose elements have no default value has no initial value")]
-    NoInitialValue,
-    /// The elements of an active segment don't match those of its table.
-    #[error("the elements of a segment do not match those of the table")]
-    SegmentType,
-    /// The validation algorithm refuses an operator.
-    #[error("the operator is not valid here")]
-    InvalidOperator,
     /// A count or a size doesn't fit 32 bits, or there are 2^32 items.
     #[error("a count is too great")]
     TooGreat,
