@@ -50,6 +50,7 @@ impl Validator<'_> {
         ensures plain { ResultsIn (plain_in self.old
             (type_of_access ty (setting_of self.old).operands (access_of memarg))) result (open_state self.new) }
         ensures open { self.new.ended ≡ self.old.ended }
+        ensures setting { setting_of self.new ≡ setting_of self.old }
     {
         let Some(memory) = self.context.memory(memarg.memory) else {
             return Err(Fault::Refused);
@@ -73,6 +74,7 @@ impl Validator<'_> {
         ensures plain { ResultsIn (plain_in self.old (Ok (takes.now ⟶ given_by gives))) result
             (open_state self.new) }
         ensures open { self.new.ended ≡ self.old.ended }
+        ensures setting { setting_of self.new ≡ setting_of self.old }
     {
         match gives {
             Some(ty) => self.typed(takes, &[ty]),
@@ -86,6 +88,7 @@ impl Validator<'_> {
             (type_of_operator (setting_of self.old).operands (load_operation kind (access_of memarg))))
             result (open_state self.new) }
         ensures open { self.new.ended ≡ self.old.ended }
+        ensures setting { setting_of self.new ≡ setting_of self.old }
     {
         self.access(load_type(kind), memarg)
     }
@@ -96,6 +99,7 @@ impl Validator<'_> {
             (type_of_operator (setting_of self.old).operands (store_operation kind (access_of memarg))))
             result (open_state self.new) }
         ensures open { self.new.ended ≡ self.old.ended }
+        ensures setting { setting_of self.new ≡ setting_of self.old }
     {
         self.access(store_type(kind), memarg)
     }
@@ -110,6 +114,7 @@ impl Validator<'_> {
             (type_of_operator (setting_of self.old).operands
             (vector_access_operation kind (access_of memarg)))) result (open_state self.new) }
         ensures open { self.new.ended ≡ self.old.ended }
+        ensures setting { setting_of self.new ≡ setting_of self.old }
     {
         self.access(vector_access_type(kind), memarg)
     }
@@ -120,6 +125,7 @@ impl Validator<'_> {
             (type_of_operator (setting_of self.old).operands (atomic_operation kind (access_of memarg))))
             result (open_state self.new) }
         ensures open { self.new.ended ≡ self.old.ended }
+        ensures setting { setting_of self.new ≡ setting_of self.old }
     {
         self.access(atomic_type(kind), memarg)
     }
@@ -129,6 +135,7 @@ impl Validator<'_> {
         ensures plain { ResultsIn (plain_in self.old (memory_size (setting_of self.old).operands memory))
             result (open_state self.new) }
         ensures open { self.new.ended ≡ self.old.ended }
+        ensures setting { setting_of self.new ≡ setting_of self.old }
     {
         match self.context.memory(memory) {
             Some(at) => self.typed(&[], &[at.value()]),
@@ -141,6 +148,7 @@ impl Validator<'_> {
         ensures plain { ResultsIn (plain_in self.old (memory_grow (setting_of self.old).operands memory))
             result (open_state self.new) }
         ensures open { self.new.ended ≡ self.old.ended }
+        ensures setting { setting_of self.new ≡ setting_of self.old }
     {
         match self.context.memory(memory) {
             Some(at) => self.typed(&[at.value()], &[at.value()]),
@@ -153,6 +161,7 @@ impl Validator<'_> {
         ensures plain { ResultsIn (plain_in self.old (memory_fill (setting_of self.old).operands memory))
             result (open_state self.new) }
         ensures open { self.new.ended ≡ self.old.ended }
+        ensures setting { setting_of self.new ≡ setting_of self.old }
     {
         match self.context.memory(memory) {
             Some(at) => self.typed(&[at.value(), ValType::I32, at.value()], &[]),
@@ -165,6 +174,7 @@ impl Validator<'_> {
         ensures plain { ResultsIn (plain_in self.old
             (memory_copy (setting_of self.old).operands target source)) result (open_state self.new) }
         ensures open { self.new.ended ≡ self.old.ended }
+        ensures setting { setting_of self.new ≡ setting_of self.old }
     {
         let Some(to) = self.context.memory(target) else {
             return Err(Fault::Refused);
@@ -180,6 +190,7 @@ impl Validator<'_> {
         ensures plain { ResultsIn (plain_in self.old
             (memory_init (setting_of self.old).operands segment memory)) result (open_state self.new) }
         ensures open { self.new.ended ≡ self.old.ended }
+        ensures setting { setting_of self.new ≡ setting_of self.old }
     {
         let Some(at) = self.context.memory(memory) else {
             return Err(Fault::Refused);
@@ -195,6 +206,7 @@ impl Validator<'_> {
         ensures plain { ResultsIn (plain_in self.old (data_drop (setting_of self.old).operands segment)) result
             (open_state self.new) }
         ensures open { self.new.ended ≡ self.old.ended }
+        ensures setting { setting_of self.new ≡ setting_of self.old }
     {
         if self.context.has_data(segment) {
             self.typed(&[], &[])

@@ -70,6 +70,7 @@ impl Validator<'_> {
     pub(crate) fn struct_new_default(&mut self, ty: u32) -> Result<(), Fault>
         ensures plain { ResultsIn (plain_in self.old (struct_new_default (setting_of self.old).operands ty)) result (open_state self.new) }
         ensures open { self.new.ended ≡ self.old.ended }
+        ensures setting { setting_of self.new ≡ setting_of self.old }
     {
         let Some(fields) = self.context.struct_fields(ty) else {
             return Err(Fault::Refused);
@@ -84,6 +85,7 @@ impl Validator<'_> {
     pub(crate) fn struct_get(&mut self, signed: bool, ty: u32, field: u32) -> Result<(), Fault>
         ensures plain { ResultsIn (plain_in self.old (struct_get signed (setting_of self.old).operands ty field)) result (open_state self.new) }
         ensures open { self.new.ended ≡ self.old.ended }
+        ensures setting { setting_of self.new ≡ setting_of self.old }
     {
         let Some(field) = self.field(ty, field) else {
             return Err(Fault::Refused);
@@ -101,6 +103,7 @@ impl Validator<'_> {
     pub(crate) fn struct_set(&mut self, ty: u32, field: u32) -> Result<(), Fault>
         ensures plain { ResultsIn (plain_in self.old (struct_set (setting_of self.old).operands ty field)) result (open_state self.new) }
         ensures open { self.new.ended ≡ self.old.ended }
+        ensures setting { setting_of self.new ≡ setting_of self.old }
     {
         let Some(field) = self.field(ty, field) else {
             return Err(Fault::Refused);
@@ -121,6 +124,7 @@ impl Validator<'_> {
     pub(crate) fn array_new(&mut self, ty: u32) -> Result<(), Fault>
         ensures plain { ResultsIn (plain_in self.old (array_new (setting_of self.old).operands ty)) result (open_state self.new) }
         ensures open { self.new.ended ≡ self.old.ended }
+        ensures setting { setting_of self.new ≡ setting_of self.old }
     {
         let Some(element) = self.context.array_element(ty) else {
             return Err(Fault::Refused);
@@ -135,6 +139,7 @@ impl Validator<'_> {
     pub(crate) fn array_new_default(&mut self, ty: u32) -> Result<(), Fault>
         ensures plain { ResultsIn (plain_in self.old (array_new_default (setting_of self.old).operands ty)) result (open_state self.new) }
         ensures open { self.new.ended ≡ self.old.ended }
+        ensures setting { setting_of self.new ≡ setting_of self.old }
     {
         let Some(element) = self.context.array_element(ty) else {
             return Err(Fault::Refused);
@@ -149,6 +154,7 @@ impl Validator<'_> {
     pub(crate) fn array_new_data(&mut self, ty: u32, segment: u32) -> Result<(), Fault>
         ensures plain { ResultsIn (plain_in self.old (array_new_from from_data (setting_of self.old).operands ty segment)) result (open_state self.new) }
         ensures open { self.new.ended ≡ self.old.ended }
+        ensures setting { setting_of self.new ≡ setting_of self.old }
     {
         let Some(element) = self.context.array_element(ty) else {
             return Err(Fault::Refused);
@@ -166,6 +172,7 @@ impl Validator<'_> {
     pub(crate) fn array_new_elem(&mut self, ty: u32, segment: u32) -> Result<(), Fault>
         ensures plain { ResultsIn (plain_in self.old (array_new_from from_elements (setting_of self.old).operands ty segment)) result (open_state self.new) }
         ensures open { self.new.ended ≡ self.old.ended }
+        ensures setting { setting_of self.new ≡ setting_of self.old }
     {
         let Some(element) = self.context.array_element(ty) else {
             return Err(Fault::Refused);
@@ -183,6 +190,7 @@ impl Validator<'_> {
     pub(crate) fn array_get(&mut self, signed: bool, ty: u32) -> Result<(), Fault>
         ensures plain { ResultsIn (plain_in self.old (array_get signed (setting_of self.old).operands ty)) result (open_state self.new) }
         ensures open { self.new.ended ≡ self.old.ended }
+        ensures setting { setting_of self.new ≡ setting_of self.old }
     {
         let Some(element) = self.context.array_element(ty) else {
             return Err(Fault::Refused);
@@ -200,6 +208,7 @@ impl Validator<'_> {
     pub(crate) fn array_set(&mut self, ty: u32) -> Result<(), Fault>
         ensures plain { ResultsIn (plain_in self.old (array_set (setting_of self.old).operands ty)) result (open_state self.new) }
         ensures open { self.new.ended ≡ self.old.ended }
+        ensures setting { setting_of self.new ≡ setting_of self.old }
     {
         let Some(element) = self.context.array_element(ty) else {
             return Err(Fault::Refused);
@@ -221,6 +230,7 @@ impl Validator<'_> {
     pub(crate) fn array_fill(&mut self, ty: u32) -> Result<(), Fault>
         ensures plain { ResultsIn (plain_in self.old (array_fill (setting_of self.old).operands ty)) result (open_state self.new) }
         ensures open { self.new.ended ≡ self.old.ended }
+        ensures setting { setting_of self.new ≡ setting_of self.old }
     {
         let Some(element) = self.context.array_element(ty) else {
             return Err(Fault::Refused);
@@ -243,6 +253,7 @@ impl Validator<'_> {
     pub(crate) fn array_copy(&mut self, target: u32, source: u32) -> Result<(), Fault>
         ensures plain { ResultsIn (plain_in self.old (array_copy (setting_of self.old).operands target source)) result (open_state self.new) }
         ensures open { self.new.ended ≡ self.old.ended }
+        ensures setting { setting_of self.new ≡ setting_of self.old }
     {
         let Some(to) = self.context.array_element(target) else {
             return Err(Fault::Refused);
@@ -269,6 +280,7 @@ impl Validator<'_> {
     pub(crate) fn array_init_data(&mut self, ty: u32, segment: u32) -> Result<(), Fault>
         ensures plain { ResultsIn (plain_in self.old (array_init_from from_data (setting_of self.old).operands ty segment)) result (open_state self.new) }
         ensures open { self.new.ended ≡ self.old.ended }
+        ensures setting { setting_of self.new ≡ setting_of self.old }
     {
         let Some(element) = self.context.array_element(ty) else {
             return Err(Fault::Refused);
@@ -291,6 +303,7 @@ impl Validator<'_> {
     pub(crate) fn array_init_elem(&mut self, ty: u32, segment: u32) -> Result<(), Fault>
         ensures plain { ResultsIn (plain_in self.old (array_init_from from_elements (setting_of self.old).operands ty segment)) result (open_state self.new) }
         ensures open { self.new.ended ≡ self.old.ended }
+        ensures setting { setting_of self.new ≡ setting_of self.old }
     {
         let Some(element) = self.context.array_element(ty) else {
             return Err(Fault::Refused);

@@ -68,6 +68,7 @@ impl Validator<'_> {
     pub(crate) fn leave_with(&mut self, types: &[RawValType]) -> Result<(), Fault>
         ensures leaves { ResultsIn (leaves_with self.old types.now) result (open_state self.new) }
         ensures open { self.new.ended ≡ self.old.ended }
+        ensures setting { setting_of self.new ≡ setting_of self.old }
     {
         match self.pop_all(types) {
             Ok(()) => {
@@ -82,6 +83,7 @@ impl Validator<'_> {
     pub(crate) fn branch(&mut self, label: u32) -> Result<(), Fault>
         ensures branches { ResultsIn (branch_in self.old label) result (open_state self.new) }
         ensures open { self.new.ended ≡ self.old.ended }
+        ensures setting { setting_of self.new ≡ setting_of self.old }
     {
         let Some(list) = self.label(label) else {
             return Err(Fault::Refused);
@@ -120,6 +122,7 @@ impl Validator<'_> {
         requires { ReachesHeight self.old }
         ensures branches { ResultsIn (conditional_in self.old label if_rule) result (open_state self.new) }
         ensures open { self.new.ended ≡ self.old.ended }
+        ensures setting { setting_of self.new ≡ setting_of self.old }
     {
         let Some(list) = self.label(label) else {
             return Err(Fault::Refused);
@@ -133,6 +136,7 @@ impl Validator<'_> {
         ensures branches { ResultsIn (conditional_in self.old label non_null_rule) result
             (open_state self.new) }
         ensures open { self.new.ended ≡ self.old.ended }
+        ensures setting { setting_of self.new ≡ setting_of self.old }
     {
         let Some(list) = self.label(label) else {
             return Err(Fault::Refused);
@@ -171,6 +175,7 @@ impl Validator<'_> {
             (reference_rule (setting_of self.old).operands from to branches stays)) result
             (open_state self.new) }
         ensures open { self.new.ended ≡ self.old.ended }
+        ensures setting { setting_of self.new ≡ setting_of self.old }
     {
         let Some(list) = self.label(label) else {
             return Err(Fault::Refused);
@@ -192,6 +197,7 @@ impl Validator<'_> {
         requires { ReachesHeight self.old }
         ensures branches { ResultsIn (cast_in self.old cast) result (open_state self.new) }
         ensures open { self.new.ended ≡ self.old.ended }
+        ensures setting { setting_of self.new ≡ setting_of self.old }
     {
         let (from, to) = cast_types(cast);
         self.branch_on_reference(cast.label, from, to, to, difference(from, to))
@@ -202,6 +208,7 @@ impl Validator<'_> {
         requires { ReachesHeight self.old }
         ensures branches { ResultsIn (cast_fail_in self.old cast) result (open_state self.new) }
         ensures open { self.new.ended ≡ self.old.ended }
+        ensures setting { setting_of self.new ≡ setting_of self.old }
     {
         let (from, to) = cast_types(cast);
         self.branch_on_reference(cast.label, from, to, difference(from, to), to)
@@ -222,6 +229,7 @@ impl Validator<'_> {
         ensures leaves { ResultsIn (leaves_with self.old (results (open_frames self.old))) result
             (open_state self.new) }
         ensures open { self.new.ended ≡ self.old.ended }
+        ensures setting { setting_of self.new ≡ setting_of self.old }
     {
         let list = self.results();
         self.leave_with(types_of(self.context, &list))
@@ -231,6 +239,7 @@ impl Validator<'_> {
     pub(crate) fn throw(&mut self, tag: u32) -> Result<(), Fault>
         ensures leaves { ResultsIn (throws_in self.old tag) result (open_state self.new) }
         ensures open { self.new.ended ≡ self.old.ended }
+        ensures setting { setting_of self.new ≡ setting_of self.old }
     {
         match self.context.tag_type(tag) {
             Some(ty) => self.leave_with(self.context.params_at(ty)),
@@ -242,6 +251,7 @@ impl Validator<'_> {
     pub(crate) fn throw_ref(&mut self) -> Result<(), Fault>
         ensures leaves { ResultsIn (leaves_with self.old (exnref ∷ [])) result (open_state self.new) }
         ensures open { self.new.ended ≡ self.old.ended }
+        ensures setting { setting_of self.new ≡ setting_of self.old }
     {
         self.leave_with(&[EXNREF])
     }
@@ -250,6 +260,7 @@ impl Validator<'_> {
     pub(crate) fn rethrow(&mut self, depth: u32) -> Result<(), Fault>
         ensures leaves { ResultsIn (rethrows_in self.old depth) result (open_state self.new) }
         ensures open { self.new.ended ≡ self.old.ended }
+        ensures setting { setting_of self.new ≡ setting_of self.old }
     {
         let Some(frame) = self.frame(depth) else {
             return Err(Fault::Refused);
@@ -271,6 +282,7 @@ impl Validator<'_> {
         ensures leaves { ResultsIn (tail_in self.old
             (Ok (params.now ++ option_to_list last ⟶ gives.now))) result (open_state self.new) }
         ensures open { self.new.ended ≡ self.old.ended }
+        ensures setting { setting_of self.new ≡ setting_of self.old }
     {
         let list = self.results();
         if !self
@@ -293,6 +305,7 @@ impl Validator<'_> {
         ensures leaves { ResultsIn (tail_in self.old (call (setting_of self.old).operands func)) result
             (open_state self.new) }
         ensures open { self.new.ended ≡ self.old.ended }
+        ensures setting { setting_of self.new ≡ setting_of self.old }
     {
         let Some(ty) = self.context.function_of(func) else {
             return Err(Fault::Refused);
@@ -308,6 +321,7 @@ impl Validator<'_> {
         ensures leaves { ResultsIn (tail_in self.old (call_ref (setting_of self.old).operands ty)) result
             (open_state self.new) }
         ensures open { self.new.ended ≡ self.old.ended }
+        ensures setting { setting_of self.new ≡ setting_of self.old }
     {
         let callee = ValType::Ref(RawRefType {
             nullable: true,
@@ -324,6 +338,7 @@ impl Validator<'_> {
         ensures leaves { ResultsIn (tail_in self.old
             (call_indirect (setting_of self.old).operands ty table)) result (open_state self.new) }
         ensures open { self.new.ended ≡ self.old.ended }
+        ensures setting { setting_of self.new ≡ setting_of self.old }
     {
         let Some(table) = self.context.table(table) else {
             return Err(Fault::Refused);

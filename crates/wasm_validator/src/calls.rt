@@ -31,6 +31,7 @@ impl Validator<'_> {
         ensures plain { ResultsIn (plain_in self.old (Ok (takes.now ++ last ∷ [] ⟶ gives.now))) result
             (open_state self.new) }
         ensures open { self.new.ended ≡ self.old.ended }
+        ensures setting { setting_of self.new ≡ setting_of self.old }
     {
         match self.pop(last) {
             Ok(()) => self.apply(takes, gives),
@@ -43,6 +44,7 @@ impl Validator<'_> {
         ensures plain { ResultsIn (plain_in self.old (call (setting_of self.old).operands func)) result
             (open_state self.new) }
         ensures open { self.new.ended ≡ self.old.ended }
+        ensures setting { setting_of self.new ≡ setting_of self.old }
     {
         let context = self.context;
         let Some(ty) = context.function_of(func) else {
@@ -59,6 +61,7 @@ impl Validator<'_> {
         ensures plain { ResultsIn (plain_in self.old (call_ref (setting_of self.old).operands ty)) result
             (open_state self.new) }
         ensures open { self.new.ended ≡ self.old.ended }
+        ensures setting { setting_of self.new ≡ setting_of self.old }
     {
         let context = self.context;
         match context.function_type(ty) {
@@ -75,6 +78,7 @@ impl Validator<'_> {
         ensures plain { ResultsIn (plain_in self.old
             (call_indirect (setting_of self.old).operands ty table)) result (open_state self.new) }
         ensures open { self.new.ended ≡ self.old.ended }
+        ensures setting { setting_of self.new ≡ setting_of self.old }
     {
         let context = self.context;
         let Some(table) = context.table(table) else {

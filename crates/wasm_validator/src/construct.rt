@@ -33,6 +33,7 @@ impl Validator<'_> {
         ensures begins { ResultsIn (begin_in self.old opened (signature_of_block self.old.context.now types))
             result (open_state self.new) }
         ensures open { self.new.ended ≡ self.old.ended }
+        ensures setting { setting_of self.new ≡ setting_of self.old }
     {
         match self.pop_list(types.params) {
             Ok(()) => self.open(opened, types.params, types.results),
@@ -45,6 +46,7 @@ impl Validator<'_> {
         requires { is_function_frame (opened_of opened) ≡ false }
         ensures begins { ResultsIn (begins_in self.old opened ty) result (open_state self.new) }
         ensures open { self.new.ended ≡ self.old.ended }
+        ensures setting { setting_of self.new ≡ setting_of self.old }
     {
         match self.context.block_types(ty) {
             Some(types) => self.begin_with(opened, types),
@@ -56,6 +58,7 @@ impl Validator<'_> {
     pub(crate) fn begin_if(&mut self, ty: BlockType) -> Result<(), Fault>
         ensures begins { ResultsIn (begins_if self.old ty) result (open_state self.new) }
         ensures open { self.new.ended ≡ self.old.ended }
+        ensures setting { setting_of self.new ≡ setting_of self.old }
     {
         let Some(types) = self.context.block_types(ty) else {
             return Err(Fault::Refused);
@@ -130,6 +133,7 @@ impl Validator<'_> {
     ) -> Result<(), Fault>
         ensures begins { ResultsIn (begins_try_table self.old ty catches.now) result (open_state self.new) }
         ensures open { self.new.ended ≡ self.old.ended }
+        ensures setting { setting_of self.new ≡ setting_of self.old }
     {
         let Some(types) = self.context.block_types(ty) else {
             return Err(Fault::Refused);
@@ -183,6 +187,7 @@ impl Validator<'_> {
     pub(crate) fn catch(&mut self, tag: u32) -> Result<(), Fault>
         ensures goes_on { ResultsIn (catches_in self.old tag) result (open_state self.new) }
         ensures open { self.new.ended ≡ self.old.ended }
+        ensures setting { setting_of self.new ≡ setting_of self.old }
     {
         match self.context.tag_type(tag) {
             Some(ty) => self.reopen(self.may_catch(), Opened::Catch, TypeList::Params(ty)),
@@ -194,6 +199,7 @@ impl Validator<'_> {
     pub(crate) fn catch_all(&mut self) -> Result<(), Fault>
         ensures goes_on { ResultsIn (catches_all_in self.old) result (open_state self.new) }
         ensures open { self.new.ended ≡ self.old.ended }
+        ensures setting { setting_of self.new ≡ setting_of self.old }
     {
         self.reopen(self.may_catch(), Opened::CatchAll, TypeList::Empty)
     }
@@ -204,6 +210,7 @@ impl Validator<'_> {
         ensures ok { OnOk result (given_in self.old ≡ open_state self.new) }
         ensures err { IfErr result (λ e. e ≡ MemoryFault) }
         ensures open { self.new.ended ≡ self.old.ended }
+        ensures setting { setting_of self.new ≡ setting_of self.old }
     {
         let ends = self.inner.ends;
         self.leave();
@@ -221,6 +228,7 @@ impl Validator<'_> {
     pub(crate) fn delegate(&mut self, depth: u32) -> Result<(), Fault>
         ensures goes_on { ResultsIn (delegates_in self.old depth) result (open_state self.new) }
         ensures open { self.new.ended ≡ self.old.ended }
+        ensures setting { setting_of self.new ≡ setting_of self.old }
     {
         if !self.is_try() {
             return Err(Fault::Refused);
@@ -241,6 +249,7 @@ impl Validator<'_> {
         requires parted { is_if (opened_of self.old.inner.opened) ≡ false }
         ensures goes_on { ResultsIn (ends_in self.old) result (open_state self.new) }
         ensures open { self.new.ended ≡ self.old.ended }
+        ensures setting { setting_of self.new ≡ setting_of self.old }
     {
         match self.pop_control() {
             Ok(()) => self.give(),
@@ -254,6 +263,7 @@ impl Validator<'_> {
         requires inner { is_function_frame (opened_of self.old.inner.opened) ≡ true }
         ensures goes_on { ResultsIn (ends_in self.old) result (ended_of self.new) }
         ensures ended { OnOk result (self.new.ended ≡ true) }
+        ensures setting { setting_of self.new ≡ setting_of self.old }
     {
         match self.pop_list(self.inner.ends) {
             Ok(()) => {}
@@ -272,6 +282,7 @@ impl Validator<'_> {
         requires inner { is_if (opened_of self.old.inner.opened) ≡ true }
         ensures goes_on { ResultsIn (ends_in self.old) result (open_state self.new) }
         ensures open { self.new.ended ≡ self.old.ended }
+        ensures setting { setting_of self.new ≡ setting_of self.old }
     {
         match self.else_sequence() {
             Ok(()) => self.end_construct(),
@@ -283,7 +294,8 @@ impl Validator<'_> {
     pub(crate) fn end(&mut self) -> Result<(), Fault>
         requires well_formed { IsWellFormed (open_state self.old) }
         requires open { self.old.ended ≡ false }
-        ensures { ResultsIn (ends_in self.old) result (whole_state_of self.new) }
+        ensures goes_on { ResultsIn (ends_in self.old) result (whole_state_of self.new) }
+        ensures setting { setting_of self.new ≡ setting_of self.old }
     {
         match self.inner.opened {
             Opened::Function => self.end_function(),

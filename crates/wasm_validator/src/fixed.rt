@@ -14,13 +14,14 @@ use wasm_operators::RawValType;
 use wasm_types::{AbstractHeapType, HeapType, ValType};
 
 impl Validator<'_> {
-    ghost use Rattle.wasm_validator.specs.Steps.{open_state};
+    ghost use Rattle.wasm_validator.specs.Steps.{setting_of, open_state};
     ghost use Rattle.wasm_validator.specs.Plain.{plain_in};
 
     /// A constant of a type.
     pub(crate) fn constant(&mut self, ty: RawValType) -> Result<(), Fault>
         ensures plain { ResultsIn (plain_in self.old (Ok ([] ⟶ ty ∷ []))) result (open_state self.new) }
         ensures open { self.new.ended ≡ self.old.ended }
+        ensures setting { setting_of self.new ≡ setting_of self.old }
     {
         self.typed(&[], &[ty])
     }
@@ -31,6 +32,7 @@ impl Validator<'_> {
             (Ok (value.I64 ∷ value.I64 ∷ value.I64 ∷ value.I64 ∷ [] ⟶ value.I64 ∷ value.I64 ∷ []))) result
             (open_state self.new) }
         ensures open { self.new.ended ≡ self.old.ended }
+        ensures setting { setting_of self.new ≡ setting_of self.old }
     {
         self.typed(
             &[ValType::I64, ValType::I64, ValType::I64, ValType::I64],
@@ -43,6 +45,7 @@ impl Validator<'_> {
         ensures plain { ResultsIn (plain_in self.old
             (Ok (value.I64 ∷ value.I64 ∷ [] ⟶ value.I64 ∷ value.I64 ∷ []))) result (open_state self.new) }
         ensures open { self.new.ended ≡ self.old.ended }
+        ensures setting { setting_of self.new ≡ setting_of self.old }
     {
         self.typed(&[ValType::I64, ValType::I64], &[ValType::I64, ValType::I64])
     }
@@ -52,6 +55,7 @@ impl Validator<'_> {
         ensures plain { ResultsIn (plain_in self.old
             (Ok (value.V128 ∷ value.V128 ∷ [] ⟶ value.V128 ∷ []))) result (open_state self.new) }
         ensures open { self.new.ended ≡ self.old.ended }
+        ensures setting { setting_of self.new ≡ setting_of self.old }
     {
         self.typed(&[ValType::V128, ValType::V128], &[ValType::V128])
     }
@@ -61,6 +65,7 @@ impl Validator<'_> {
         ensures plain { ResultsIn (plain_in self.old
             (Ok (value.V128 ∷ value.V128 ∷ value.V128 ∷ [] ⟶ value.V128 ∷ []))) result (open_state self.new) }
         ensures open { self.new.ended ≡ self.old.ended }
+        ensures setting { setting_of self.new ≡ setting_of self.old }
     {
         self.typed(
             &[ValType::V128, ValType::V128, ValType::V128],
@@ -74,6 +79,7 @@ impl Validator<'_> {
             (Ok (ref_null (AbstractHeap abstract.Eq) ∷ ref_null (AbstractHeap abstract.Eq) ∷ [] ⟶ value.I32 ∷ [])))
             result (open_state self.new) }
         ensures open { self.new.ended ≡ self.old.ended }
+        ensures setting { setting_of self.new ≡ setting_of self.old }
     {
         let either = reference(true, HeapType::Abstract(AbstractHeapType::Eq));
         self.typed(&[either, either], &[ValType::I32])
@@ -84,6 +90,7 @@ impl Validator<'_> {
         ensures plain { ResultsIn (plain_in self.old
             (Ok (ref_null (AbstractHeap abstract.Array) ∷ [] ⟶ value.I32 ∷ []))) result (open_state self.new) }
         ensures open { self.new.ended ≡ self.old.ended }
+        ensures setting { setting_of self.new ≡ setting_of self.old }
     {
         let array = reference(true, HeapType::Abstract(AbstractHeapType::Array));
         self.typed(&[array], &[ValType::I32])
@@ -94,6 +101,7 @@ impl Validator<'_> {
         ensures plain { ResultsIn (plain_in self.old
             (Ok (value.I32 ∷ [] ⟶ ref (AbstractHeap abstract.I31) ∷ []))) result (open_state self.new) }
         ensures open { self.new.ended ≡ self.old.ended }
+        ensures setting { setting_of self.new ≡ setting_of self.old }
     {
         let small = reference(false, HeapType::Abstract(AbstractHeapType::I31));
         self.typed(&[ValType::I32], &[small])
@@ -104,6 +112,7 @@ impl Validator<'_> {
         ensures plain { ResultsIn (plain_in self.old
             (Ok (ref_null (AbstractHeap abstract.I31) ∷ [] ⟶ value.I32 ∷ []))) result (open_state self.new) }
         ensures open { self.new.ended ≡ self.old.ended }
+        ensures setting { setting_of self.new ≡ setting_of self.old }
     {
         let small = reference(true, HeapType::Abstract(AbstractHeapType::I31));
         self.typed(&[small], &[ValType::I32])
@@ -113,6 +122,7 @@ impl Validator<'_> {
     pub(crate) fn fence(&mut self) -> Result<(), Fault>
         ensures plain { ResultsIn (plain_in self.old (Ok ([] ⟶ []))) result (open_state self.new) }
         ensures open { self.new.ended ≡ self.old.ended }
+        ensures setting { setting_of self.new ≡ setting_of self.old }
     {
         self.typed(&[], &[])
     }

@@ -14,6 +14,7 @@ impl Validator<'_> {
     pub(crate) fn global_get(&mut self, global: u32) -> Result<(), Fault>
         ensures plain { ResultsIn (plain_in self.old (global_get (setting_of self.old).operands global)) result (open_state self.new) }
         ensures open { self.new.ended ≡ self.old.ended }
+        ensures setting { setting_of self.new ≡ setting_of self.old }
     {
         match self.context.global(global) {
             Some(global) => self.typed(&[], &[global.ty]),
@@ -25,6 +26,7 @@ impl Validator<'_> {
     pub(crate) fn global_set(&mut self, global: u32) -> Result<(), Fault>
         ensures plain { ResultsIn (plain_in self.old (global_set (setting_of self.old).operands global)) result (open_state self.new) }
         ensures open { self.new.ended ≡ self.old.ended }
+        ensures setting { setting_of self.new ≡ setting_of self.old }
     {
         let Some(global) = self.context.global(global) else {
             return Err(Fault::Refused);

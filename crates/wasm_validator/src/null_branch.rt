@@ -8,7 +8,7 @@ use crate::state::Validator;
 use crate::types::types_of;
 
 impl Validator<'_> {
-    ghost use Rattle.wasm_validator.specs.Steps.{open_state, ReachesHeight};
+    ghost use Rattle.wasm_validator.specs.Steps.{setting_of, open_state, ReachesHeight};
     ghost use Rattle.wasm_validator.specs.NullBranches.{null_branch_in};
 
     /// `br_on_null`
@@ -16,6 +16,7 @@ impl Validator<'_> {
         requires { ReachesHeight self.old }
         ensures branches { ResultsIn (null_branch_in self.old label) result (open_state self.new) }
         ensures open { self.new.ended ≡ self.old.ended }
+        ensures setting { setting_of self.new ≡ setting_of self.old }
     {
         let Some(list) = self.label(label) else {
             return Err(Fault::Refused);

@@ -73,6 +73,7 @@ impl Validator<'_> {
     pub(crate) fn drop_operand(&mut self) -> Result<(), Fault>
         ensures plain { ResultsIn (drops_in self.old) result (open_state self.new) }
         ensures open { self.new.ended ≡ self.old.ended }
+        ensures setting { setting_of self.new ≡ setting_of self.old }
     {
         match self.pop_any() {
             Ok(_) => Ok(()),
@@ -85,6 +86,7 @@ impl Validator<'_> {
         ensures plain { ResultsIn (plain_in self.old
             (selected_of (setting_of self.old).operands (value ty ∷ []))) result (open_state self.new) }
         ensures open { self.new.ended ≡ self.old.ended }
+        ensures setting { setting_of self.new ≡ setting_of self.old }
     {
         if !self.context.is_valid_value(ty) {
             return Err(Fault::Refused);
@@ -96,6 +98,7 @@ impl Validator<'_> {
     pub(crate) fn select(&mut self) -> Result<(), Fault>
         ensures plain { ResultsIn (selects_in self.old) result (open_state self.new) }
         ensures open { self.new.ended ≡ self.old.ended }
+        ensures setting { setting_of self.new ≡ setting_of self.old }
     {
         match self.pop(ValType::I32) {
             Ok(()) => {}

@@ -34,6 +34,7 @@ impl Validator<'_> {
     pub(crate) fn typed(&mut self, takes: &[RawValType], gives: &[RawValType]) -> Result<(), Fault>
         ensures plain { ResultsIn (plain_in self.old (Ok (takes.now ⟶ gives.now))) result (open_state self.new) }
         ensures open { self.new.ended ≡ self.old.ended }
+        ensures setting { setting_of self.new ≡ setting_of self.old }
     {
         self.apply(takes, gives)
     }
@@ -43,6 +44,7 @@ impl Validator<'_> {
         ensures plain { ResultsIn (plain_in self.old
             (type_of_operator (setting_of self.old).operands (unary_operation op))) result (open_state self.new) }
         ensures open { self.new.ended ≡ self.old.ended }
+        ensures setting { setting_of self.new ≡ setting_of self.old }
     {
         match unary_types(op) {
             Some((takes, gives)) => self.typed(&[takes], &[gives]),
@@ -55,6 +57,7 @@ impl Validator<'_> {
         ensures plain { ResultsIn (plain_in self.old
             (type_of_operator (setting_of self.old).operands (binary_operation op))) result (open_state self.new) }
         ensures open { self.new.ended ≡ self.old.ended }
+        ensures setting { setting_of self.new ≡ setting_of self.old }
     {
         match binary_types(op) {
             Some((first, second, gives)) => self.typed(&[first, second], &[gives]),
@@ -67,6 +70,7 @@ impl Validator<'_> {
         ensures plain { ResultsIn (plain_in self.old
             (type_of_operator (setting_of self.old).operands (ternary_operation op))) result (open_state self.new) }
         ensures open { self.new.ended ≡ self.old.ended }
+        ensures setting { setting_of self.new ≡ setting_of self.old }
     {
         let ty = ternary_type(op);
         self.typed(&[ty, ty, ty], &[ty])
@@ -78,6 +82,7 @@ impl Validator<'_> {
             (at_lanes (value.V128 ∷ value.V128 ∷ []) (value.V128 ∷ []) (setting_of self.old).operands
             (lanes indices.now ∷ []))) result (open_state self.new) }
         ensures open { self.new.ended ≡ self.old.ended }
+        ensures setting { setting_of self.new ≡ setting_of self.old }
     {
         if !are_lanes(indices) {
             return Err(Fault::Refused);

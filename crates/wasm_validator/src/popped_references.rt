@@ -59,7 +59,7 @@ fn may_be_null(reference: Reference) -> bool
 }
 
 impl Validator<'_> {
-    ghost use Rattle.wasm_validator.specs.Steps.{operand_stack, inner_of, open_state, ReachesHeight};
+    ghost use Rattle.wasm_validator.specs.Steps.{setting_of, operand_stack, inner_of, open_state, ReachesHeight};
     ghost use Rattle.wasm_validator.specs.Popped.{PopsReference, reference_in, tests_null_in, non_null_in, converts_in};
 
     /// "pop_ref()"
@@ -82,6 +82,7 @@ impl Validator<'_> {
     pub(crate) fn is_null(&mut self) -> Result<(), Fault>
         ensures plain { ResultsIn (tests_null_in self.old) result (open_state self.new) }
         ensures open { self.new.ended ≡ self.old.ended }
+        ensures setting { setting_of self.new ≡ setting_of self.old }
     {
         match self.pop_reference() {
             Ok(_) => self.push(Operand::I32),
@@ -93,6 +94,7 @@ impl Validator<'_> {
     pub(crate) fn as_non_null(&mut self) -> Result<(), Fault>
         ensures plain { ResultsIn (non_null_in self.old) result (open_state self.new) }
         ensures open { self.new.ended ≡ self.old.ended }
+        ensures setting { setting_of self.new ≡ setting_of self.old }
     {
         match self.pop_reference() {
             Ok(reference) => self.push(operand_of_reference(not_null(reference))),
@@ -108,6 +110,7 @@ impl Validator<'_> {
     ) -> Result<(), Fault>
         ensures plain { ResultsIn (converts_in self.old from to) result (open_state self.new) }
         ensures open { self.new.ended ≡ self.old.ended }
+        ensures setting { setting_of self.new ≡ setting_of self.old }
     {
         let found = match self.pop_reference() {
             Ok(found) => found,

@@ -84,6 +84,7 @@ impl Validator<'_> {
         ensures plain { ResultsIn (plain_in self.old (Ok (field_types fields.now ⟶ gives.now))) result
             (open_state self.new) }
         ensures open { self.new.ended ≡ self.old.ended }
+        ensures setting { setting_of self.new ≡ setting_of self.old }
     {
         self.apply_fields(fields, gives)
     }
@@ -94,6 +95,7 @@ impl Validator<'_> {
         ensures plain { ResultsIn (plain_in self.old (Ok (replicate count ty ⟶ gives.now))) result
             (open_state self.new) }
         ensures open { self.new.ended ≡ self.old.ended }
+        ensures setting { setting_of self.new ≡ setting_of self.old }
     {
         self.apply_same(ty, count, gives)
     }
@@ -103,6 +105,7 @@ impl Validator<'_> {
         ensures plain { ResultsIn (plain_in self.old (struct_new (setting_of self.old).operands ty)) result
             (open_state self.new) }
         ensures open { self.new.ended ≡ self.old.ended }
+        ensures setting { setting_of self.new ≡ setting_of self.old }
     {
         let context = self.context;
         match context.struct_fields(ty) {
@@ -116,6 +119,7 @@ impl Validator<'_> {
         ensures plain { ResultsIn (plain_in self.old
             (array_new_fixed (setting_of self.old).operands ty count)) result (open_state self.new) }
         ensures open { self.new.ended ≡ self.old.ended }
+        ensures setting { setting_of self.new ≡ setting_of self.old }
     {
         let Some(element) = self.context.array_element(ty) else {
             return Err(Fault::Refused);

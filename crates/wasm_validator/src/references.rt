@@ -27,6 +27,7 @@ impl Validator<'_> {
     pub(crate) fn null_reference(&mut self, heap: RawHeapType) -> Result<(), Fault>
         ensures plain { ResultsIn (plain_in self.old (null_reference (setting_of self.old).operands heap)) result (open_state self.new) }
         ensures open { self.new.ended ≡ self.old.ended }
+        ensures setting { setting_of self.new ≡ setting_of self.old }
     {
         if !self.context.is_valid_heap(heap) {
             return Err(Fault::Refused);
@@ -38,6 +39,7 @@ impl Validator<'_> {
     pub(crate) fn function_reference(&mut self, func: u32) -> Result<(), Fault>
         ensures plain { ResultsIn (plain_in self.old (function_reference (setting_of self.old).operands func)) result (open_state self.new) }
         ensures open { self.new.ended ≡ self.old.ended }
+        ensures setting { setting_of self.new ≡ setting_of self.old }
     {
         let Some(ty) = self.context.function_of(func) else {
             return Err(Fault::Refused);
@@ -52,6 +54,7 @@ impl Validator<'_> {
     pub(crate) fn reference_test(&mut self, heap: RawHeapType) -> Result<(), Fault>
         ensures plain { ResultsIn (plain_in self.old (reference_test (setting_of self.old).operands heap)) result (open_state self.new) }
         ensures open { self.new.ended ≡ self.old.ended }
+        ensures setting { setting_of self.new ≡ setting_of self.old }
     {
         match self.context.top_heap(heap) {
             Some(top) => self.typed(&[reference(true, HeapType::Abstract(top))], &[ValType::I32]),
@@ -63,6 +66,7 @@ impl Validator<'_> {
     pub(crate) fn reference_cast(&mut self, nullable: bool, heap: RawHeapType) -> Result<(), Fault>
         ensures plain { ResultsIn (plain_in self.old (reference_cast nullable (setting_of self.old).operands heap)) result (open_state self.new) }
         ensures open { self.new.ended ≡ self.old.ended }
+        ensures setting { setting_of self.new ≡ setting_of self.old }
     {
         match self.context.top_heap(heap) {
             Some(top) => self.typed(

@@ -21,6 +21,7 @@ impl Validator<'_> {
     fn unreachable(&mut self) -> Result<(), Fault>
         ensures leaves { ResultsIn (step_of self.old (operation (Byte 0x00) [])) result (open_state self.new) }
         ensures open { self.new.ended ≡ self.old.ended }
+        ensures setting { setting_of self.new ≡ setting_of self.old }
     {
         self.set_unreachable();
         Ok(())
@@ -32,8 +33,9 @@ impl Validator<'_> {
         requires well_formed { IsWellFormed (open_state self.old) }
         requires reach { ReachesHeight self.old }
         requires open { self.old.ended ≡ false }
-        ensures { ResultsIn (raw_step (setting_of self.old) (meaning op.now) (open_state self.old)) result
+        ensures step { ResultsIn (raw_step (setting_of self.old) (meaning op.now) (open_state self.old)) result
             (whole_state_of self.new) }
+        ensures setting { setting_of self.new ≡ setting_of self.old }
     {
         match op {
             Operator::Unreachable => self.unreachable(),
@@ -113,6 +115,7 @@ impl Validator<'_> {
         ensures step { ResultsIn (raw_step (setting_of self.old) (meaning op.now)
             (whole_state_of self.old)) result (whole_state_of self.new) }
         ensures well_formed { OnOk result (IsWellFormed (whole_state_of self.new)) }
+        ensures setting { setting_of self.new ≡ setting_of self.old }
     {
         if self.ended {
             return Err(Fault::Refused);

@@ -18,6 +18,7 @@ impl Validator<'_> {
         ensures goes_on { ResultsIn (raw_step (setting_of self.old) (reference_operation op)
             (open_state self.old)) result (open_state self.new) }
         ensures open { self.new.ended ≡ self.old.ended }
+        ensures setting { setting_of self.new ≡ setting_of self.old }
     {
         match op {
             ReferenceOp::RefNull { heap_type } => self.null_reference(heap_type),

@@ -10,7 +10,7 @@ use wasm_operators::{BrTable, RawValType, Targets};
 use wasm_types::ValType;
 
 impl Validator<'_> {
-    ghost use Rattle.wasm_validator.specs.Steps.{open_state, ReachesHeight};
+    ghost use Rattle.wasm_validator.specs.Steps.{setting_of, open_state, ReachesHeight};
     ghost use Rattle.wasm_validator.specs.Core.{holds_in, target_step, targets_in, table_in};
 
     /// Whether operands of these types are on the stack, so that "pop_vals" would pop them.
@@ -71,6 +71,7 @@ impl Validator<'_> {
         requires { ReachesHeight self.old }
         ensures branches { ResultsIn (table_in self.old table.now) result (open_state self.new) }
         ensures open { self.new.ended ≡ self.old.ended }
+        ensures setting { setting_of self.new ≡ setting_of self.old }
     {
         match self.pop(ValType::I32) {
             Ok(()) => {}

@@ -15,6 +15,7 @@ impl Validator<'_> {
     pub(crate) fn table_get(&mut self, table: u32) -> Result<(), Fault>
         ensures plain { ResultsIn (plain_in self.old (table_get (setting_of self.old).operands table)) result (open_state self.new) }
         ensures open { self.new.ended ≡ self.old.ended }
+        ensures setting { setting_of self.new ≡ setting_of self.old }
     {
         match self.context.table(table) {
             Some(table) => self.typed(&[table.address.value()], &[ValType::Ref(table.element)]),
@@ -26,6 +27,7 @@ impl Validator<'_> {
     pub(crate) fn table_set(&mut self, table: u32) -> Result<(), Fault>
         ensures plain { ResultsIn (plain_in self.old (table_set (setting_of self.old).operands table)) result (open_state self.new) }
         ensures open { self.new.ended ≡ self.old.ended }
+        ensures setting { setting_of self.new ≡ setting_of self.old }
     {
         match self.context.table(table) {
             Some(table) => self.typed(&[table.address.value(), ValType::Ref(table.element)], &[]),
@@ -37,6 +39,7 @@ impl Validator<'_> {
     pub(crate) fn table_size(&mut self, table: u32) -> Result<(), Fault>
         ensures plain { ResultsIn (plain_in self.old (table_size (setting_of self.old).operands table)) result (open_state self.new) }
         ensures open { self.new.ended ≡ self.old.ended }
+        ensures setting { setting_of self.new ≡ setting_of self.old }
     {
         match self.context.table(table) {
             Some(table) => self.typed(&[], &[table.address.value()]),
@@ -48,6 +51,7 @@ impl Validator<'_> {
     pub(crate) fn table_grow(&mut self, table: u32) -> Result<(), Fault>
         ensures plain { ResultsIn (plain_in self.old (table_grow (setting_of self.old).operands table)) result (open_state self.new) }
         ensures open { self.new.ended ≡ self.old.ended }
+        ensures setting { setting_of self.new ≡ setting_of self.old }
     {
         match self.context.table(table) {
             Some(table) => self.typed(
@@ -62,6 +66,7 @@ impl Validator<'_> {
     pub(crate) fn table_fill(&mut self, table: u32) -> Result<(), Fault>
         ensures plain { ResultsIn (plain_in self.old (table_fill (setting_of self.old).operands table)) result (open_state self.new) }
         ensures open { self.new.ended ≡ self.old.ended }
+        ensures setting { setting_of self.new ≡ setting_of self.old }
     {
         match self.context.table(table) {
             Some(table) => self.typed(
@@ -80,6 +85,7 @@ impl Validator<'_> {
     pub(crate) fn table_copy(&mut self, target: u32, source: u32) -> Result<(), Fault>
         ensures plain { ResultsIn (plain_in self.old (table_copy (setting_of self.old).operands target source)) result (open_state self.new) }
         ensures open { self.new.ended ≡ self.old.ended }
+        ensures setting { setting_of self.new ≡ setting_of self.old }
     {
         let Some(to) = self.context.table(target) else {
             return Err(Fault::Refused);
@@ -104,6 +110,7 @@ impl Validator<'_> {
     pub(crate) fn table_init(&mut self, element: u32, table: u32) -> Result<(), Fault>
         ensures plain { ResultsIn (plain_in self.old (table_init (setting_of self.old).operands element table)) result (open_state self.new) }
         ensures open { self.new.ended ≡ self.old.ended }
+        ensures setting { setting_of self.new ≡ setting_of self.old }
     {
         let Some(table) = self.context.table(table) else {
             return Err(Fault::Refused);
@@ -121,6 +128,7 @@ impl Validator<'_> {
     pub(crate) fn elem_drop(&mut self, element: u32) -> Result<(), Fault>
         ensures plain { ResultsIn (plain_in self.old (elem_drop (setting_of self.old).operands element)) result (open_state self.new) }
         ensures open { self.new.ended ≡ self.old.ended }
+        ensures setting { setting_of self.new ≡ setting_of self.old }
     {
         match self.context.element(element) {
             Some(_) => self.typed(&[], &[]),

@@ -232,6 +232,7 @@ impl Validator<'_> {
         ensures ok { OnOk result (OpensFrame self.old self.new opened starts ends) }
         ensures err { IfErr result (λ e. e ≡ MemoryFault) }
         ensures open { self.new.ended ≡ self.old.ended }
+        ensures setting { setting_of self.new ≡ setting_of self.old }
     {
         match self.outer.push(self.inner) {
             Ok(()) => self.enter(opened, starts, ends),
@@ -241,7 +242,8 @@ impl Validator<'_> {
 
     /// Leaves the innermost frame, if there is one around it.
     pub(crate) fn leave(&mut self) -> bool
-        ensures { Leaves self.old self.new result }
+        ensures leaves { Leaves self.old self.new result }
+        ensures setting { setting_of self.new ≡ setting_of self.old }
     {
         match self.outer.pop() {
             Some(frame) => {

@@ -44,6 +44,7 @@ impl Validator<'_> {
     pub(crate) fn local_get(&mut self, local: u32) -> Result<(), Fault>
         ensures plain { ResultsIn (local_get_in self.old local) result (open_state self.new) }
         ensures open { self.new.ended ≡ self.old.ended }
+        ensures setting { setting_of self.new ≡ setting_of self.old }
     {
         let Some(ty) = self.locals.get(local) else {
             return Err(Fault::Refused);
@@ -59,6 +60,7 @@ impl Validator<'_> {
         ensures plain { ResultsIn (plain_in self.old (local_set (setting_of self.old).operands local)) result
             (open_state self.new) }
         ensures open { self.new.ended ≡ self.old.ended }
+        ensures setting { setting_of self.new ≡ setting_of self.old }
     {
         let Some(ty) = self.locals.get(local) else {
             return Err(Fault::Refused);
@@ -74,6 +76,7 @@ impl Validator<'_> {
         ensures plain { ResultsIn (plain_in self.old (local_tee (setting_of self.old).operands local)) result
             (open_state self.new) }
         ensures open { self.new.ended ≡ self.old.ended }
+        ensures setting { setting_of self.new ≡ setting_of self.old }
     {
         let Some(ty) = self.locals.get(local) else {
             return Err(Fault::Refused);

@@ -17,5 +17,5 @@ returns-clause-well_formed c =
     let v = c.args.self.now in
     let w = c.step_inside.new.self in
     let here : v.ended ≡ false = search rules in
-    well_formed_after (setting_of v) (meaning c.args.op.now) (open_state v) (whole_state_of w) c.step_inside.result c.step_inside.ensures
+    well_formed_after (setting_of v) (meaning c.args.op.now) (open_state v) (whole_state_of w) c.step_inside.result c.step_inside.ensures.step
     (subst (λ (s : BodyState). IsWellFormed s) (sym (state_inside v here)) c.requires)
