@@ -1,12 +1,11 @@
 -- Examples that pin the definitions, by the standard's text (sections 3.4 and 5.4, and the appendix): bodies of a function of two i32 that gives
 -- an i32.
-use Rattle.std.proofs.Common.{◌≡◌, ℕ, zero, suc, ◌+◌, List, [], ◌∷◌, ◌++◌, length, Result, Ok, Err, refl, sym, ap, subst, arith}
+use Rattle.std.proofs.Common.{◌≡◌, ℕ, zero, suc, ◌+◌, List, [], ◌∷◌, ◌++◌, length, Result, Ok, Err, refl, subst, arith}
 use Rattle.wasm_types.specs.declared.val_type.ValType.TheVariants.{I32}
 use Rattle.wasm_numbers.specs.declared.fault.ReadFault.TheVariants.{Truncated}
 use Rattle.wasm_numbers.specs.Numbers.{integer}
 use Rattle.wasm_numbers.specs.Results.{◌>>=◌, with_fault}
 use Rattle.wasm_numbers.proofs.ResultLemmas.{bind_ok, with_fault_ok, ok_same}
-use Rattle.wasm_operators.specs.Operations.{RawOperation}
 use Rattle.wasm_operators.specs.Opcodes.{kinds_of_byte, opcode}
 use Rattle.wasm_operators.specs.Laws.{AreBytes}
 use Rattle.wasm_operators.specs.Spelling.{read_operation}
@@ -15,7 +14,7 @@ use Rattle.wasm_typing.proofs.Examples.Module.{context}
 use Rattle.wasm_context.specs.Validation.{BodyContext, BodyState, raw_step}
 use Rattle.wasm_validation.specs.declared.error.ValidationError.{ValidationError}
 use Rattle.wasm_validation.specs.declared.error.ValidationError.TheVariants.{Read, Invalid, Trailing, MissingEnd}
-use Rattle.wasm_validation.specs.BodyValidation.{BodySetting, begin_state, IsValidCode, taken_next, IsFaultOfRest, IsFirstFaultOfCode}
+use Rattle.wasm_validation.specs.BodyValidation.{BodySetting, begin_state, IsValidCode, IsFaultOfRest, IsFirstFaultOfCode}
 use Rattle.wasm_validation.proofs.Fronts.{TakenFront, nothing_taken, taken_more}
 
 -- ---- so many operators are read and taken

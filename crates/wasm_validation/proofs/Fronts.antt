@@ -1,13 +1,12 @@
 -- Operators that the algorithm takes, and one more.
-use Rattle.std.proofs.Common.{◌≡◌, ℕ, ◌+◌, List, [], ◌∷◌, ◌++◌, length, Result, Ok, Err, refl, sym, ap, subst, ◌∙◌, arith, length-append}
-use Rattle.wasm_numbers.specs.Results.{◌>>=◌, with_fault}
+use Rattle.std.proofs.Common.{◌≡◌, ℕ, ◌+◌, List, [], ◌∷◌, ◌++◌, length, Result, Ok, refl, ap, ◌∙◌, arith, length-append}
+use Rattle.wasm_numbers.specs.Results.{with_fault}
 use Rattle.wasm_numbers.proofs.ResultLemmas.{bind_ok}
 use Rattle.wasm_operators.specs.Operations.{RawOperation}
 use Rattle.wasm_operators.specs.OperatorList.{Placed, Lists}
 use Rattle.wasm_operators.specs.Spelling.{Spells}
 use Rattle.wasm_body.specs.Parsing.Accepted.{validated}
-use Rattle.wasm_body.specs.Validity.{Checked}
-use Rattle.wasm_context.specs.Validation.{BodyContext, BodyState, raw_step, check_in, steps_through, refusal_number}
+use Rattle.wasm_context.specs.Validation.{BodyContext, BodyState, raw_step, check_in, refusal_number}
 use Rattle.wasm_validation.specs.BodyValidation.{BodySetting, begin_state, Leads}
 
 abbrev pub operator_at : RawOperation → ℕ → Placed

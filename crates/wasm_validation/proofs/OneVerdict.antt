@@ -1,7 +1,6 @@
 -- A body has at most one first fault, and a valid one has none: where a front ends that can't go on, every other such front ends.
-use Rattle.std.proofs.Common.{◌≡◌, ℕ, ◌+◌, List, [], ◌∷◌, ◌++◌, length, Result, Ok, Err, refl, sym, ap, subst, ◌∙◌, arith, length-append}
+use Rattle.std.proofs.Common.{◌≡◌, ℕ, ◌+◌, List, [], ◌∷◌, ◌++◌, length, Result, Ok, refl, sym, ap, subst, ◌∙◌, arith, length-append}
 use Rattle.std.proofs.lemmas.List.{append_cancel_left}
-use Rattle.wasm_numbers.specs.Results.{◌>>=◌, with_fault}
 use Rattle.wasm_numbers.proofs.Agreement.{one_spelling}
 use Rattle.wasm_numbers.proofs.ResultLemmas.{bind_ok, with_fault_ok, ok_same}
 use Rattle.wasm_operators.specs.Operations.{RawOperation}
@@ -16,9 +15,8 @@ use Rattle.wasm_body.specs.Validity.{ControlFrame, OperandRules, Stacks, State, 
 use Rattle.wasm_typing.specs.StandardRules.{standard_rules}
 use Rattle.wasm_context.specs.Validation.{BodyContext, BodyState, typing_in, named_step, raw_named, raw_step, check_in, steps_through, refusal_number}
 use Rattle.wasm_validation.specs.declared.error.ValidationError.{ValidationError}
-use Rattle.wasm_validation.specs.declared.error.ValidationError.TheVariants.{Read, Invalid}
 use Rattle.wasm_validation.specs.declared.error.ValidationFailure.{ValidationFailure}
-use Rattle.wasm_validation.specs.BodyValidation.{BodySetting, IsValidCode, taken_next, IsFaultOfRest, IsFirstFaultOfCode}
+use Rattle.wasm_validation.specs.BodyValidation.{taken_next, IsFaultOfRest}
 use Rattle.wasm_validation.specs.ValidationVerdicts.{ValidHasNoFault, OneFaultOfCode}
 
 -- ---- after the function no operator is taken
@@ -35,13 +33,13 @@ nothing_after c o s t none h =
 -- ---- where a front can't go on
 
 -- no operator is read and taken here
-abbrev StopsAt : BodyContext → BodyState → List ℕ → Type 0
-StopsAt c s rest = (o : RawOperation) (text following : List ℕ) (t : BodyState) → rest ≡ text ++ following → Spells o text → raw_step c o s ≡ Ok t → ⊥
+abbrev NoneIsTaken : BodyContext → BodyState → List ℕ → Type 0
+NoneIsTaken c s rest = (o : RawOperation) (text following : List ℕ) (t : BodyState) → rest ≡ text ++ following → Spells o text → raw_step c o s ≡ Ok t → ⊥
 
 takes_here : (c : BodyContext) (s t : BodyState) (o : RawOperation) (rest following : List ℕ) → read_operation rest ≡ Ok (o, following) → raw_step c o s ≡ Ok t → taken_next c s rest ≡ Ok t
 takes_here c s t o rest following read step = rw (read, step) refl
 
-at_fault : (c : BodyContext) (s : BodyState) (fs : List ControlFrame) (rest : List ℕ) (e : ValidationError) → s.controls ≡ fs → IsFaultOfRest c s fs rest e → StopsAt c s rest
+at_fault : (c : BodyContext) (s : BodyState) (fs : List ControlFrame) (rest : List ℕ) (e : ValidationError) → s.controls ≡ fs → IsFaultOfRest c s fs rest e → NoneIsTaken c s rest
 at_fault c s [] [] e same fault = absurd fault
 at_fault c s [] (b ∷ rest) e same fault = λ o text following t parts spells step. nothing_after c o s t same step
 at_fault c s (f ∷ fs) [] e same fault = λ o text following t parts spells step.
@@ -51,7 +49,7 @@ at_fault c s (f ∷ fs) (b ∷ rest) e same fault = λ o text following t parts 
     let ok : taken_next c s (b ∷ rest) ≡ Ok t = takes_here c s t o (b ∷ rest) following read step in
     absurd (let both = sym ok ∙ fault in cc)
 
-at_end : (c : BodyContext) (s : BodyState) → s.controls ≡ [] → StopsAt c s []
+at_end : (c : BodyContext) (s : BodyState) → s.controls ≡ [] → NoneIsTaken c s []
 at_end c s none = λ o text following t parts spells step. nothing_after c o s t none step
 
 -- ---- two fronts
@@ -66,7 +64,7 @@ ok_state : (s t : BodyState) → (let r : Result BodyState ℕ = Ok s in r) ≡ 
 ok_state s t h = ok_same s t h
 
 one_end : (c : BodyContext) (xs ys : List Placed) (s t u : BodyState) (p q : ℕ) (bytes rest others : List ℕ) → Lists xs p bytes rest → Lists ys q bytes others
-    → steps_through c s xs ≡ Ok t → steps_through c s ys ≡ Ok u → StopsAt c t rest → StopsAt c u others → (rest ≡ others) × (t ≡ u)
+    → steps_through c s xs ≡ Ok t → steps_through c s ys ≡ Ok u → NoneIsTaken c t rest → NoneIsTaken c u others → (rest ≡ others) × (t ≡ u)
 one_end c [] [] s t u p q bytes rest others h k i j stops stop = (sym h ∙ k, sym (ok_state s t i) ∙ ok_state s u j)
 one_end c [] (y ∷ ys) s t u p q bytes rest others h k i j stops stop =
     let b = taken_first c s u y ys j in

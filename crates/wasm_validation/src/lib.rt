@@ -2,8 +2,14 @@
 //! appendix, validation algorithm).
 #![tactic(auto)]
 
+mod body_validator;
+mod code;
 mod error;
 mod laws;
+mod scratch;
 
+pub use body_validator::BodyValidator;
+pub use code::validate_code;
 pub use error::{ValidationError, ValidationFailure};
-pub use laws::law_one_verdict;
+pub use laws::{law_one_verdict, law_same_steps};
+pub use scratch::ValidationScratch;
