@@ -31,7 +31,17 @@ fn take_next(validator: &mut Validator<'_>, reader: &mut Reader<'_>) -> Result<(
     ensures well_formed { OnOk result (IsWellFormed (whole_state_of validator.new)) }
     ensures setting { OnOk result (setting_of validator.new ≡ setting_of validator.old) }
 {
-    let read = reader.read();
+    if let Some((common, rest)) = reader.peek_common() {
+        return match validator.step_common(common) {
+            Ok(()) => {
+                reader.pass_common(common, rest);
+                Ok(())
+            }
+            Err(Fault::Refused) => Err(ValidationError::Invalid),
+            Err(Fault::Memory) => Err(ValidationError::Memory),
+        };
+    }
+    let read = reader.read_other();
     let operator = match &read {
         Ok(operator) => operator,
         Err(error) => return Err(ValidationError::Read(error.fault)),

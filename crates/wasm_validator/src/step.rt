@@ -3,6 +3,7 @@ ghost use Rattle.std.specs.Prelude.{◌≡◌, [], OnOk, false};
 ghost use Rattle.wasm_operators.specs.declared.types.Opcode.TheVariants.{Byte};
 ghost use Rattle.wasm_operators.specs.Meaning.{meaning};
 ghost use Rattle.wasm_operators.specs.Operations.{operation};
+ghost use Rattle.wasm_ops.specs.CommonOperators.{common_listed};
 ghost use Rattle.wasm_context.specs.Validation.{raw_step};
 ghost use Rattle.wasm_validator.specs.WellFormed.{IsWellFormed};
 ghost use Rattle.wasm_validator.specs.Steps.{ResultsIn};
@@ -11,6 +12,7 @@ use crate::fault::Fault;
 use crate::frame::Opened;
 use crate::state::Validator;
 use wasm_operators::Operator;
+use wasm_ops::CommonOperator;
 use wasm_types::ValType;
 
 impl Validator<'_> {
@@ -107,6 +109,50 @@ impl Validator<'_> {
             Operator::V128Bitselect => self.bitselect(),
             Operator::Reference(op) => self.step_reference(*op),
         }
+    }
+
+    /// Takes a common operator where the function's frame is open.
+    #[inline(always)]
+    fn step_common_inside(&mut self, op: CommonOperator) -> Result<(), Fault>
+        requires well_formed { IsWellFormed (open_state self.old) }
+        requires reach { ReachesHeight self.old }
+        requires open { self.old.ended ≡ false }
+        ensures step { ResultsIn (raw_step (setting_of self.old) (meaning (common_listed op)) (open_state self.old)) result
+            (whole_state_of self.new) }
+        ensures setting { setting_of self.new ≡ setting_of self.old }
+    {
+        match op {
+            CommonOperator::LocalGet { local } => self.local_get(local),
+            CommonOperator::LocalSet { local } => self.local_set(local),
+            CommonOperator::LocalTee { local } => self.local_tee(local),
+            CommonOperator::I32Const { .. } => self.constant(ValType::I32),
+            CommonOperator::I64Const { .. } => self.constant(ValType::I64),
+            CommonOperator::Unop(op) => self.unary(op),
+            CommonOperator::Binop(op) => self.binary(op),
+            CommonOperator::Load { kind, memarg } => self.load(kind, memarg),
+            CommonOperator::Store { kind, memarg } => self.store(kind, memarg),
+            CommonOperator::Call { func } => self.call(func),
+            CommonOperator::GlobalGet { global } => self.global_get(global),
+            CommonOperator::GlobalSet { global } => self.global_set(global),
+            CommonOperator::Br { label } => self.branch(label),
+            CommonOperator::BrIf { label } => self.branch_if(label),
+            CommonOperator::Drop => self.drop_operand(),
+        }
+    }
+
+    /// Takes a common operator, as `step`. It is the faster one of both.
+    #[inline(always)]
+    pub fn step_common(&mut self, op: CommonOperator) -> Result<(), Fault>
+        requires { IsWellFormed (whole_state_of self.old) }
+        ensures step { ResultsIn (raw_step (setting_of self.old) (meaning (common_listed op))
+            (whole_state_of self.old)) result (whole_state_of self.new) }
+        ensures well_formed { OnOk result (IsWellFormed (whole_state_of self.new)) }
+        ensures setting { setting_of self.new ≡ setting_of self.old }
+    {
+        if self.ended {
+            return Err(Fault::Refused);
+        }
+        self.step_common_inside(op)
     }
 
     /// Takes an operator. After the function none is accepted.

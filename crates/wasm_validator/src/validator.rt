@@ -95,6 +95,7 @@ impl Validator<'_> {
     }
 
     /// "pop_vals". Once nothing is left above the height of an unreachable frame, it ends.
+    #[inline(always)]
     pub(crate) fn pop_all(&mut self, types: &[RawValType]) -> Result<(), Fault>
         ensures pops { ResultsIn (pop_all_in (setting_of self.old) (inner_of self.old) types.now
             (operand_stack self.old)) result (operand_stack self.new) }
@@ -116,6 +117,7 @@ impl Validator<'_> {
     }
 
     /// "push_vals"
+    #[inline(always)]
     pub(crate) fn push_all(&mut self, types: &[RawValType]) -> Result<(), Fault>
         ensures ok { OnOk result (operand_stack self.new
             ≡ push_each_in (setting_of self.old) types.now (operand_stack self.old)) }
@@ -133,6 +135,7 @@ impl Validator<'_> {
     }
 
     /// Pops operands of these types, and pushes some of those.
+    #[inline(always)]
     pub(crate) fn apply(&mut self, takes: &[RawValType], gives: &[RawValType]) -> Result<(), Fault>
         ensures typed { ResultsIn (typed_in (setting_of self.old) (inner_of self.old) takes.now gives.now
             (operand_stack self.old)) result (operand_stack self.new) }
