@@ -1,4 +1,4 @@
-/* wrewrite.h: rewrites, snips and checks WebAssembly modules, as the programs wrewrite and wsnip do.
+/* wrewrite.h: rewrites, snips, checks and validates WebAssembly modules, as the programs wrewrite and wsnip do.
  *
  *     #include "wrewrite.h"
  *
@@ -45,7 +45,7 @@ extern "C" {
 /* How a call ended. */
 enum {
     /* All is done: `out` begins with a module of `module_size` bytes, and `map` with `map_size` bytes of text. Of wrewrite_check:
-     * no function is refused. Of wrewrite_find: `function` is the index. */
+     * no function is refused. Of wrewrite_validate: the module is valid. Of wrewrite_find: `function` is the index. */
     WREWRITE_DONE = 0,
     /* The module is refused. `place`, `function` and `text` say where and why. */
     WREWRITE_REFUSED = 1,
@@ -125,6 +125,7 @@ struct wrewrite_outcome wrewrite_raw_snip(const uint8_t *source, size_t source_s
                                           const uint32_t *options, size_t option_count, uint8_t *out, size_t out_size, uint8_t *map,
                                           size_t map_size);
 struct wrewrite_outcome wrewrite_raw_check(const uint8_t *source, size_t source_size, size_t first);
+struct wrewrite_outcome wrewrite_raw_validate(const uint8_t *source, size_t source_size);
 struct wrewrite_outcome wrewrite_raw_find(const uint8_t *source, size_t source_size, const uint8_t *name, size_t name_size);
 
 /* Rewrites each function of a module: in the shortest encodings, without `nop`, without code that can't be reached after a branch,
@@ -153,10 +154,17 @@ static inline struct wrewrite_outcome wrewrite_snip(const uint8_t *source, size_
 }
 
 /* Looks for the first function that is refused, among those with the index `first` and the following ones, and writes nothing. So the
- * next one is found from `function + 1` on. A module that isn't read has no function in its outcome. Types are not validated. */
+ * next one is found from `function + 1` on. A module that isn't read has no function in its outcome. Types are checked by
+ * wrewrite_validate alone. */
 static inline struct wrewrite_outcome wrewrite_check(const uint8_t *source, size_t source_size, size_t first) {
     uint8_t nothing[1] = {0};
     return wrewrite_raw_check(source ? source : nothing, source_size, first);
+}
+
+/* Validates a module, as the standard says, and writes nothing. The outcome has the first fault. */
+static inline struct wrewrite_outcome wrewrite_validate(const uint8_t *source, size_t source_size) {
+    uint8_t nothing[1] = {0};
+    return wrewrite_raw_validate(source ? source : nothing, source_size);
 }
 
 /* Looks for the function with this name, a string: one that the `name` section names so, else one that is exported so. */

@@ -265,6 +265,20 @@ static bool is_fault(struct wrewrite_outcome end, size_t place, size_t function,
            end.module_size == 0 && end.map_size == 0 && end.warnings == 0;
 }
 
+/* A function that adds 1 to nothing. */
+static const char INVALID[] = "\0asm\1\0\0\0\1\4\1\140\0\0\3\2\1\0\12\10\1\6\0\101\1\152\32\13";
+
+static void check_validity(struct bytes good) {
+    static const char text[] = "the operator is not valid here (InvalidOperator)";
+    struct bytes source = copy(INVALID, sizeof INVALID - 1), refused = copy(REFUSED, sizeof REFUSED - 1);
+    check(wrewrite_validate(good.at, good.size).status == WREWRITE_DONE, "a module that is valid");
+    check(is_fault(wrewrite_validate(source.at, source.size), 0x19, 0, text), "an operator that is not valid");
+    check(wrewrite_check(source.at, source.size, 0).status == WREWRITE_DONE, "its types are not checked without being validated");
+    check(is_fault(wrewrite_validate(refused.at, refused.size), 0x22, 1, text), "a branch that goes too far is not valid");
+    check(is_fault(wrewrite_validate(NULL, 0), 0, WREWRITE_NO_INDEX, "the bytes end too early (Truncated)"), "no bytes are no module");
+    free(source.at), free(refused.at);
+}
+
 static void check_faults(struct bytes good) {
     static const char label[] = "a label is not open (NoSuchLabel)";
     static const char local[] = "an index is out of bounds for the function's locals (LocalOutOfRange)";
@@ -313,6 +327,7 @@ int main(int count, char **words) {
     check_object_file();
     check_warnings();
     check_faults(source);
+    check_validity(source);
     check(memcmp(source.at, before.at, source.size) == 0, "the source stays as it is");
     free(source.at), free(rewritten.at), free(map.at), free(stripped.at), free(bare.at), free(snipped.at), free(none.at), free(before.at);
     printf("%d passed, %d failed\n", passed, failed);

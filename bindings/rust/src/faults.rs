@@ -12,7 +12,7 @@ pub struct Faults<'a> {
     first: Option<usize>,
 }
 
-/// The functions of a module that are refused. Types are not validated.
+/// The functions of a module that are refused. Types are checked by [`validate`] alone.
 ///
 /// ```
 /// // two functions, of which the second branches too far
@@ -22,6 +22,27 @@ pub struct Faults<'a> {
 /// ```
 pub fn check(source: &[u8]) -> Faults<'_> {
     Faults { source, first: Some(0) }
+}
+
+/// Validates a module, as the standard says.
+///
+/// ```
+/// // a function that adds 1 to nothing
+/// let module = b"\0asm\x01\0\0\0\x01\x04\x01\x60\0\0\x03\x02\x01\0\x0a\x08\x01\x06\0\x41\x01\x6a\x1a\x0b";
+/// let fault = wrewrite::validate(module).unwrap_err();
+/// assert_eq!(fault.to_string(), "0x19: function 0: the operator is not valid here (InvalidOperator)");
+/// ```
+///
+/// # Errors
+///
+/// The first fault of the module; or that memory ran out.
+pub fn validate(source: &[u8]) -> Result<(), Error> {
+    // SAFETY: the pointer comes with the length of its slice, isn't null, and is borrowed for the call.
+    let outcome = unsafe { raw::wrewrite_raw_validate(source.as_ptr(), source.len()) };
+    match outcome.status {
+        raw::DONE => Ok(()),
+        _ => Err(outcome.into_error()),
+    }
 }
 
 impl Iterator for Faults<'_> {

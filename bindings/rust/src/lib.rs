@@ -1,4 +1,4 @@
-//! Rewrites, snips and checks WebAssembly modules, by the static library `wrewrite_c`, whose functions are proved to meet their
+//! Rewrites, snips, checks and validates WebAssembly modules, by the static library `wrewrite_c`, whose functions are proved to meet their
 //! contracts. This crate only lends it bytes: that its declarations fit those of the library is not proved.
 //!
 //! ```
@@ -16,7 +16,7 @@ mod snip;
 use raw::Outcome;
 use std::fmt;
 
-pub use faults::{check, Faults};
+pub use faults::{check, validate, Faults};
 pub use snip::{find, Snip};
 
 /// What is wanted. Each option is off by default.

@@ -56,6 +56,8 @@ unsafe extern "C" {
 
     pub fn wrewrite_raw_check(source: *const u8, source_size: usize, first: usize) -> Outcome;
 
+    pub fn wrewrite_raw_validate(source: *const u8, source_size: usize) -> Outcome;
+
     pub fn wrewrite_raw_find(source: *const u8, source_size: usize, name: *const u8, name_size: usize) -> Outcome;
 }
 

@@ -2,7 +2,7 @@
 //! `rewritten`, `map` and `snipped`; without it only the modules of this file are tried.
 
 use std::path::PathBuf;
-use wrewrite::{check, find, rewrite, version, Error, ErrorKind, Options, Snip};
+use wrewrite::{check, find, rewrite, validate, version, Error, ErrorKind, Options, Snip};
 
 const SAMPLE: &[u8] = include_bytes!("../../../crates/wtools/data/sample.wasm");
 
@@ -134,6 +134,14 @@ fn finds_each_fault() {
     assert!(faults.next().is_none() && faults.next().is_none());
     assert_eq!(check(SAMPLE).count(), 0);
     assert_eq!(check(b"").map(|fault| fault.text).collect::<Vec<_>>(), ["the bytes end too early (Truncated)"]);
+}
+
+#[test]
+fn validates_modules() {
+    assert_eq!(validate(SAMPLE), Ok(()));
+    let error = validate(REFUSED).unwrap_err();
+    let text = "the operator is not valid here (InvalidOperator)";
+    assert_eq!(parts(&error), (ErrorKind::Refused, Some(0x22), Some(1), text));
 }
 
 #[test]

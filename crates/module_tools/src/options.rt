@@ -15,6 +15,7 @@ pub(crate) enum Page {
 #[derive(Clone, Copy)]
 pub(crate) enum Switch {
     Check,
+    Validate,
     List,
     RustPanickingCode,
     RustFmtCode,
@@ -85,7 +86,7 @@ struct Row {
 }
 
 /// How many options there are.
-const COUNT: usize = 23;
+const COUNT: usize = 24;
 
 /// The options, in the order of the page of help.
 const ROWS: [Row; COUNT] = [
@@ -96,7 +97,16 @@ const ROWS: [Row; COUNT] = [
         takers: Takers::Checking,
         help: "
       --check          write nothing, and print a line for each function that is
-                       refused; types are not validated",
+                       refused; types are checked with --validate alone",
+    },
+    Row {
+        letter: None,
+        name: "--validate",
+        choice: Choice::Switch(Switch::Validate),
+        takers: Takers::All,
+        help: "
+      --validate       refuse a module that is not valid, before anything else
+                       is done with it",
     },
     Row {
         letter: None,

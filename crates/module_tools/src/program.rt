@@ -122,6 +122,8 @@ pub struct Task<'w> {
     pub export: Option<&'w str>,
     /// The custom sections that are left out.
     pub sections: Vec<SectionChoice<'w>>,
+    /// Whether a module that isn't valid is refused.
+    pub validates: bool,
     /// Whether the functions are listed, and no module is written.
     pub lists: bool,
     /// Whether a file that is write-protected is replaced.
@@ -182,6 +184,8 @@ struct Options<'w> {
     is_verbose: bool,
     is_quiet: bool,
     is_forced: bool,
+    /// Whether a module that isn't valid is refused.
+    validates: bool,
     /// Whether no module is written, since its bodies are only checked or listed.
     reads_alone: bool,
     /// Whether they are listed then.
@@ -202,6 +206,7 @@ impl<'w> Options<'w> {
             is_verbose: false,
             is_quiet: false,
             is_forced: false,
+            validates: false,
             reads_alone: false,
             lists: false,
             output: None,
@@ -292,6 +297,7 @@ impl<'w> Words<'w> {
                 self.options.reads_alone = true;
                 self.options.lists = true;
             }
+            Switch::Validate => self.options.validates = true,
             Switch::Force => self.options.is_forced = true,
             Switch::Quiet => self.options.is_quiet = true,
             Switch::Verbose => self.options.is_verbose = true,
@@ -581,6 +587,7 @@ impl<'w> Words<'w> {
             map,
             source_map_url,
             export,
+            validates,
             is_forced,
             is_quiet,
             is_verbose,
@@ -599,6 +606,7 @@ impl<'w> Words<'w> {
             functions: self.functions,
             export,
             sections: self.sections,
+            validates,
             lists,
             is_forced,
             is_quiet,

@@ -1,7 +1,8 @@
 //! Running a program over its words.
 
-ghost use Rattle.std.specs.Prelude.{◌≤◌, IfOk};
+ghost use Rattle.std.specs.Prelude.{◌≡◌, ◌≤◌, true, Ok, IfOk, OnOk};
 ghost use Rattle.std.specs.Process.{exit_status};
+ghost use Rattle.module_validator.specs.ModuleRules.{module_validity};
 
 use crate::checking::{check_bodies, refused};
 use crate::choosing::{check_input, functions_of};
@@ -20,6 +21,7 @@ use crate::usage_error::UsageError;
 use crate::version::{BUILD, VERSION};
 use crate::warnings::warn;
 use crate::writing::write_module;
+use module_validator::validate;
 use source_map::SourceMap;
 use std::alloc::Global;
 use std::io;
@@ -320,6 +322,24 @@ where
     }
 }
 
+/// Refuses a module that was read from these bytes and isn't valid, where that is asked for.
+fn check_validity<'w>(
+    alloc: Global,
+    task: &Task<'w>,
+    bytes: &[u8],
+    parsed: &ParsedModule<'_>,
+) -> Result<(), ProgramFailure<'w>>
+    ensures { OnOk result (task.now.validates ≡ true → module_validity bytes.now ≡ Ok tt) }
+{
+    if !task.validates {
+        return Ok(());
+    }
+    match validate(alloc, bytes) {
+        Ok(()) => Ok(()),
+        Err(error) => Err(refused(alloc, parsed, task.input, &error)),
+    }
+}
+
 /// Does what is asked for with a module of these bytes.
 fn run_over<'w, 'a, R, T: Tool>(
     rt: &'w R,
@@ -336,6 +356,10 @@ where
         Ok(parsed) => parsed,
         Err(error) => return Err(ProgramFailure::not_read(rt.alloc(), task.input, bytes, &error)),
     };
+    match check_validity(rt.alloc(), task, bytes, &parsed) {
+        Ok(()) => {}
+        Err(failure) => return Err(failure),
+    }
     let functions = parsed.body_count();
     progress.begin(functions);
     let run = ModuleRun {

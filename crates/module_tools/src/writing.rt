@@ -1,4 +1,8 @@
 //! Writing the module that a program makes, its location map, and its source map.
+ghost use Rattle.std.specs.Prelude.{◌≡◌, ◌++◌, [], ℕ, List, OnOk, MatchOption};
+ghost use Rattle.std.specs.Io.KnownBytes.{Appends, Keeps};
+ghost use Rattle.wasm_sections.specs.Sections.{section as whole_section};
+ghost use Rattle.wasm_module.specs.WrittenModules.{IsWrittenModule, url_contents};
 
 use crate::ending::{Attempt, ProgramFailure};
 use crate::files::Target;
@@ -13,7 +17,9 @@ use wasm_module::{
 };
 
 /// Writes what a buffer still holds.
-fn flush<W: Write>(out: &mut W) -> Result<(), WriteError> {
+fn flush<W: Write>(out: &mut W) -> Result<(), WriteError>
+    ensures { Keeps (W.contents out.old) (W.contents out.new) }
+{
     match out.flush() {
         Ok(()) => Ok(()),
         Err(error) => Err(WriteError::Io(error)),
@@ -21,7 +27,11 @@ fn flush<W: Write>(out: &mut W) -> Result<(), WriteError> {
 }
 
 /// Writes the section that says where the source map is, if that is given.
-fn write_url<W: Write>(alloc: Global, url: Option<&str>, out: &mut W) -> Result<(), WriteError> {
+fn write_url<W: Write>(alloc: Global, url: Option<&str>, out: &mut W) -> Result<(), WriteError>
+    ensures { OnOk result ((section : List ℕ)
+        × MatchOption url.entry (section ≡ []) (λ u. section ≡ whole_section 0 (url_contents u.now))
+        × Appends (W.contents out.old) (W.contents out.new) section) }
+{
     match url {
         Some(url) => write_source_map_url(alloc, url, out),
         None => Ok(()),
@@ -69,7 +79,15 @@ where
         parsed: &mut ParsedModule<'_>,
         sink: &mut T,
         out: &mut W,
-    ) -> Result<(), WriteError> {
+    ) -> Result<(), WriteError>
+        // A module that is written as the library says, and the section that was asked for.
+        ensures { OnOk result ((made section : List ℕ)
+            × IsWrittenModule (B.writes self.now.module.now.bodies) parsed.old
+            self.now.module.now.changes self.now.module.now.omitted made
+            × MatchOption self.now.task.now.source_map_url (section ≡ [])
+            (λ u. section ≡ whole_section 0 (url_contents u.now))
+            × Appends (W.contents out.old) (W.contents out.new) (made ++ section)) }
+    {
         match parsed.write_module_with_sink(self.module, sink, out) {
             Ok(()) => {}
             Err(error) => return Err(error),

@@ -1,5 +1,5 @@
 -- How calls end.
-use Rattle.std.specs.Prelude.{◌≡◌, ◌≢◌, ◌⊎◌, ◌<◌, ◌≤◌, ◌+◌, ◌-◌, ◌^◌, ℕ, List, [], ◌∷◌, ◌++◌, length, drop, Bool, true, false, Option, None, MatchOption}
+use Rattle.std.specs.Prelude.{◌≡◌, ◌≢◌, ◌⊎◌, ◌<◌, ◌≤◌, ◌+◌, ◌-◌, ◌^◌, ℕ, List, [], ◌∷◌, ◌++◌, length, drop, Bool, true, false, Option, None, Ok, Err, MatchOption}
 use Rattle.wasm_sections.specs.declared.fault.ModuleError.{ModuleError}
 use Rattle.wasm_sections.specs.declared.fault.ModuleFault.{ModuleFault}
 use Rattle.wasm_sections.specs.declared.fault.ModuleFault.TheVariants.{Memory, TooGreat}
@@ -10,6 +10,7 @@ use Rattle.wasm_module.specs.ModuleCode.{AreBodiesOf}
 use Rattle.wasm_module.specs.ReadFrom.{IsModuleOf, IsOfReading}
 use Rattle.wasm_module.specs.ReadModules.{components_of}
 use Rattle.wasm_module.specs.Refusals.{IsRefusedBody}
+use Rattle.module_validator.specs.ModuleRules.{module_validity}
 use Rattle.wrewrite_c.specs.declared.options.Options.{Options}
 use Rattle.wrewrite_c.specs.declared.outcome.Outcome.{Outcome}
 use Rattle.wrewrite_c.specs.declared.outcome.Named.{Named}
@@ -152,6 +153,21 @@ IsAcceptedFrom source first = (parsed : ParsedModule) × IsModuleOf source parse
 pub data IsChecked (source : List ℕ) (first : ℕ) (o : Outcome) : Type 0 where
   accepted : o.status ≡ 0 → IsAcceptedFrom source first → HasSizes 0 0 o → IsChecked source first o
   refused : (stop : Stop) → IsOfCheck source first stop → IsStopped stop o → HasSizes 0 0 o → IsChecked source first o
+
+-- The bytes spell a module, and it is valid.
+abbrev pub IsValidModule : (source : List ℕ) → Type 0
+IsValidModule source = (parsed : ParsedModule) × IsModuleOf source parsed × (module_validity source ≡ Ok tt)
+
+-- The module isn't read; or this is the first fault for which it isn't valid; or memory ran out.
+abbrev pub IsOfValidation : (source : List ℕ) → Stop → Type 0
+IsOfValidation source (Refused r) =
+    IsNotRead source (Refused r) ⊎ (r.error.fault ≡ Memory) ⊎ ((parsed : ParsedModule) × IsModuleOf source parsed × (module_validity source ≡ Err r.error))
+IsOfValidation source (NoFunction index) = ⊥
+
+-- A module is valid, or this.
+pub data HasVerdict (source : List ℕ) (o : Outcome) : Type 0 where
+  valid : o.status ≡ 0 → IsValidModule source → HasSizes 0 0 o → HasVerdict source o
+  invalid : (stop : Stop) → IsOfValidation source stop → IsStopped stop o → HasSizes 0 0 o → HasVerdict source o
 
 -- A search by name finds a function with a body, or none, or several; or the module isn't read.
 pub data IsFound (source : List ℕ) (o : Outcome) : Type 0 where

@@ -1,4 +1,4 @@
-//! The static library `wrewrite_c`: modules are rewritten, snipped and checked, from C and from each
+//! The static library `wrewrite_c`: modules are rewritten, snipped, checked and validated, from C and from each
 //! language that can call C. `include/wrewrite.h` declares the functions. A call works on bytes that
 //! its caller lends, puts what it makes into bytes that its caller lends, and keeps nothing.
 #![tactic(auto)]
@@ -6,7 +6,7 @@
 ghost use Rattle.std.specs.Prelude.{◌≡◌};
 ghost use Rattle.wasm_module.specs.RewrittenCode.{IsRewrittenWith};
 ghost use Rattle.wrewrite_c.specs.Made.{IsMadeOf, IsSnippedOf};
-ghost use Rattle.wrewrite_c.specs.Outcomes.{Asks, Ends, IsOfModule, LacksFunction, IsChecked, IsFound};
+ghost use Rattle.wrewrite_c.specs.Outcomes.{Asks, Ends, IsOfModule, LacksFunction, IsChecked, HasVerdict, IsFound};
 
 mod checking;
 mod finding;
@@ -16,6 +16,7 @@ mod options;
 mod outcome;
 mod reading;
 mod stripping;
+mod validating;
 mod warnings;
 
 use made::Made;
@@ -114,6 +115,17 @@ pub extern "C" fn wrewrite_raw_check(alloc: Global, source: &[u8], first: usize)
     ensures { IsChecked source.now first result }
 {
     match checking::check(alloc, source, first) {
+        Ok(()) => Outcome::of_sizes(outcome::DONE, 0, 0),
+        Err(stop) => Outcome::of_stop(stop),
+    }
+}
+
+/// Validates a module, as `wrewrite --validate` does. Nothing is written.
+#[unsafe(no_mangle)]
+pub extern "C" fn wrewrite_raw_validate(alloc: Global, source: &[u8]) -> Outcome
+    ensures { HasVerdict source.now result }
+{
+    match validating::validate(alloc, source) {
         Ok(()) => Outcome::of_sizes(outcome::DONE, 0, 0),
         Err(stop) => Outcome::of_stop(stop),
     }

@@ -3,6 +3,7 @@
 ghost use Rattle.std.specs.Prelude.{◌≡◌, MatchOption};
 ghost use Rattle.wrewrite_c.specs.Outcomes.{no_index, HasSizes, IsStatusOf, IsPlaceOf, IsOfNamed, IsStopped, IsOfRefused};
 
+use module_validator::validity_words;
 use std::fmt;
 use std::io::Write;
 use wasm_module::{ModuleError, ModuleFault};
@@ -101,6 +102,9 @@ struct FaultText(ModuleFault);
 
 impl fmt::Display for FaultText {
     fn fmt<W: fmt::Write>(&self, f: &mut fmt::Formatter<W>) -> fmt::Result {
+        if let Some((text, name)) = validity_words(self.0) {
+            return write!(f, "{text} ({name})");
+        }
         let (fault, name) = (self.0, self.0.name());
         write!(f, "{fault} ({name})")
     }

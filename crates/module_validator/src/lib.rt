@@ -1,0 +1,25 @@
+//! Whole modules of WebAssembly are validated, from their bytes (WebAssembly core specification 3.0, validation,
+//! modules): the types of what a module declares, constant expressions, segments, exports, the start function, and
+//! the bodies of functions. The result is success, or the first fault and its place.
+#![tactic(auto)]
+
+mod bodies;
+mod code;
+mod constant;
+mod exports;
+mod faults;
+mod globals;
+mod laws;
+mod limits;
+mod locals;
+mod scratch;
+mod sections;
+mod segments;
+mod start;
+mod tables;
+mod types;
+mod validation;
+
+pub use laws::law_code_validity;
+pub use module_context::validity_words;
+pub use validation::validate;

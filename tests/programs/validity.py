@@ -1,0 +1,98 @@
+"""Modules that are valid and that aren't, by the standard's rules: with `--validate` the first fault is named, and nothing is written."""
+from modules import BAD_LABEL, GOOD, GOOD_WRITTEN, PREAMBLE, REFUSED, module, section, sized, vector
+from runs import PROGRAMS, case, same
+
+# Types: of functions from nothing to nothing, from an i32 to nothing, and from nothing to an i32; a struct that is open, with a subtype.
+OPEN = b"\x50\0\x5f\0"
+ALL_TYPES = section(1, vector([b"\x60\0\0", b"\x60\1\x7f\0", b"\x60\0\1\x7f", OPEN, b"\x50\1\3\x5f\1\x7f\0"]))
+FUNCTION = section(3, vector([b"\0"]))
+FUNCREF, NO_NULL = b"\x70", b"\x64\x70"
+BODY = "the operator is not valid here (InvalidOperator)"
+TYPE = "a type is not valid (InvalidType)"
+LIMITS = "the limits are not valid (InvalidLimits)"
+CONSTANT = "this operator is not allowed in a constant expression (BadConstant)"
+
+
+def code(*operators):
+    return section(10, vector([sized(b"\0" + b"".join(operators) + b"\x0b")]))
+
+
+def at(sections, *more):
+    """The place after these sections, and these bytes."""
+    return len(PREAMBLE + b"".join(sections) + b"".join(more))
+
+
+# A name, the sections, the place of the fault, and what is said of it.
+ROWS = [
+    ("a type that names one after its group", [section(1, vector([b"\x60\1\x64\1\0", b"\x60\0\0"]))], 11, TYPE),
+    ("a supertype that is final", [section(1, vector([b"\x5f\0", b"\x50\1\0\x5f\0"]))], 10, TYPE),
+    ("a supertype that isn't matched", [section(1, vector([b"\x50\0\x5f\1\x7f\0", b"\x50\1\0\x5f\0"]))], 10, TYPE),
+    ("a memory whose minimum is greater than its maximum", [section(5, vector([b"\1\2\1"]))], 11, LIMITS),
+    ("a memory with more pages than an address reaches", [section(5, vector([b"\0\x81\x80\4"]))], 11, LIMITS),
+    ("a shared table", [section(4, vector([FUNCREF + b"\3\0\1"]))], 11, LIMITS),
+    ("a table of references that aren't null", [section(4, vector([NO_NULL + b"\0\1"]))], 11, "a table whose elements have no default value has no initial value (NoInitialValue)"),
+    ("a tag with results", [ALL_TYPES, section(13, vector([b"\0\2"]))], at([ALL_TYPES], b"\x0d\3\1"), "the type of a tag has results (TagResults)"),
+    ("an imported tag with results", [ALL_TYPES, section(2, vector([b"\1m\1t\4\0\2"]))], at([ALL_TYPES], b"\2\x08\1"), "the type of a tag has results (TagResults)"),
+    ("a start function with a parameter", [ALL_TYPES, section(3, vector([b"\1"])), section(8, b"\0"), code()], at([ALL_TYPES], b"\3\2\1\1", b"\x08\1"), "the start function has parameters or results (StartType)"),
+    ("a name that is exported twice", [section(5, vector([b"\0\0"])), section(7, vector([b"\1a\2\0", b"\1a\2\0"]))], 20, 'export "a": an export has this name already (ExportTaken)'),
+    ("a global that isn't of its type", [section(6, vector([b"\x7f\0\x42\0\x0b"]))], 15, BODY),
+    ("a global that gets one that comes later", [section(6, vector([b"\x7f\0\x23\1\x0b", b"\x7f\0\x41\0\x0b"]))], 13, CONSTANT),
+    ("a global that gets one that can be changed", [section(6, vector([b"\x7f\1\x41\0\x0b", b"\x7f\0\x23\0\x0b"]))], 18, CONSTANT),
+    ("an expression that isn't constant", [section(6, vector([b"\x7f\0\x41\0\x45\x0b"]))], 15, CONSTANT),
+    ("an active segment without a table", [section(9, vector([b"\0\x41\0\x0b\0"]))], 12, "index `0` is out of bounds for tables (IndexOutOfRange)"),
+    ("elements of another kind than the table", [section(4, vector([b"\x6f\0\1"])), section(9, vector([b"\0\x41\0\x0b\0"]))], 21, "the elements of a segment do not match those of the table (SegmentType)"),
+    ("an element that is no function", [section(9, vector([b"\1\0\1\5"]))], 14, "index `5` is out of bounds for funcs (IndexOutOfRange)"),
+    ("an active data segment without a memory", [section(11, vector([b"\0\x41\0\x0b\0"]))], 12, "index `0` is out of bounds for memories (IndexOutOfRange)"),
+    ("an offset of the wrong type", [section(5, vector([b"\4\1"])), section(11, vector([b"\0\x41\0\x0b\0"]))], 19, BODY),
+    ("a local of a type that isn't there", [ALL_TYPES, FUNCTION, section(10, vector([sized(b"\1\1\x64\x09\x0b")]))], at([ALL_TYPES, FUNCTION], b"\x0a\7\1\5\1\1"), 'function 0: ' + TYPE),
+    ("a sum of a number and nothing", [ALL_TYPES, FUNCTION, code(b"\x41\1\x6a\x1a")], at([ALL_TYPES, FUNCTION], b"\x0a\7\1\6\0\x41\1"), "function 0: " + BODY),
+    ("a value that is left", [ALL_TYPES, FUNCTION, code(b"\x41\1")], at([ALL_TYPES, FUNCTION], b"\x0a\6\1\4\0\x41\1"), "function 0: " + BODY),
+    ("a function that isn't declared", [ALL_TYPES, FUNCTION, code(b"\xd2\0\x1a")], at([ALL_TYPES, FUNCTION], b"\x0a\7\1\5\0"), "function 0: " + BODY),
+    ("a segment that is used without a data count", [ALL_TYPES, FUNCTION, code(b"\xfc\x09\0"), section(11, vector([b"\1\0"]))], at([ALL_TYPES, FUNCTION], b"\x0a\7\1\5\0"), "function 0: " + BODY),
+]
+
+
+@case("--validate names the first fault of a module that isn't valid, and nothing is written")
+def _(room):
+    for name, sections, place, said in ROWS:
+        room.put("in", PREAMBLE + b"".join(sections))
+        room.refuses("wrewrite", "--validate", "in", "out", says=f"in: 0x{place:x}: {said}")
+        room.refuses("wrewrite", "--check", "--validate", "in", says=f"in: 0x{place:x}: {said}")
+        same(["in"], room.files())
+
+
+@case("without --validate these modules are accepted, unless a body names what isn't there")
+def _(room):
+    for name, sections, place, said in ROWS:
+        room.put("in", PREAMBLE + b"".join(sections))
+        status, out, err = room.run("wrewrite", "--check", "in")
+        same((1 if "a type that isn't there" in name or "a data count" in name else 0, ""), (status, err), of=name)
+
+
+@case("--validate of a module that is valid changes nothing")
+def _(room):
+    room.put("in", GOOD)
+    room.works("wrewrite", "--validate", "in", "out")
+    same(GOOD_WRITTEN, room.get("out"))
+    same(b"", room.works("wrewrite", "--check", "--validate", "in"))
+    room.works("wcount", "--validate", "in", "counted")
+    room.works("wrewrite", "--check", "--validate", "counted")
+
+
+@case("all programs take --validate")
+def _(room):
+    room.put("in", module([b"\x6a"]))
+    for program in PROGRAMS:
+        more = ["0"] if program == "wsnip" else []
+        room.refuses(program, "--validate", "in", "out", *more, says=f"in: 0x17: function 0: {BODY}")
+    same(["in"], room.files())
+
+
+@case("a branch that goes too far is no valid operator, and what isn't read is refused before")
+def _(room):
+    room.put("in", REFUSED)
+    room.refuses("wrewrite", "--validate", "in", "out", says=f'in: 0x1d: function 1 "main": {BODY}')
+    room.put("in", PREAMBLE + b"\x0e\0")
+    room.refuses("wrewrite", "--validate", "in", "out", says="in: 0x8: no section has this id (UnknownSection)")
+    room.put("in", module([BAD_LABEL]))
+    room.refuses("wrewrite", "--check", "--validate", "in", says=f"in: 0x17: function 0: {BODY}")
