@@ -29,7 +29,13 @@ fn bytes_of(alloc: Global, module: &str) -> Result<Vec<u8>, Fail> {
     }
 }
 
-/// Whether a module is valid, or else its first fault.
+/// Whether a module is valid.
+fn is_valid(alloc: Global, module: &str) -> Result<bool, Fail> {
+    let bytes = bytes_of(alloc, module)?;
+    Ok(validate(alloc, &bytes).is_ok())
+}
+
+/// The first fault of a module, if it isn't valid.
 fn verdict(alloc: Global, module: &str) -> Result<Option<ModuleError>, Fail> {
     let bytes = bytes_of(alloc, module)?;
     match validate(alloc, &bytes) {
@@ -51,8 +57,8 @@ const EVERY_SECTION: &str =
 /// A module with a section of each kind is valid.
 #[test]
 fn accepts_every_section(rt: HostRuntime) -> Result<(), Fail> {
-    let error = verdict(rt.alloc(), EVERY_SECTION)?;
-    assert_eq!(rt; error, None);
+    let is_valid = is_valid(rt.alloc(), EVERY_SECTION)?;
+    assert!(rt; is_valid);
     Ok(())
 }
 

@@ -1,0 +1,2 @@
+-- modules by hand, and their validity
+pub mod Examples
