@@ -19,7 +19,7 @@ def _(room):
         holds(f"usage: {program} ", out)
         for word in ("--map FILE", "--source-map FILE", "--output-source-map FILE", "--source-map-url URL", "--strip-debug", "-v, --verbose", "-h, --help", "-V, --version", "example: "):
             holds(word, out)
-    holds("types are not validated", room.works("wrewrite", "--help").decode())
+    holds("types are checked with --validate alone", room.works("wrewrite", "--help").decode())
 
 
 @case("--version and -V, also after a path")
