@@ -7,8 +7,6 @@ mod code;
 mod error;
 mod laws;
 mod scratch;
-#[cfg(test)]
-mod tests;
 
 pub use body_validator::BodyValidator;
 pub use code::validate_code;

@@ -1,10 +1,6 @@
 //! Bodies that are valid, and others with the place of their first fault, by the standard's text (core specification
 //! 3.0, validation of instructions, and binary format of expressions).
 
-use crate::{
-    BodyValidator, ValidationFailure, ValidationScratch, law_one_verdict, law_same_steps,
-    validate_code,
-};
 use std::alloc::{AllocError, Global};
 use std::process::Abort;
 use std::test::Fail;
@@ -13,6 +9,10 @@ use wasm_context::{CompositeType, Context, DefinedType, TypeList};
 use wasm_locals::DeclaredLocals;
 use wasm_operators::{Operator, RawValType};
 use wasm_types::{BinaryOp, ValType};
+use wasm_validation::{
+    BodyValidator, ValidationFailure, ValidationScratch, law_one_verdict, law_same_steps,
+    validate_code,
+};
 
 // The types of the parameters.
 const PARAMS: [RawValType; 2] = [ValType::I32, ValType::I32];
