@@ -1,0 +1,15 @@
+-- appending one number after another
+pub mod Appending
+-- what is written is read
+pub mod Fixed
+pub mod Padded
+-- the patches of a section
+pub mod PatchLemmas
+pub mod ChangeLaws
+-- what a reader takes
+pub mod Local
+pub mod Shorter
+-- what is read of bytes in front of others
+pub mod Framing
+
+-- what a reader takes

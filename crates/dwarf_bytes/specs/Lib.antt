@@ -1,0 +1,13 @@
+-- faults of DWARF, of those of numbers
+pub mod Faults
+-- how numbers are read
+pub mod Numbers
+-- how they are written
+pub mod Writing
+-- parts of a section that are replaced
+pub mod Changes
+pub mod Patches
+pub mod Order
+-- addresses by index
+pub mod Addresses
+pub mod Uses

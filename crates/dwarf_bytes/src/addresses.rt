@@ -1,0 +1,235 @@
+//! The addresses that units name by index (DWARF 5, sections 7.27 and 2.17).
+
+ghost use Rattle.std.specs.Prelude.{◌≡◌, OnErr};
+
+use crate::fault::{DebugError, DebugFault};
+use crate::merging::MergedPatches;
+use crate::number::read_sized;
+use crate::patches::Patches;
+use crate::size::{Format, Size};
+use crate::writing::write_sized;
+use std::alloc::Global;
+
+/// The addresses of a unit: a part of `.debug_addr`.
+#[derive(Clone, Copy)]
+pub struct AddressTable<'a> {
+    /// The section.
+    pub section: &'a [u8],
+    /// The offset of the unit's first address (DW_AT_addr_base).
+    pub base: u64,
+    /// The size of an address.
+    pub size: Size,
+}
+
+/// An address of `.debug_addr`.
+#[derive(Clone, Copy, Debug, PartialEq, Eq)]
+pub struct Address {
+    /// Its offset into the section.
+    pub at: usize,
+    /// Its value.
+    pub value: u64,
+    /// Its size.
+    pub size: Size,
+}
+
+impl AddressTable<'_> {
+    ghost use Rattle.std.specs.Prelude.{◌≡◌, Some, IfOk, IfSome};
+    ghost use Rattle.dwarf_bytes.specs.Addresses.{place_of_address as place_of, address_at};
+
+    // where the address of this index is
+    fn place(&self, index: u64) -> Option<usize>
+        ensures { IfSome result (λ at. at ≡ place_of self.now index) }
+    {
+        let size = self.size.bytes() as u64;
+        let at = index.checked_mul(size)?.checked_add(self.base)?;
+        usize::try_from(at).ok()
+    }
+
+    /// The address of this index.
+    ///
+    /// # Errors
+    ///
+    /// `BadOffset` if it is behind the end of the section; `Truncated` if the section ends inside it.
+    pub fn get(&self, index: u64) -> Result<Address, DebugFault>
+        ensures value { IfOk result (λ a. address_at self.now index ≡ Some a.value) }
+        ensures place { IfOk result (λ a. a.at ≡ place_of self.now index) }
+        ensures size { IfOk result (λ a. a.size ≡ self.now.size) }
+    {
+        let at = self.place(index).ok_or(DebugFault::BadOffset)?;
+        let rest = self.section.get(at..).ok_or(DebugFault::BadOffset)?;
+        let (value, _) = read_sized(self.size, rest)?;
+        Ok(Address {
+            at,
+            value,
+            size: self.size,
+        })
+    }
+}
+
+/// An address that is used as one of code, and what it becomes.
+#[derive(Clone, Copy, Debug, PartialEq, Eq)]
+struct AddressUse {
+    address: Address,
+    new: u64,
+}
+
+/// A table of addresses that gets one more, which is no address.
+#[derive(Clone, Copy, Debug, PartialEq, Eq)]
+struct LongerTable {
+    // where the number of its bytes is, and of which size that is
+    length_at: usize,
+    length_size: Size,
+    length: u64,
+    // where it ends, and the size of an address
+    end: usize,
+    size: Size,
+}
+
+/// The addresses of `.debug_addr` that are used as those of code, and what each becomes.
+#[derive(Debug, Drop)]
+pub struct AddressUses {
+    uses: Vec<AddressUse>,
+    longer: Vec<LongerTable>,
+}
+
+impl LongerTable {
+    /// The table of these addresses, in front of which is its header: its length, its version and two sizes (DWARF 5, section 7.27).
+    fn of(table: &AddressTable<'_>, format: Format) -> Result<LongerTable, DebugFault> {
+        let length_size = format.offset_size();
+        let base = usize::try_from(table.base).map_err(|_| DebugFault::BadOffset)?;
+        let length_at = base
+            .checked_sub(4)
+            .and_then(|place| place.checked_sub(length_size.bytes()))
+            .ok_or(DebugFault::BadOffset)?;
+        let rest = table.section.get(length_at..).ok_or(DebugFault::BadOffset)?;
+        let (length, _) = read_sized(length_size, rest)?;
+        let end = usize::try_from(length)
+            .ok()
+            .and_then(|length| length.checked_add(base))
+            .and_then(|end| end.checked_sub(4))
+            .ok_or(DebugFault::BadLength)?;
+        if end < base || end > table.section.len() {
+            return Err(DebugFault::BadLength);
+        }
+        Ok(LongerTable {
+            length_at,
+            length_size,
+            length,
+            end,
+            size: table.size,
+        })
+    }
+}
+
+impl AddressUses {
+    ghost use Rattle.std.specs.Prelude.{◌≡◌, ◌++◌, ◌∷◌, [], OnOk, OnErr};
+    ghost use Rattle.dwarf_bytes.specs.Uses.{told};
+
+    /// None is used.
+    pub fn new(alloc: Global) -> AddressUses {
+        AddressUses {
+            uses: Vec::new(alloc),
+            longer: Vec::new(alloc),
+        }
+    }
+
+    /// This address becomes that one, where it is used.
+    pub fn push(&mut self, address: Address, new: u64) -> Result<(), DebugError>
+        ensures ok { OnOk result (told self.new ≡ told self.old ++ (address, new) ∷ []) }
+        ensures err { OnErr result (told self.new ≡ told self.old) }
+    {
+        self.uses.push(AddressUse { address, new })?;
+        Ok(())
+    }
+
+    /// The table gets one more address at its end, which is no address, if it didn't get it before. Returns the index of that.
+    ///
+    /// # Errors
+    ///
+    /// `BadOffset` or `BadLength` if the table has no header; out of memory.
+    pub fn push_none(
+        &mut self,
+        table: &AddressTable<'_>,
+        format: Format,
+    ) -> Result<u64, DebugError> {
+        let longer = LongerTable::of(table, format)?;
+        if self.longer.last() != Some(&longer) {
+            self.longer.push(longer)?;
+        }
+        let bytes = (longer.end as u64).saturating_sub(table.base);
+        match table.size {
+            Size::Eight => Ok(bytes / 8),
+            _ => Ok(bytes / 4),
+        }
+    }
+
+    /// The addresses that others use become what they say.
+    pub fn add_all(&mut self, others: &AddressUses) -> Result<(), DebugError> {
+        self.uses.extend_from_slice(&others.uses)?;
+        self.longer.extend_from_slice(&others.longer)?;
+        Ok(())
+    }
+
+    /// What is replaced in the section.
+    ///
+    /// # Errors
+    ///
+    /// `Unsupported` if one address becomes different ones in different uses; `Overlap` if two addresses overlap; `DoesNotFit`; out of
+    /// memory.
+    pub fn patches(&mut self, alloc: Global) -> Result<Patches, DebugError> {
+        self.uses
+            .sort_by_key(|other: &AddressUse| other.address.at)?;
+        let mut patches = Patches::new(alloc);
+        let mut last: Option<AddressUse> = None;
+        for step in &self.uses {
+            match last {
+                Some(other) if other.address == step.address => {
+                    if other.new != step.new {
+                        return Err(DebugError::Fault(DebugFault::Unsupported));
+                    }
+                }
+                _ => push_number(step.address.at, step.address.size, step.new, &mut patches)?,
+            }
+            last = Some(*step);
+        }
+        if self.longer.is_empty() {
+            return Ok(patches);
+        }
+        self.lengthen(alloc, &patches)
+    }
+
+    /// The same with the tables that get one more address.
+    fn lengthen(&mut self, alloc: Global, first: &Patches) -> Result<Patches, DebugError> {
+        self.longer.sort_by_key(|table: &LongerTable| table.end)?;
+        let mut all = MergedPatches::new(alloc, first);
+        let mut scratch = Vec::new(alloc);
+        let mut last: Option<LongerTable> = None;
+        for table in &self.longer {
+            if last == Some(*table) {
+                continue;
+            }
+            let size = table.size.bytes();
+            let length = table.length.saturating_add(size as u64);
+            scratch.clear();
+            write_sized(&mut scratch, table.length_size, length)?;
+            all.push(table.length_at, table.length_size.bytes(), &scratch)?;
+            scratch.clear();
+            write_sized(&mut scratch, table.size, table.size.greatest())?;
+            all.push(table.end, 0, &scratch)?;
+            last = Some(*table);
+        }
+        all.finish()
+    }
+}
+
+/// A number of this size at this place becomes this one.
+fn push_number(
+    at: usize,
+    size: Size,
+    number: u64,
+    patches: &mut Patches,
+) -> Result<(), DebugError> {
+    let mut scratch = Vec::new(patches.allocator());
+    write_sized(&mut scratch, size, number)?;
+    patches.push(at, size.bytes(), &scratch)
+}
