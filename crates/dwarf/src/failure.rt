@@ -1,0 +1,42 @@
+//! Why debug information isn't moved.
+
+use crate::sections::SectionName;
+use dwarf_bytes::{DebugError, DebugFault};
+use std::fmt;
+use std::fmt::{Display, Formatter, Write};
+
+/// Why debug information isn't moved, and in which section.
+#[derive(Clone, Copy, Debug, PartialEq, Eq)]
+pub struct DebugFailure {
+    /// The section.
+    pub section: SectionName,
+    /// The reason.
+    pub error: DebugError,
+}
+
+impl DebugFailure {
+    /// A fault of a section.
+    pub(crate) fn fault(section: SectionName, fault: DebugFault) -> DebugFailure {
+        DebugFailure {
+            section,
+            error: DebugError::Fault(fault),
+        }
+    }
+}
+
+impl Display for DebugFailure {
+    fn fmt<W: Write>(&self, f: &mut Formatter<W>) -> Result<(), fmt::Error> {
+        write!(f, "{}: {}", self.section.name(), self.error)
+    }
+}
+
+/// What was moved, or the error with its section.
+pub(crate) fn within<T>(
+    section: SectionName,
+    moved: Result<T, DebugError>,
+) -> Result<T, DebugFailure> {
+    match moved {
+        Ok(value) => Ok(value),
+        Err(error) => Err(DebugFailure { section, error }),
+    }
+}

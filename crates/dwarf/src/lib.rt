@@ -1,0 +1,15 @@
+//! The debug information of a WebAssembly module whose function bodies are written anew: sections of DWARF 2 to 4 follow the
+//! code, all of them or none (DWARF for WebAssembly).
+#![tactic(auto)]
+
+mod address_ranges;
+mod failure;
+mod list_tables;
+mod lists;
+mod moving;
+mod names;
+mod sections;
+
+pub use failure::DebugFailure;
+pub use moving::{MovedSections, move_sections};
+pub use sections::{DebugSections, SectionName};

@@ -1,0 +1,17 @@
+//! Entries of DWARF, and what of them follows the code of a WebAssembly module whose function bodies are written anew:
+//! addresses, lengths, line tables, and the locals of expressions (DWARF 5, sections 2 and 7.5).
+#![tactic(auto)]
+
+mod abbreviations;
+mod attribute;
+mod entries;
+mod following;
+mod form;
+mod moved;
+mod unit;
+
+pub use abbreviations::Abbreviations;
+pub use entries::move_units;
+pub use following::{Shifts, follow_length, follow_units, moved_distance, moved_offset};
+pub use moved::{CodeRange, ListPlace, ListUse, MovedEntries};
+pub use unit::UnitSection;
