@@ -147,14 +147,13 @@ FAULTS_OF_BODIES = (
     ("0061736d01000000 010401600000 03020100 0503010000 0c0101 0a07010500fc09010b 0b03010100", "OutOfRange", 31),
 )
 
-# Modules, and the warnings about sections of what is written of them: about those with old offsets, and one that can't be read, of names
-# of locals that are cut off.
+# Modules, and the warnings about sections of what is written of them: about one with old offsets, and one that can't be read, of names
+# of locals that are cut off. A line table of no bytes follows the code.
 WARNED = (
     (FOLLOWED, ("source map is out of date: use --source-map or --strip-debug",)),
     (
         "0061736d01000000 010401600000 03020100 0a050103 00010b 000c0b2e64656275675f6c696e65 000b0a2e64656275675f737472 0008046e616d65020101",
         (
-            "debug information is out of date (.debug_line): use --strip-debug",
             'section "name" is carried over as it is, though the code has changed',
         ),
     ),

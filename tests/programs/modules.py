@@ -70,3 +70,5 @@ GOOD_MAP = b"18 17\n"
 REFUSED = module([NOP, BAD_LABEL, BAD_LOCAL], after=names([(1, b"main"), (2, b"e\x1b[1m")]))
 NAMED = module([NOP, NOP, NOP], exported=exports([(b"out", 2)]), after=names([(0, b"first"), (1, b"second")]))
 DEBUG = custom(b".debug_line", b"x") + custom(b".debug_str", b"y") + custom(b"sourceMappingURL", b"\1z") + custom(b"other", b"o")
+# As it is written where the code changes: its debug information, which can't be read, is after the other sections.
+DEBUG_WRITTEN = custom(b"sourceMappingURL", b"\1z") + custom(b"other", b"o") + custom(b".debug_line", b"x") + custom(b".debug_str", b"y")

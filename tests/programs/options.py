@@ -4,7 +4,7 @@ import re
 import subprocess
 
 from habits import on_terminal
-from modules import DEBUG, GOOD, GOOD_MAP, GOOD_WRITTEN, NAMED, NOP, TRAP, custom, exports, module, names, sized
+from modules import DEBUG, DEBUG_WRITTEN, GOOD, GOOD_MAP, GOOD_WRITTEN, NAMED, NOP, TRAP, custom, exports, module, names, sized
 from runs import PROGRAMS, TOP, case, same
 from snipping_and_counting import FIB, FIB_COUNTED, IMPORT
 
@@ -81,7 +81,7 @@ def _(room):
     room.put("in", GOOD + DEBUG)
     for word in ("-q", "--quiet"):
         room.works("wrewrite", word, "in", "out")
-        same(GOOD_WRITTEN + DEBUG, room.get("out"))
+        same(GOOD_WRITTEN + DEBUG_WRITTEN, room.get("out"))
     room.refuses("wrewrite", "-q", "no", "out", says="no: can't be opened: No such file or directory (os error 2)")
 
 
@@ -137,6 +137,8 @@ def _(room):
 
 NAME, PRODUCERS, OTHER = names([(0, b"f")]), custom(b"producers", b"\0"), custom(b"other", b"o")
 LINES, SOURCE_MAP = custom(b".debug_line", b"x"), custom(b"sourceMappingURL", b"\1z")
+# why a line table of one byte isn't moved
+NOT_MOVED = ", since it can't follow the code (.debug_line: the section ends inside a value)"
 
 
 @case("custom sections are left out by kind or by name, and kept by name")
@@ -145,23 +147,26 @@ def _(room):
     for words, kept in (
         ("--strip", b""),
         ("--strip-debug", NAME + PRODUCERS + OTHER + OTHER),
-        ("--strip-names", LINES + PRODUCERS + OTHER + SOURCE_MAP + OTHER),
-        ("--strip-producers", LINES + NAME + OTHER + SOURCE_MAP + OTHER),
+        ("--strip-names", PRODUCERS + OTHER + SOURCE_MAP + OTHER + LINES),
+        ("--strip-producers", NAME + OTHER + SOURCE_MAP + OTHER + LINES),
         ("--strip-names --strip-producers --strip-debug", OTHER + OTHER),
-        ("--remove-section other", LINES + NAME + PRODUCERS + SOURCE_MAP),
-        ("--remove-section other --remove-section=name", LINES + PRODUCERS + SOURCE_MAP),
-        ("--remove-section none", LINES + NAME + PRODUCERS + OTHER + SOURCE_MAP + OTHER),
+        ("--remove-section other", NAME + PRODUCERS + SOURCE_MAP + LINES),
+        ("--remove-section other --remove-section=name", PRODUCERS + SOURCE_MAP + LINES),
+        ("--remove-section none", NAME + PRODUCERS + OTHER + SOURCE_MAP + OTHER + LINES),
+        ("--keep-debug", LINES + NAME + PRODUCERS + OTHER + SOURCE_MAP + OTHER),
+        ("--keep-debug --strip-debug", NAME + PRODUCERS + OTHER + OTHER),
         ("--strip --keep-section other", OTHER + OTHER),
         ("--keep-section name --strip --keep-section other", NAME + OTHER + OTHER),
-        ("--strip-debug --keep-section .debug_line", LINES + NAME + PRODUCERS + OTHER + OTHER),
-        ("--remove-section other --keep-section other", LINES + NAME + PRODUCERS + OTHER + SOURCE_MAP + OTHER),
+        ("--strip-debug --keep-section .debug_line", NAME + PRODUCERS + OTHER + OTHER + LINES),
+        ("--remove-section other --keep-section other", NAME + PRODUCERS + OTHER + SOURCE_MAP + OTHER + LINES),
     ):
         status, _, err = room.run("wrewrite", *words.split(), "in", "out")
         same((0, GOOD_WRITTEN + kept), (status, room.get("out")), words)
         # a warning for each that is kept and wrong now
         said = ""
         if LINES in kept:
-            said += "wrewrite: warning: debug information is out of date (.debug_line): use --strip-debug\n"
+            reason = "" if "--keep-debug" in words else NOT_MOVED
+            said += f"wrewrite: warning: debug information is out of date (.debug_line){reason}: use --strip-debug\n"
         if SOURCE_MAP in kept:
             said += "wrewrite: warning: source map is out of date: use --source-map or --strip-debug\n"
         same(said, err, words)
@@ -285,7 +290,7 @@ def _(room):
 def _(room):
     debug = LINES + custom(b".debug_str", b"y") + custom(b".debug_info", b"z")
     room.put("in", GOOD + debug)
-    said = "wrewrite: warning: debug information is out of date (.debug_line, .debug_info): use --strip-debug\n"
+    said = f"wrewrite: warning: debug information is out of date (.debug_line, .debug_info){NOT_MOVED}: use --strip-debug\n"
     same((0, b"", said), room.run("wrewrite", "in", "out"))
     room.put("in", GOOD_WRITTEN + debug + SOURCE_MAP + custom(b"metadata.code.branch_hint", b"\1"))
     same((0, b"", ""), room.run("wrewrite", "in", "out"))

@@ -204,4 +204,5 @@ def _(room):
     room.put("in.map", source_map("uB"))
     status, _, err = room.run("wrewrite", *MAPS, "in", "out")
     same(0, status)
-    same("wrewrite: warning: debug information is out of date (.debug_line): use --strip-debug\n", err)
+    why = ", since it can't follow the code (.debug_line: the section ends inside a value)"
+    same(f"wrewrite: warning: debug information is out of date (.debug_line){why}: use --strip-debug\n", err)

@@ -21,6 +21,7 @@ pub(crate) enum Switch {
     RustFmtCode,
     Strip,
     StripDebug,
+    KeepDebug,
     StripNames,
     StripProducers,
     Force,
@@ -86,7 +87,7 @@ struct Row {
 }
 
 /// How many options there are.
-const COUNT: usize = 24;
+const COUNT: usize = 25;
 
 /// The options, in the order of the page of help.
 const ROWS: [Row; COUNT] = [
@@ -228,6 +229,14 @@ const ROWS: [Row; COUNT] = [
         takers: Takers::All,
         help: "
       --strip-debug    leave out debug information and source maps",
+    },
+    Row {
+        letter: None,
+        name: "--keep-debug",
+        choice: Choice::Switch(Switch::KeepDebug),
+        takers: Takers::All,
+        help: "
+      --keep-debug     write debug information as it is, though the code changes",
     },
     Row {
         letter: None,

@@ -72,6 +72,8 @@ pub enum SectionChoice<'w> {
     LeaveOut(&'w str),
     /// Those with this name are kept.
     Keep(&'w str),
+    /// Those with debug information are kept as they are, though the code changes.
+    KeepDebug,
 }
 
 impl Asked<'_> {
@@ -97,6 +99,7 @@ impl SectionChoice<'_> {
             SectionChoice::LeaveOut("producers") => "--strip-producers",
             SectionChoice::LeaveOut(_) => "--remove-section",
             SectionChoice::Keep(_) => "--keep-section",
+            SectionChoice::KeepDebug => "--keep-debug",
         }
     }
 }
@@ -307,6 +310,7 @@ impl<'w> Words<'w> {
             Switch::RustFmtCode => return add(&mut self.functions, Asked::RustFmtCode),
             Switch::Strip => return add(&mut self.sections, SectionChoice::LeaveOutAll),
             Switch::StripDebug => return add(&mut self.sections, SectionChoice::LeaveOutDebug),
+            Switch::KeepDebug => return add(&mut self.sections, SectionChoice::KeepDebug),
             Switch::StripNames => {
                 return add(&mut self.sections, SectionChoice::LeaveOut("name"));
             }

@@ -10,7 +10,7 @@ use crate::ending::{ProgramFailure, exit_code, page_code, words};
 use crate::files::read_file;
 use crate::listing::list_functions;
 use crate::locks::LockFiles;
-use crate::omitting::omit;
+use crate::omitting::{following_debug, omit};
 use crate::places::check_files;
 use crate::program::{Program, Request, Task, read_arguments};
 use crate::progress::{Progress, Watched, WatchedChange};
@@ -19,8 +19,9 @@ use crate::source_map_places::check_source_maps;
 use crate::source_maps::read_source_map;
 use crate::usage_error::UsageError;
 use crate::version::{BUILD, VERSION};
-use crate::warnings::warn;
+use crate::warnings::{DebugOutcome, warn};
 use crate::writing::write_module;
+use module_debug::DebugSection;
 use module_validator::validate;
 use source_map::SourceMap;
 use std::alloc::Global;
@@ -105,8 +106,8 @@ impl ChangeFunction for NoChange {
 
 /// What is kept of the bodies that are written for a task: nothing where their location pairs are told,
 /// since of those of a kept body nothing is said.
-fn keeping_for(task: &Task<'_>) -> Keeping {
-    match task.map.is_some() || task.source_map.is_some() {
+fn keeping_for(task: &Task<'_>, debug: &[DebugSection<'_>]) -> Keeping {
+    match task.map.is_some() || task.source_map.is_some() || !debug.is_empty() {
         true => Keeping::NOTHING,
         false => Keeping::CODE,
     }
@@ -199,23 +200,35 @@ where
 
     /// Writes what was made of the module, and the source map, if there is one, of which each mapping
     /// follows its operator; then says what is wrong now with the sections of the module that was
-    /// made. Returns how many bytes it has.
+    /// made. These sections with debug information follow the code, if it changes. Returns how many bytes
+    /// the module has.
     fn write_made<B: BodyWriter + Drop>(
         &self,
         source: &Option<SourceMap>,
         parsed: &mut ParsedModule<'a>,
         mut module: RewrittenModule<'a, B>,
+        debug: &[DebugSection<'a>],
         output: &'w str,
     ) -> Result<u64, ProgramFailure<'w>> {
-        if omit(self.task, parsed, &mut module).is_err() {
+        let count = match module.changes_code() {
+            true => debug.len(),
+            false => 0,
+        };
+        let sections = &debug[..count];
+        if omit(self.task, parsed, sections, &mut module).is_err() {
             // Its sections were read before.
             return Err(ProgramFailure::Memory);
         }
-        let written = write_module(self.rt, parsed, &module, self.task, source, output);
-        if written.is_ok() {
-            warn(self.rt, self.program, &module, self.task);
+        match write_module(
+            self.rt, parsed, &module, sections, self.task, source, output,
+        ) {
+            Ok((written, failure)) => {
+                let outcome = DebugOutcome { sections, failure };
+                warn(self.rt, self.program, &module, self.task, outcome);
+                Ok(written)
+            }
+            Err(failure) => Err(failure),
         }
-        written
     }
 
     /// Writes what was made of the module, and the source map that follows it, if there is one; or says
@@ -225,12 +238,13 @@ where
         source: &Option<SourceMap>,
         parsed: &mut ParsedModule<'a>,
         made: Result<RewrittenModule<'a, B>, ModuleError>,
+        debug: &[DebugSection<'a>],
         output: &'w str,
     ) -> Result<u64, ProgramFailure<'w>> {
         match made {
             Ok(module) => {
                 self.progress.clear();
-                self.write_made(source, parsed, module, output)
+                self.write_made(source, parsed, module, debug, output)
             }
             Err(error) => Err(self.refused(parsed, &error)),
         }
@@ -249,15 +263,19 @@ where
             Ok(found) => found,
             Err(failure) => return Err(failure),
         };
+        let Ok(debug) = following_debug(self.rt.alloc(), self.task, parsed) else {
+            // Its sections were read before.
+            return Err(ProgramFailure::Memory);
+        };
         match change {
             None => {
-                let keeping = keeping_for(self.task);
+                let keeping = keeping_for(self.task, &debug);
                 let made = rewritten(parsed, changes, keeping, self.progress);
-                self.write_or_refuse(source, parsed, made, output)
+                self.write_or_refuse(source, parsed, made, &debug, output)
             }
             Some(change) => {
                 let made = changed(parsed, change, changes, self.progress);
-                self.write_or_refuse(source, parsed, made, output)
+                self.write_or_refuse(source, parsed, made, &debug, output)
             }
         }
     }

@@ -1,12 +1,15 @@
-//! The source map of a module that is written: its mappings follow the operators.
+//! What follows the operators of a module that is written: the mappings of its source map, and the places that its debug
+//! information follows.
 
-ghost use Rattle.std.specs.Prelude.{true, is_some};
+ghost use Rattle.std.specs.Prelude.{◌||◌, true, is_some};
+ghost use Rattle.module_debug.specs.Places.{wants_places};
 
 use crate::ending::{Attempt, ProgramFailure};
 use crate::files::read_file;
 use crate::locks::LockFiles;
 use crate::program::Task;
 use crate::writing::create_target;
+use module_debug::OperatorPlaces;
 use source_map::{MappingsError, Move, MovingSourceMap, SourceMap};
 use std::alloc::{AllocError, Global};
 use std::io;
@@ -15,10 +18,11 @@ use std::rt::Files;
 use wasm_module::{MapLines, MapSink, WrittenBody};
 
 /// The source map that follows a module, if one is wanted, as far as bodies were written. Its mappings
-/// move along with the operators of the source that are kept.
+/// move along with the operators of the source that are kept. Beside it the places of operators, if they are wanted.
 #[derive(Drop)]
 pub(crate) struct Moves<'s> {
     text: Option<MovingSourceMap<'s>>,
+    places: OperatorPlaces,
     /// The greatest old place of an operator so far.
     last: u32,
 }
@@ -45,7 +49,11 @@ impl<'s> Moves<'s> {
     /// # Errors
     ///
     /// Out of memory.
-    pub fn new(alloc: Global, source: &'s Option<SourceMap>) -> Result<Moves<'s>, AllocError> {
+    pub fn new(
+        alloc: Global,
+        source: &'s Option<SourceMap>,
+        wants_places: bool,
+    ) -> Result<Moves<'s>, AllocError> {
         let text = match source {
             None => None,
             Some(map) => match MovingSourceMap::new(alloc, map) {
@@ -53,7 +61,11 @@ impl<'s> Moves<'s> {
                 Err(_) => return Err(AllocError),
             },
         };
-        Ok(Moves { text, last: 0 })
+        Ok(Moves {
+            text,
+            places: OperatorPlaces::new(alloc, wants_places),
+            last: 0,
+        })
     }
 
     /// Names an operator that is kept. One that was before the last one in the source is passed over,
@@ -89,20 +101,42 @@ impl<'s> Moves<'s> {
 impl MapSink for Moves<'_> {
     ghost records = { λ a b body. Unit {0} };
 
-    ghost needs = { λ moves. is_some moves.text };
+    ghost needs = { λ moves. is_some moves.text || wants_places moves.places };
 
     fn needs_pairs(&self) -> bool {
-        self.text.is_some()
+        self.text.is_some() || self.places.is_wanted()
     }
 
     fn record_body(&mut self, body: WrittenBody<'_>) -> io::Result<()> {
-        match self.needs_pairs() {
+        match self.places.record(body) {
+            Ok(()) => {}
+            Err(error) => return Err(error),
+        }
+        match self.text.is_some() {
             true => self.add_body(body),
             false => Ok(()),
         }
     }
 
     ghost joins = { λ a b c body more p q. tt };
+}
+
+/// A listener that records the places of operators.
+pub(crate) trait RecordsPlaces: MapSink {
+    /// The places.
+    fn places(&self) -> &OperatorPlaces;
+}
+
+impl RecordsPlaces for Moves<'_> {
+    fn places(&self) -> &OperatorPlaces {
+        &self.places
+    }
+}
+
+impl<M: Write> RecordsPlaces for MovesAndLines<'_, '_, M> {
+    fn places(&self) -> &OperatorPlaces {
+        &self.moves.places
+    }
 }
 
 /// A listener that moves the mappings of a source map, and writes the lines of a location map.

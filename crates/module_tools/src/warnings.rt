@@ -2,24 +2,32 @@
 
 use crate::escaped::Escaped;
 use crate::program::{SectionChoice, Task};
+use module_debug::{DebugFailure, DebugSection};
 use std::fmt;
 use wasm_module::{Note, NoteKind, RewrittenModule};
 
 impl Task<'_> {
     /// Whether the custom section with this name is left out, which contains debug information or
     /// doesn't.
-    fn leaves_out(&self, name: &str, is_debug: bool) -> bool {
+    pub fn leaves_out(&self, name: &str, is_debug: bool) -> bool {
         let mut is_left_out = false;
         for section in &self.sections {
             match *section {
                 SectionChoice::Keep(kept) if kept == name => return false,
-                SectionChoice::Keep(_) => {}
+                SectionChoice::Keep(_) | SectionChoice::KeepDebug => {}
                 SectionChoice::LeaveOutAll => is_left_out = true,
                 SectionChoice::LeaveOutDebug => is_left_out |= is_debug,
                 SectionChoice::LeaveOut(other) => is_left_out |= other == name,
             }
         }
         is_left_out
+    }
+
+    /// Whether debug information is kept as it is, though the code changes.
+    pub fn keeps_debug(&self) -> bool {
+        self.sections
+            .iter()
+            .any(|section| matches!(section, SectionChoice::KeepDebug))
     }
 
     /// Whether a section isn't wrong, since it is left out, or since the source map is written anew.
@@ -50,17 +58,49 @@ impl fmt::Display for Warning<'_> {
     }
 }
 
-/// The names of the sections with debug information that is wrong now, as a list.
+/// What became of the debug information that was to follow the code.
 #[derive(Clone, Copy)]
-struct StaleDebug<'n, 'a, 't, 'w> {
-    notes: &'n [Note<'a>],
-    task: &'t Task<'w>,
+pub(crate) struct DebugOutcome<'d, 'a> {
+    /// The sections.
+    pub sections: &'d [DebugSection<'a>],
+    /// Why they were carried over as they were, if they were.
+    pub failure: Option<DebugFailure>,
 }
 
-impl StaleDebug<'_, '_, '_, '_> {
+impl DebugOutcome<'_, '_> {
+    /// Whether the section of this name follows the code.
+    fn follows(&self, name: &str) -> bool {
+        self.failure.is_none() && self.sections.iter().any(|section| section.name == name)
+    }
+}
+
+/// Why debug information isn't moved, after the names of its sections.
+#[derive(Clone, Copy)]
+struct Reason(Option<DebugFailure>);
+
+impl fmt::Display for Reason {
+    fn fmt<W: fmt::Write>(&self, f: &mut fmt::Formatter<W>) -> fmt::Result {
+        match self.0 {
+            Some(failure) => write!(f, ", since it can't follow the code ({failure})"),
+            None => Ok(()),
+        }
+    }
+}
+
+/// The names of the sections with debug information that is wrong now, as a list.
+#[derive(Clone, Copy)]
+struct StaleDebug<'n, 'a, 't, 'w, 'd> {
+    notes: &'n [Note<'a>],
+    task: &'t Task<'w>,
+    outcome: DebugOutcome<'d, 'a>,
+}
+
+impl StaleDebug<'_, '_, '_, '_, '_> {
     /// Whether a section is one of them.
     fn includes(&self, note: &Note<'_>) -> bool {
-        matches!(note.kind, NoteKind::DebugInfo) && !self.task.fixes(note)
+        matches!(note.kind, NoteKind::DebugInfo)
+            && !self.task.fixes(note)
+            && !self.outcome.follows(note.name)
     }
 
     /// Whether there is one.
@@ -69,7 +109,7 @@ impl StaleDebug<'_, '_, '_, '_> {
     }
 }
 
-impl fmt::Display for StaleDebug<'_, '_, '_, '_> {
+impl fmt::Display for StaleDebug<'_, '_, '_, '_, '_> {
     fn fmt<W: fmt::Write>(&self, f: &mut fmt::Formatter<W>) -> fmt::Result {
         let mut separator = "";
         for note in self.notes {
@@ -91,16 +131,22 @@ pub(crate) fn warn<B>(
     program: &str,
     module: &RewrittenModule<'_, B>,
     task: &Task<'_>,
+    outcome: DebugOutcome<'_, '_>,
 ) {
     if task.is_quiet {
         return;
     }
     let notes = &module.notes;
-    let stale = StaleDebug { notes, task };
+    let stale = StaleDebug {
+        notes,
+        task,
+        outcome,
+    };
+    let reason = Reason(outcome.failure);
     if module.changes_code() && stale.is_some() {
         // The module is written all the same where standard error can't be.
         let _ = eprintln!(rt;
-            "{program}: warning: debug information is out of date ({stale}): use --strip-debug"
+            "{program}: warning: debug information is out of date ({stale}){reason}: use --strip-debug"
         );
     }
     for note in notes {

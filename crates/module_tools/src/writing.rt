@@ -3,17 +3,21 @@ ghost use Rattle.std.specs.Prelude.{◌≡◌, ◌++◌, [], ℕ, List, OnOk, Ma
 ghost use Rattle.std.specs.Io.KnownBytes.{Appends, Keeps};
 ghost use Rattle.wasm_sections.specs.Sections.{section as whole_section};
 ghost use Rattle.wasm_module.specs.WrittenModules.{IsWrittenModule, url_contents};
+ghost use Rattle.module_debug.specs.Sections.{AreDebugSections as AreSections};
 
 use crate::ending::{Attempt, ProgramFailure};
 use crate::files::Target;
 use crate::locks::LockFiles;
 use crate::program::Task;
-use crate::source_maps::{Moves, MovesAndLines, write_source_map};
+use crate::source_maps::{Moves, MovesAndLines, RecordsPlaces, write_source_map};
+use dwarf_bytes::DebugError;
+use module_debug::{DebugFailure, DebugSection, OperatorPlaces, move_debug, write_debug};
 use source_map::SourceMap;
-use std::alloc::Global;
+use std::alloc::{AllocError, Global};
 use std::io::{BufWriter, Write};
 use wasm_module::{
-    BodyWriter, MapLines, MapSink, ParsedModule, RewrittenModule, WriteError, write_source_map_url,
+    BodyWriter, MapLines, ModuleError, ParsedModule, RewrittenModule, WriteError,
+    write_source_map_url,
 };
 
 /// Writes what a buffer still holds.
@@ -60,12 +64,14 @@ fn failure_of<'w>(
     }
 }
 
-/// What is written for a task: a module, and the source map that follows it, if there is one.
+/// What is written for a task: a module, the debug information that follows its code, after it, and the source map that follows it, if
+/// there is one.
 #[derive(Clone, Copy)]
 struct Writing<'w, 'm, 'a, R, B> {
     rt: &'w R,
     task: &'m Task<'w>,
     module: &'m RewrittenModule<'a, B>,
+    debug: &'m [DebugSection<'a>],
     source: &'m Option<SourceMap>,
 }
 
@@ -73,38 +79,101 @@ impl<'w, R, B: BodyWriter> Writing<'w, '_, '_, R, B>
 where
     R: LockFiles + Print + AllocGlobal + Drop,
 {
-    /// Writes the module, the section that says where its source map is, and what the buffer still holds.
-    fn write_out<W: Write, T: MapSink>(
+    /// Writes the debug information of a module that was written as these bytes, with its operators at these places: moved, or as it
+    /// is, and returns why, if it can't be moved.
+    fn write_moved_debug<W: Write>(
+        &self,
+        parsed: &ParsedModule<'_>,
+        made: &[u8],
+        places: &OperatorPlaces,
+        out: &mut W,
+    ) -> Result<Option<DebugFailure>, WriteError>
+        ensures { OnOk result ((debug : List ℕ) × AreSections self.now.debug.now debug
+            × Appends (W.contents out.old) (W.contents out.new) debug) }
+    {
+        let alloc = self.rt.alloc();
+        let (moved, failure) = match move_debug(alloc, parsed, self.debug, made, places) {
+            Ok(moved) => (Some(moved), None),
+            Err(failure) if failure.error == DebugError::Memory => {
+                return Err(WriteError::Module(ModuleError::from(AllocError)));
+            }
+            Err(failure) => (None, Some(failure)),
+        };
+        match write_debug(alloc, self.debug, moved.as_ref(), out) {
+            Ok(()) => Ok(failure),
+            Err(error) => Err(error),
+        }
+    }
+
+    /// Writes the module, and the debug information that follows its code, after it. Returns why that can't be moved, if it can't.
+    fn write_made<W: Write, T: RecordsPlaces>(
         &self,
         parsed: &mut ParsedModule<'_>,
         sink: &mut T,
         out: &mut W,
-    ) -> Result<(), WriteError>
-        // A module that is written as the library says, and the section that was asked for.
-        ensures { OnOk result ((made section : List ℕ)
+    ) -> Result<Option<DebugFailure>, WriteError>
+        ensures { OnOk result ((made debug : List ℕ)
             × IsWrittenModule (B.writes self.now.module.now.bodies) parsed.old
             self.now.module.now.changes self.now.module.now.omitted made
-            × MatchOption self.now.task.now.source_map_url (section ≡ [])
-            (λ u. section ≡ whole_section 0 (url_contents u.now))
-            × Appends (W.contents out.old) (W.contents out.new) (made ++ section)) }
+            × AreSections self.now.debug.now debug
+            × Appends (W.contents out.old) (W.contents out.new) (made ++ debug)) }
     {
-        match parsed.write_module_with_sink(self.module, sink, out) {
+        if self.debug.is_empty() {
+            return match parsed.write_module_with_sink(self.module, sink, out) {
+                Ok(()) => Ok(None),
+                Err(error) => Err(error),
+            };
+        }
+        let mut made = Vec::new(self.rt.alloc());
+        match parsed.write_module_with_sink(self.module, sink, &mut made) {
             Ok(()) => {}
             Err(error) => return Err(error),
         }
+        match out.write_all(&made) {
+            Ok(()) => self.write_moved_debug(parsed, &made, sink.places(), out),
+            Err(error) => Err(WriteError::Io(error)),
+        }
+    }
+
+    /// Writes the module, its debug information, the section that says where its source map is, and what the buffer still holds.
+    /// Returns why the debug information can't be moved, if it can't.
+    fn write_out<W: Write, T: RecordsPlaces>(
+        &self,
+        parsed: &mut ParsedModule<'_>,
+        sink: &mut T,
+        out: &mut W,
+    ) -> Result<Option<DebugFailure>, WriteError>
+        // A module that is written as the library says, its debug information, and the section that was asked for.
+        ensures { OnOk result ((made debug section : List ℕ)
+            × IsWrittenModule (B.writes self.now.module.now.bodies) parsed.old
+            self.now.module.now.changes self.now.module.now.omitted made
+            × AreSections self.now.debug.now debug
+            × MatchOption self.now.task.now.source_map_url (section ≡ [])
+            (λ u. section ≡ whole_section 0 (url_contents u.now))
+            × Appends (W.contents out.old) (W.contents out.new)
+            ((made ++ debug) ++ section)) }
+    {
+        let failure = match self.write_made(parsed, sink, out) {
+            Ok(failure) => failure,
+            Err(error) => return Err(error),
+        };
         match write_url(self.rt.alloc(), self.task.source_map_url, out) {
-            Ok(()) => flush(out),
+            Ok(()) => {}
+            Err(error) => return Err(error),
+        }
+        match flush(out) {
+            Ok(()) => Ok(failure),
             Err(error) => Err(error),
         }
     }
 
     /// Writes the module, buffered, and tells of its bodies.
-    fn write_buffered<W: Write, T: MapSink>(
+    fn write_buffered<W: Write, T: RecordsPlaces>(
         &self,
         parsed: &mut ParsedModule<'_>,
         sink: &mut T,
         target: &mut W,
-    ) -> Result<(), WriteError> {
+    ) -> Result<Option<DebugFailure>, WriteError> {
         match BufWriter::new(self.rt.alloc(), target) {
             Ok(mut out) => self.write_out(parsed, sink, &mut out),
             Err(error) => Err(WriteError::Io(error)),
@@ -118,16 +187,16 @@ where
         moves: Moves<'s>,
         target: &mut W,
         map: &mut M,
-    ) -> Result<Moves<'s>, WriteError> {
+    ) -> Result<(Moves<'s>, Option<DebugFailure>), WriteError> {
         let lines = MapLines(&mut *map);
         let mut sink = MovesAndLines { moves, lines };
-        match self.write_buffered(parsed, &mut sink, target) {
-            Ok(()) => {}
+        let failure = match self.write_buffered(parsed, &mut sink, target) {
+            Ok(failure) => failure,
             Err(error) => return Err(error),
-        }
+        };
         let MovesAndLines { moves, .. } = sink;
         match flush(map) {
-            Ok(()) => Ok(moves),
+            Ok(()) => Ok((moves, failure)),
             Err(error) => Err(error),
         }
     }
@@ -139,7 +208,7 @@ where
         moves: Moves<'s>,
         target: &mut W,
         map_target: &mut W,
-    ) -> Result<Moves<'s>, WriteError> {
+    ) -> Result<(Moves<'s>, Option<DebugFailure>), WriteError> {
         match BufWriter::new(self.rt.alloc(), map_target) {
             Ok(mut map) => self.write_with_lines(parsed, moves, target, &mut map),
             Err(error) => Err(WriteError::Io(error)),
@@ -151,14 +220,18 @@ where
         &self,
         parsed: &mut ParsedModule<'_>,
         target: &mut Target<'w, R>,
-    ) -> Result<(), ProgramFailure<'w>> {
+    ) -> Result<Option<DebugFailure>, ProgramFailure<'w>> {
         let (rt, task) = (self.rt, self.task);
-        let Ok(mut moves) = Moves::new(rt.alloc(), self.source) else {
+        let Ok(mut moves) = Moves::new(rt.alloc(), self.source, !self.debug.is_empty()) else {
             return Err(ProgramFailure::Memory);
         };
-        match self.write_buffered(parsed, &mut moves, target) {
-            Ok(()) => write_source_map(rt, task, moves),
-            Err(error) => Err(failure_of(rt.alloc(), task.input, target.path(), error)),
+        let failure = match self.write_buffered(parsed, &mut moves, target) {
+            Ok(failure) => failure,
+            Err(error) => return Err(failure_of(rt.alloc(), task.input, target.path(), error)),
+        };
+        match write_source_map(rt, task, moves) {
+            Ok(()) => Ok(failure),
+            Err(failure) => Err(failure),
         }
     }
 
@@ -169,13 +242,16 @@ where
         parsed: &mut ParsedModule<'_>,
         target: &mut Target<'w, R>,
         map: &mut Target<'w, R>,
-    ) -> Result<(), ProgramFailure<'w>> {
+    ) -> Result<Option<DebugFailure>, ProgramFailure<'w>> {
         let (rt, task) = (self.rt, self.task);
-        let Ok(moves) = Moves::new(rt.alloc(), self.source) else {
+        let Ok(moves) = Moves::new(rt.alloc(), self.source, !self.debug.is_empty()) else {
             return Err(ProgramFailure::Memory);
         };
         match self.write_both_buffered(parsed, moves, target, map) {
-            Ok(moves) => write_source_map(rt, task, moves),
+            Ok((moves, failure)) => match write_source_map(rt, task, moves) {
+                Ok(()) => Ok(failure),
+                Err(failure) => Err(failure),
+            },
             Err(error) => {
                 let failed = match map.has_failed() {
                     true => map.path(),
@@ -192,18 +268,25 @@ where
         parsed: &mut ParsedModule<'_>,
         target: &mut Target<'w, R>,
         map: &'w str,
-    ) -> Result<(), ProgramFailure<'w>> {
+    ) -> Result<Option<DebugFailure>, ProgramFailure<'w>> {
         let mut map = match create_target(self.rt, self.task, map) {
             Ok(map) => map,
             Err(failure) => return Err(failure),
         };
-        let written = self.write_both_to(parsed, target, &mut map);
-        map.end(written)
+        let (written, failure) = match self.write_both_to(parsed, target, &mut map) {
+            Ok(failure) => (Ok(()), failure),
+            Err(failed) => (Err(failed), None),
+        };
+        match map.end(written) {
+            Ok(()) => Ok(failure),
+            Err(failed) => Err(failed),
+        }
     }
 }
 
 /// Writes a module, and its location map and the source map that follows it where these are asked
-/// for, each whole or not at all. Returns how many bytes the module has.
+/// for, each whole or not at all. These sections with debug information follow its code, and are written after it. Returns how many
+/// bytes the module has, and why its debug information can't be moved, if it can't.
 ///
 /// # Errors
 ///
@@ -214,10 +297,11 @@ pub(crate) fn write_module<'w, R: LockFiles + Print + AllocGlobal + Drop, B: Bod
     rt: &'w R,
     parsed: &mut ParsedModule<'_>,
     module: &RewrittenModule<'_, B>,
+    debug: &[DebugSection<'_>],
     task: &Task<'w>,
     source: &Option<SourceMap>,
     output: &'w str,
-) -> Result<u64, ProgramFailure<'w>> {
+) -> Result<(u64, Option<DebugFailure>), ProgramFailure<'w>> {
     let mut target = match create_target(rt, task, output) {
         Ok(target) => target,
         Err(failure) => return Err(failure),
@@ -226,6 +310,7 @@ pub(crate) fn write_module<'w, R: LockFiles + Print + AllocGlobal + Drop, B: Bod
         rt,
         task,
         module,
+        debug,
         source,
     };
     let written = match task.map {
@@ -233,8 +318,12 @@ pub(crate) fn write_module<'w, R: LockFiles + Print + AllocGlobal + Drop, B: Bod
         None => writing.write_to(parsed, &mut target),
     };
     let count = target.count();
+    let (written, failure) = match written {
+        Ok(failure) => (Ok(()), failure),
+        Err(failed) => (Err(failed), None),
+    };
     match target.end(written) {
-        Ok(()) => Ok(count),
-        Err(failure) => Err(failure),
+        Ok(()) => Ok((count, failure)),
+        Err(failed) => Err(failed),
     }
 }

@@ -1,0 +1,2 @@
+-- sections that are written one after the other
+pub mod SectionLemmas
