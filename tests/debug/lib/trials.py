@@ -11,6 +11,8 @@ from wasm import debug_sections, with_debug
 OUT_OF_DATE = "debug information is out of date"
 # Modules with what needn't be moved, as the manual says: their debug information may also be carried over as it is.
 MAY_BE_CARRIED_OVER = ("corner-odd-", "arguments-", "names-5-", "accelerated-5-")
+# The same of what `wsnip` writes: expressions name entries, of which some change their sizes.
+MAY_BE_CARRIED_OVER_BY_WSNIP = ("templates-5-", "types-5-")
 
 
 @dataclass
@@ -88,7 +90,8 @@ def moved(program, module, tool):
         status, said, out, map_path = program.run(tool, module, folder, *words)
         if status:
             return f"status {status}: {said.strip()}"
-        if os.path.basename(module).startswith(MAY_BE_CARRIED_OVER) and is_carried_over(module, said, out):
+        names = MAY_BE_CARRIED_OVER + (MAY_BE_CARRIED_OVER_BY_WSNIP if tool == "wsnip" else ())
+        if os.path.basename(module).startswith(names) and is_carried_over(module, said, out):
             return ""
         found = compared(program, module, out, text(map_path))
         if OUT_OF_DATE in said:
