@@ -95,7 +95,7 @@ class Entries:
         self.codes, self.labels, self.info, self.units = {}, {}, b"", []
 
     def add(self, entry, version, offset_size=4, address_size=4):
-        """Adds a unit. It is made twice: labels may be of entries behind."""
+        """Adds a unit. It is made twice: labels may be of later entries."""
         for _ in range(2):
             made = self._unit(entry, version, offset_size, address_size)
         self.units.append(len(self.info))
@@ -269,7 +269,7 @@ def new_lists(code, first_item):
     """The lists of ranges and of locations, with each kind of item. The indices are those of `new_sections`."""
     at = code.at
     low, lost = at("work"), at("lost_call")
-    # 126 bytes behind the first: what is added makes that longer than 127; the others are padded
+    # 126 bytes after the first: what is added makes that longer than 127; the others are padded
     near, far = at("many") + 120, at("many") + 126 - low
     ranges = [
         b"\5" + fixed(low) + b"\4" + number(at("many") - low) + number(near - low) + b"\4" + padded(far, 3) + padded(far + 9, 4) + b"\0",
@@ -368,7 +368,7 @@ def lines(kind):
 
 
 def expressions(with_locals, with_entries):
-    """Operations with locals inside others, and operations that name entries; these stand behind expressions that grow if there are locals."""
+    """Operations with locals inside others, and operations that name entries; these come after expressions that grow if there are locals."""
     code = standard_code()
     at, entries = code.at, Entries()
     inner = b"\xed\0" + number(GROWING)

@@ -16,7 +16,7 @@ LIST_FORMS = ("DW_FORM_sec_offset", "DW_FORM_rnglistx", "DW_FORM_loclistx", "DW_
 # attributes that are lists of locations, where they are no expressions
 LOCATIONS = """DW_AT_location DW_AT_frame_base DW_AT_string_length DW_AT_return_addr DW_AT_data_member_location DW_AT_static_link DW_AT_use_location
     DW_AT_vtable_elem_location DW_AT_segment DW_AT_GNU_call_site_value DW_AT_call_value""".split()
-# the sections that have tables, which units name by the offset behind a header: these don't move, or only with their section
+# the sections that have tables, which units name by the offset after a header: these don't move, or only with their section
 BASES = "DW_AT_addr_base DW_AT_rnglists_base DW_AT_loclists_base DW_AT_str_offsets_base DW_AT_GNU_addr_base DW_AT_GNU_ranges_base".split()
 
 
@@ -176,7 +176,7 @@ class Pair:
             self.of.goes("addresses", address, new, where)
 
     def _same_index(self, it, other, base, where):
-        """An index stays, unless it is that of an address that is added behind the table."""
+        """An index stays, unless it is that of an address that is added after the table."""
         number = self.of.old.addresses.number_at(base)
         known = len(self.of.old.addresses.all[number].entries) if number is not None else 0
         if it.index() != other.index() and (other.index() is None or other.index() < known):

@@ -21,7 +21,7 @@ def judge_sequence(judge, old, new, where):
         judge.found.same("lines", old.rows, new.rows, f"{where}, of no body")
         return
     judge.found.same("lines", old.unknown(), new.unknown(), f"{where}: operations that aren't known")
-    # behind code that isn't there no rows are printed up to the next address that is set
+    # after code that isn't there no rows are printed up to the next address that is set
     if not old.rows:
         return
     if judge.found.same("rows", [it.rest for it in old.rows], [it.rest for it in new.rows], f"{where}: all but addresses"):

@@ -75,7 +75,7 @@ def pairs_of(text):
 
 
 def kept_operators(old, new, pairs, new_first):
-    """The operators that pairs are of. One that isn't behind all before it in the source is passed over."""
+    """The operators that pairs are of. One that isn't after all those before it in the source is passed over."""
     kept, gap = [], new_first
     for source, written in sorted(pairs, key=lambda it: it[1]):
         if not kept or source > kept[-1].old:

@@ -40,7 +40,7 @@ class Section:
     end: int
     # of a custom section: its name, and where the bytes after it begin
     name: str = ""
-    behind: int = 0
+    contents_at: int = 0
 
 
 def sections_of(module):
@@ -51,7 +51,7 @@ def sections_of(module):
         section = Section(module[at], at, begin, begin + size)
         if section.kind == CUSTOM:
             length, name = read_number(module, begin)
-            section.name, section.behind = module[name : name + length].decode("utf-8", "replace"), name + length
+            section.name, section.contents_at = module[name : name + length].decode("utf-8", "replace"), name + length
         sections.append(section)
         at = section.end
     return sections
@@ -63,7 +63,7 @@ def is_debug(name):
 
 def debug_sections(module):
     """The sections of DWARF, in order: name and contents."""
-    return [(it.name, bytes(module[it.behind : it.end])) for it in sections_of(module) if it.kind == CUSTOM and is_debug(it.name)]
+    return [(it.name, bytes(module[it.contents_at : it.end])) for it in sections_of(module) if it.kind == CUSTOM and is_debug(it.name)]
 
 
 def with_debug(module, contents):
