@@ -5,9 +5,9 @@ use Rattle.std.specs.List.{AllByRecursion}
 use Rattle.std.proofs.lemmas.Bool.{cases_lt, eq-eqb, ne_eqb, le-leb, lt-leb}
 use Rattle.code_moves.specs.declared.run.Run.{Run}
 use Rattle.code_moves.specs.declared.body.Body.{Body}
-use Rattle.code_moves.specs.Order.{AreRunsOfCode as AreRuns}
+use Rattle.code_moves.specs.Order.{AreRunsOfCode}
 use Rattle.code_moves.specs.OrderedBodies.{AreOrdered}
-use Rattle.code_moves.specs.Moves.{first_gap, new_place as place, new_address_within as within, body_with_address as body_at, new_address, IsWrittenAt as IsWritten}
+use Rattle.code_moves.specs.Moves.{first_gap, new_place, new_address_within as within, body_with_address, new_address, IsWrittenAt}
 use Rattle.code_moves.specs.Laws.{IsOfABody, IsWrittenIn, IsPlace, rows_until}
 use Rattle.code_moves.proofs.BodySearch.{body_ends, has_in, has_before, has_after, body_at_first}
 use Rattle.code_moves.proofs.RunLaws.{gap_from, place_from_gap, place_until_end, place_rises, written_within, place_until, place_past, place_of_runs, run_within, place_at_end, place_inside}
@@ -17,18 +17,18 @@ use Rattle.code_moves.proofs.RunLaws.{gap_from, place_from_gap, place_until_end,
 within_begin : (b : Body) (a : ℕ) → a ≡ b.begin → within b a ≡ b.new_begin
 within_begin b a is = rw (eq-eqb a b.begin is) refl
 
-pub within_after : (b : Body) (a : ℕ) → b.begin < a → within b a ≡ place b.runs.items b.new_end a
+pub within_after : (b : Body) (a : ℕ) → b.begin < a → within b a ≡ new_place b.runs.items b.new_end a
 within_after b a after = rw (ne_eqb a b.begin (λ is. omega arith)) refl
 
 -- at the beginning of the body, or after it
-within_cases : (b : Body) (a : ℕ) → b.begin ≤ a → ((a ≡ b.begin) × (within b a ≡ b.new_begin)) ⊎ ((b.begin < a) × (within b a ≡ place b.runs.items b.new_end a))
+within_cases : (b : Body) (a : ℕ) → b.begin ≤ a → ((a ≡ b.begin) × (within b a ≡ b.new_begin)) ⊎ ((b.begin < a) × (within b a ≡ new_place b.runs.items b.new_end a))
 within_cases b a low = elim (cases_lt b.begin a) [
   | inl after ↦ inr (after, within_after b a after)
   | inr le ↦ inl (omega arith, within_begin b a (omega arith))
 ]
 
 -- the places of a body are in it
-places_within : (b : Body) (a : ℕ) → (suc b.new_begin ≤ place b.runs.items b.new_end a) × (place b.runs.items b.new_end a ≤ b.new_end)
+places_within : (b : Body) (a : ℕ) → (suc b.new_begin ≤ new_place b.runs.items b.new_end a) × (new_place b.runs.items b.new_end a ≤ b.new_end)
 places_within b a =
     let low = gap_from (suc b.begin) (suc b.new_begin) b.runs.items b.end b.new_end b.are_runs in
     let gap = place_from_gap (suc b.begin) (suc b.new_begin) b.runs.items b.end b.new_end b.are_runs a in
@@ -55,13 +55,13 @@ within_rises b a c low le =
           omega arith
     ]
 
-written_in_body : (b : Body) (old own : ℕ) → IsWritten b.runs.items b.new_end old own → (b.begin < old) × (b.new_begin < own) × (own < b.new_end)
+written_in_body : (b : Body) (old own : ℕ) → IsWrittenAt b.runs.items b.new_end old own → (b.begin < old) × (b.new_begin < own) × (own < b.new_end)
 written_in_body b old own written =
     let low = gap_from (suc b.begin) (suc b.new_begin) b.runs.items b.end b.new_end b.are_runs in
     let within = written_within (suc b.begin) (suc b.new_begin) b.runs.items b.end b.new_end b.are_runs old own written in
     (omega arith, omega arith, omega arith)
 
-within_until : (b : Body) (a old own : ℕ) → b.begin ≤ a → IsWritten b.runs.items b.new_end old own → a ≤ old → within b a ≤ own
+within_until : (b : Body) (a old own : ℕ) → b.begin ≤ a → IsWrittenAt b.runs.items b.new_end old own → a ≤ old → within b a ≤ own
 within_until b a old own low written le =
     let ends = written_in_body b old own written in
     let until = place_until (suc b.begin) (suc b.new_begin) b.runs.items b.end b.new_end b.are_runs a old own written le in
@@ -70,7 +70,7 @@ within_until b a old own low written le =
       | inr after ↦ omega arith
     ]
 
-within_past : (b : Body) (a old own : ℕ) → IsWritten b.runs.items b.new_end old own → old < a → own < within b a
+within_past : (b : Body) (a old own : ℕ) → IsWrittenAt b.runs.items b.new_end old own → old < a → own < within b a
 within_past b a old own written lt =
     let ends = written_in_body b old own written in
     let past = place_past (suc b.begin) (suc b.new_begin) b.runs.items b.end b.new_end b.are_runs a old own written lt in
@@ -81,8 +81,8 @@ within_past b a old own written lt =
 
 abbrev pub BodyCases : Body → List Body → (a : ℕ) → Type 0
 BodyCases b bs a =
-    ((b.begin ≤ a) × (a ≤ b.end) × (body_at (b ∷ bs) a ≡ Some b) × (new_address (b ∷ bs) a ≡ within b a))
-    ⊎ ((body_at (b ∷ bs) a ≡ body_at bs a) × (new_address (b ∷ bs) a ≡ new_address bs a))
+    ((b.begin ≤ a) × (a ≤ b.end) × (body_with_address (b ∷ bs) a ≡ Some b) × (new_address (b ∷ bs) a ≡ within b a))
+    ⊎ ((body_with_address (b ∷ bs) a ≡ body_with_address bs a) × (new_address (b ∷ bs) a ≡ new_address bs a))
 
 pub body_cases : (b : Body) (bs : List Body) (a : ℕ) → BodyCases b bs a
 body_cases b bs a = elim (cases_lt a b.begin) [
@@ -134,11 +134,11 @@ addresses_rise from new_from (b ∷ bs) ordered a c of_a of_c le =
 
 -- ---- operators that are written
 
-written_cases : (b : Body) (bs : List Body) (old own : ℕ) → IsWrittenIn (b ∷ bs) old own → ((old ≤ b.end) × IsWritten b.runs.items b.new_end old own) ⊎ IsWrittenIn bs old own
+written_cases : (b : Body) (bs : List Body) (old own : ℕ) → IsWrittenIn (b ∷ bs) old own → ((old ≤ b.end) × IsWrittenAt b.runs.items b.new_end old own) ⊎ IsWrittenIn bs old own
 written_cases b bs old own written = elim (body_cases b bs old) [
   | inl here ↦
       let same : written.0 ≡ b = cc (here.2, written.1) in
-      inl (here.1, subst (λ (c : Body). IsWritten c.runs.items c.new_end old own) same written.2)
+      inl (here.1, subst (λ (c : Body). IsWrittenAt c.runs.items c.new_end old own) same written.2)
   | inr later ↦ inr (written.0, sym later.0 ∙ written.1, written.2)
 ]
 
@@ -233,7 +233,7 @@ rows_stay bs (row ∷ rows) old own ordered of written = elim (cases_lt old row)
 -- ---- the body of an address
 
 -- the address is of the body, and goes where it does in the body
-pub address_in : (bs : List Body) (b : Body) (a : ℕ) → body_at bs a ≡ Some b → (b.begin ≤ a) × (a ≤ b.end) × (new_address bs a ≡ within b a)
+pub address_in : (bs : List Body) (b : Body) (a : ℕ) → body_with_address bs a ≡ Some b → (b.begin ≤ a) × (a ≤ b.end) × (new_address bs a ≡ within b a)
 address_in [] b a of = absurd (cc)
 address_in (c ∷ bs) b a of = elim (body_cases c bs a) [
   | inl here ↦
@@ -244,7 +244,7 @@ address_in (c ∷ bs) b a of = elim (body_cases c bs a) [
       (rest.0, rest.1, later.1 ∙ rest.2)
 ]
 
-body_from : (from new_from : ℕ) (bs : List Body) → AreOrdered from new_from bs → (b : Body) (a : ℕ) → body_at bs a ≡ Some b → from ≤ b.begin
+body_from : (from new_from : ℕ) (bs : List Body) → AreOrdered from new_from bs → (b : Body) (a : ℕ) → body_with_address bs a ≡ Some b → from ≤ b.begin
 body_from from new_from [] ordered b a of = absurd (cc)
 body_from from new_from (d ∷ bs) ordered b a of =
     let first = ordered.0 in
@@ -259,43 +259,43 @@ body_from from new_from (d ∷ bs) ordered b a of =
     ]
 
 -- each address of the body is of it
-pub same_body : (from new_from : ℕ) (bs : List Body) → AreOrdered from new_from bs → (b : Body) (a c : ℕ) → body_at bs a ≡ Some b → b.begin ≤ c → c ≤ b.end → body_at bs c ≡ Some b
+pub same_body : (from new_from : ℕ) (bs : List Body) → AreOrdered from new_from bs → (b : Body) (a c : ℕ) → body_with_address bs a ≡ Some b → b.begin ≤ c → c ≤ b.end → body_with_address bs c ≡ Some b
 same_body from new_from [] ordered b a c of low high = absurd (cc)
 same_body from new_from (d ∷ bs) ordered b a c of low high = elim (body_cases d bs a) [
   | inl here ↦
       let same : b ≡ d = cc (here.2, of) in
-      subst (λ (e : Body). e.begin ≤ c → c ≤ e.end → body_at (d ∷ bs) c ≡ Some e) (sym same) (body_at_first d bs c) low high
+      subst (λ (e : Body). e.begin ≤ c → c ≤ e.end → body_with_address (d ∷ bs) c ≡ Some e) (sym same) (body_at_first d bs c) low high
   | inr later ↦
       let after = body_from (suc d.end) (suc d.new_end) bs ordered.1 b a (sym later.0 ∙ of) in
       let rest = same_body (suc d.end) (suc d.new_end) bs ordered.1 b a c (sym later.0 ∙ of) low high in
       rw (has_after d c (omega arith)) rest
 ]
 
-pub is_place : (bs : List Body) (b : Body) (a : ℕ) → body_at bs a ≡ Some b → IsPlace b a (new_address bs a)
+pub is_place : (bs : List Body) (b : Body) (a : ℕ) → body_with_address bs a ≡ Some b → IsPlace b a (new_address bs a)
 is_place bs b a of =
     let is = address_in bs b a of in
     elim (within_cases b a is.0) [
       | inl begin ↦ inl (is.2 ∙ begin.1)
-      | inr after ↦ inr (subst (λ new. (new ≡ b.new_end) ⊎ (Any (λ r. new ≡ r.gap) b.runs.items ⊎ IsWritten b.runs.items b.new_end a new)) (sym (is.2 ∙ after.1))
+      | inr after ↦ inr (subst (λ new. (new ≡ b.new_end) ⊎ (Any (λ r. new ≡ r.gap) b.runs.items ⊎ IsWrittenAt b.runs.items b.new_end a new)) (sym (is.2 ∙ after.1))
           (place_of_runs (suc b.begin) (suc b.new_begin) b.runs.items b.end b.new_end b.are_runs a))
     ]
 
 -- ---- the end of a run, and operators inside of it
 
 -- an address after the first byte goes where its runs say
-in_runs : (bs : List Body) (b : Body) (a : ℕ) → body_at bs a ≡ Some b → b.begin < a → new_address bs a ≡ place b.runs.items b.new_end a
+in_runs : (bs : List Body) (b : Body) (a : ℕ) → body_with_address bs a ≡ Some b → b.begin < a → new_address bs a ≡ new_place b.runs.items b.new_end a
 in_runs bs b a of after = (address_in bs b a of).2 ∙ within_after b a after
 
-pub run_end : (bs : List Body) (b : Body) (front rs : List Run) (r : Run) → body_at bs r.end ≡ Some b → b.runs.items ≡ front ++ r ∷ rs → new_address bs r.end ≡ first_gap rs b.new_end
+pub run_end : (bs : List Body) (b : Body) (front rs : List Run) (r : Run) → body_with_address bs r.end ≡ Some b → b.runs.items ≡ front ++ r ∷ rs → new_address bs r.end ≡ first_gap rs b.new_end
 run_end bs b front rs r of is =
-    let runs = subst (λ qs. AreRuns (suc b.begin) (suc b.new_begin) qs b.end b.new_end) is b.are_runs in
+    let runs = subst (λ qs. AreRunsOfCode (suc b.begin) (suc b.new_begin) qs b.end b.new_end) is b.are_runs in
     let within = run_within (suc b.begin) (suc b.new_begin) front r rs b.end b.new_end runs in
-    in_runs bs b r.end of (omega arith) ∙ ap (λ qs. place qs b.new_end r.end) is ∙ place_at_end (suc b.begin) (suc b.new_begin) front r rs b.end b.new_end runs
+    in_runs bs b r.end of (omega arith) ∙ ap (λ qs. new_place qs b.new_end r.end) is ∙ place_at_end (suc b.begin) (suc b.new_begin) front r rs b.end b.new_end runs
 
-pub inside_run : (bs : List Body) (b : Body) (front rs : List Run) (r : Run) → AreOrdered 0 0 bs → body_at bs r.end ≡ Some b → b.runs.items ≡ front ++ r ∷ rs
+pub inside_run : (bs : List Body) (b : Body) (front rs : List Run) (r : Run) → AreOrdered 0 0 bs → body_with_address bs r.end ≡ Some b → b.runs.items ≡ front ++ r ∷ rs
     → (a : ℕ) → r.old < a → a < r.end → r.own + (a - r.old) < first_gap rs b.new_end → new_address bs a ≡ r.own + (a - r.old)
 inside_run bs b front rs r ordered of is a after inside below =
-    let runs = subst (λ qs. AreRuns (suc b.begin) (suc b.new_begin) qs b.end b.new_end) is b.are_runs in
+    let runs = subst (λ qs. AreRunsOfCode (suc b.begin) (suc b.new_begin) qs b.end b.new_end) is b.are_runs in
     let within = run_within (suc b.begin) (suc b.new_begin) front r rs b.end b.new_end runs in
-    in_runs bs b a (same_body 0 0 bs ordered b r.end a of (omega arith) (omega arith)) (omega arith) ∙ ap (λ qs. place qs b.new_end a) is
+    in_runs bs b a (same_body 0 0 bs ordered b r.end a of (omega arith) (omega arith)) (omega arith) ∙ ap (λ qs. new_place qs b.new_end a) is
     ∙ place_inside (suc b.begin) (suc b.new_begin) front r rs b.end b.new_end runs a after inside below

@@ -8,7 +8,7 @@ use Rattle.std.proofs.lemmas.Bool.{ltb-true, le-leb, lt-leb}
 use Rattle.std.proofs.lemmas.Bool.Decides.{nat_tests}
 use Rattle.code_moves.specs.declared.body.Body.{Body}
 use Rattle.code_moves.specs.OrderedBodies.{AreOrdered}
-use Rattle.code_moves.specs.Moves.{has_address as has, moved_in, body_with_address as body_at, address_moved as moved, ends_written, ends_written_at}
+use Rattle.code_moves.specs.Moves.{has_address, moved_in, body_with_address, address_moved, ends_written, ends_written_at}
 use Rattle.code_moves.proofs.Bisection.{RiseFrom, rise}
 use Rattle.code_moves.proofs.RunSearch.{runs_end}
 
@@ -29,18 +29,18 @@ ends_rise from new_from bs ordered = rise (λ (b : Body). b.end) from bs (ends_f
 
 -- ---- one body
 
-pub has_in : (b : Body) (a : ℕ) → b.begin ≤ a → a ≤ b.end → has b a ≡ true
+pub has_in : (b : Body) (a : ℕ) → b.begin ≤ a → a ≤ b.end → has_address b a ≡ true
 has_in b a low high = rw (le-leb b.begin a low) (le-leb a b.end high)
 
-pub has_before : (b : Body) (a : ℕ) → a < b.begin → has b a ≡ false
+pub has_before : (b : Body) (a : ℕ) → a < b.begin → has_address b a ≡ false
 has_before b a before = rw (lt-leb b.begin a before) refl
 
-pub has_after : (b : Body) (a : ℕ) → b.end < a → has b a ≡ false
+pub has_after : (b : Body) (a : ℕ) → b.end < a → has_address b a ≡ false
 has_after b a after = grind (arith, nat_tests)
 
 -- ---- the bodies that are passed
 
-pub body_at_passes : (bs : List Body) (a at : ℕ) → AllWithin (λ (b : Body). ltb b.end a ≡ true) bs 0 at → body_at bs a ≡ body_at (drop at bs) a
+pub body_at_passes : (bs : List Body) (a at : ℕ) → AllWithin (λ (b : Body). ltb b.end a ≡ true) bs 0 at → body_with_address bs a ≡ body_with_address (drop at bs) a
 body_at_passes bs a zero by = refl
 body_at_passes [] a (suc at) by = refl
 body_at_passes (b ∷ bs) a (suc at) by =
@@ -49,10 +49,10 @@ body_at_passes (b ∷ bs) a (suc at) by =
 
 -- ---- those that are left
 
-pub body_at_first : (b : Body) (bs : List Body) (a : ℕ) → b.begin ≤ a → a ≤ b.end → body_at (b ∷ bs) a ≡ Some b
+pub body_at_first : (b : Body) (bs : List Body) (a : ℕ) → b.begin ≤ a → a ≤ b.end → body_with_address (b ∷ bs) a ≡ Some b
 body_at_first b bs a low high = rw (has_in b a low high) refl
 
-pub no_body : (from new_from : ℕ) (bs : List Body) → AreOrdered from new_from bs → (a : ℕ) → a < from → body_at bs a ≡ None
+pub no_body : (from new_from : ℕ) (bs : List Body) → AreOrdered from new_from bs → (a : ℕ) → a < from → body_with_address bs a ≡ None
 no_body from new_from [] ordered a before = refl
 no_body from new_from (b ∷ bs) ordered a before =
     let first = ordered.0 in
@@ -74,30 +74,30 @@ ordered_drop from new_from (b ∷ bs) ordered (suc at) =
     ordered_lower from new_from (suc b.end) (suc b.new_end) (drop at bs) (ordered_drop (suc b.end) (suc b.new_end) bs ordered.1 at) (omega arith) (omega arith)
 
 pub no_body_from : (from new_from : ℕ) (bs : List Body) → AreOrdered from new_from bs → (at : ℕ) (b : Body) (rest : List Body) → drop at bs ≡ b ∷ rest → (a : ℕ) → a < b.begin
-    → body_at (b ∷ rest) a ≡ None
+    → body_with_address (b ∷ rest) a ≡ None
 no_body_from from new_from bs ordered at b rest is a before =
     let left = subst (AreOrdered from new_from) is (ordered_drop from new_from bs ordered at) in
     no_body b.begin b.new_begin (b ∷ rest) ((omega arith, omega arith), left.1) a before
 
 -- ---- what the body of an address says of it
 
-moved_by : (b : Body) (bs : List Body) (a : ℕ) (test : Bool) → moved bs a ≡ option_and_then (λ (c : Body). moved_in c a) (body_at bs a) → has b a ≡ test
-    → moved (b ∷ bs) a ≡ option_and_then (λ (c : Body). moved_in c a) (body_at (b ∷ bs) a)
+moved_by : (b : Body) (bs : List Body) (a : ℕ) (test : Bool) → address_moved bs a ≡ option_and_then (λ (c : Body). moved_in c a) (body_with_address bs a) → has_address b a ≡ test
+    → address_moved (b ∷ bs) a ≡ option_and_then (λ (c : Body). moved_in c a) (body_with_address (b ∷ bs) a)
 moved_by b bs a true rest is = rw is (sym (rw is refl))
 moved_by b bs a false rest is = rw is rest
 
-pub moved_of : (bs : List Body) (a : ℕ) → moved bs a ≡ option_and_then (λ (b : Body). moved_in b a) (body_at bs a)
+pub moved_of : (bs : List Body) (a : ℕ) → address_moved bs a ≡ option_and_then (λ (b : Body). moved_in b a) (body_with_address bs a)
 moved_of [] a = refl
-moved_of (b ∷ bs) a = moved_by b bs a (has b a) (moved_of bs a) refl
+moved_of (b ∷ bs) a = moved_by b bs a (has_address b a) (moved_of bs a) refl
 
-written_by : (b : Body) (bs : List Body) (a : ℕ) (test : Bool) → ends_written_at bs a ≡ option_map_or (λ (c : Body). ends_written c.runs.items a) (body_at bs a) false → has b a ≡ test
-    → ends_written_at (b ∷ bs) a ≡ option_map_or (λ (c : Body). ends_written c.runs.items a) (body_at (b ∷ bs) a) false
+written_by : (b : Body) (bs : List Body) (a : ℕ) (test : Bool) → ends_written_at bs a ≡ option_map_or (λ (c : Body). ends_written c.runs.items a) (body_with_address bs a) false → has_address b a ≡ test
+    → ends_written_at (b ∷ bs) a ≡ option_map_or (λ (c : Body). ends_written c.runs.items a) (body_with_address (b ∷ bs) a) false
 written_by b bs a true rest is = rw is refl
 written_by b bs a false rest is = rw is rest
 
-pub written_of : (bs : List Body) (a : ℕ) → ends_written_at bs a ≡ option_map_or (λ (b : Body). ends_written b.runs.items a) (body_at bs a) false
+pub written_of : (bs : List Body) (a : ℕ) → ends_written_at bs a ≡ option_map_or (λ (b : Body). ends_written b.runs.items a) (body_with_address bs a) false
 written_of [] a = refl
-written_of (b ∷ bs) a = written_by b bs a (has b a) (written_of bs a) refl
+written_of (b ∷ bs) a = written_by b bs a (has_address b a) (written_of bs a) refl
 
 -- ---- one more body
 

@@ -4,8 +4,8 @@ use Rattle.std.specs.Prelude.{min, unwrap_or, is_some, nat_lt, nat_le, ◌&&◌,
 use Rattle.std.proofs.lemmas.Bool.{lt-ltb, le-ltb, le-leb, lt-leb, cases_lt}
 use Rattle.std.proofs.lemmas.Bool.Decides.{nat_tests}
 use Rattle.code_moves.specs.declared.run.Run.{Run}
-use Rattle.code_moves.specs.Order.{AreRunsOfCode as AreRuns}
-use Rattle.code_moves.specs.Moves.{first_gap, new_place as place, ends_written, IsWrittenAt as IsWritten}
+use Rattle.code_moves.specs.Order.{AreRunsOfCode}
+use Rattle.code_moves.specs.Moves.{first_gap, new_place, ends_written, IsWrittenAt}
 use Rattle.code_moves.proofs.RunSearch.{runs_end, place_before, place_in, place_after}
 use Rattle.code_moves.proofs.RunLaws.{place_cases, run_within}
 
@@ -23,8 +23,8 @@ none_of (Some x) is = absurd (cc)
 
 -- ---- the end moves on
 
-pub runs_longer : (from new_from : ℕ) (rs : List Run) (end new_end : ℕ) → AreRuns from new_from rs end new_end → (more new_more : ℕ) → end ≤ more → new_end ≤ new_more
-    → AreRuns from new_from rs more new_more
+pub runs_longer : (from new_from : ℕ) (rs : List Run) (end new_end : ℕ) → AreRunsOfCode from new_from rs end new_end → (more new_more : ℕ) → end ≤ more → new_end ≤ new_more
+    → AreRunsOfCode from new_from rs more new_more
 runs_longer from new_from [] end new_end runs more new_more le new_le = (omega arith, omega arith)
 runs_longer from new_from (r ∷ rs) end new_end runs more new_more le new_le = (runs.0, runs_longer r.end (suc r.own) rs end new_end runs.1 more new_more le new_le)
 
@@ -32,7 +32,7 @@ gap_longer : (rs : List Run) (new_end more : ℕ) → new_end ≤ more → first
 gap_longer [] new_end more le = le
 gap_longer (r ∷ rs) new_end more le = omega arith
 
-pub written_longer : (rs : List Run) (new_end more old own : ℕ) → new_end ≤ more → IsWritten rs new_end old own → IsWritten rs more old own
+pub written_longer : (rs : List Run) (new_end more old own : ℕ) → new_end ≤ more → IsWrittenAt rs new_end old own → IsWrittenAt rs more old own
 written_longer [] new_end more old own le none = none
 written_longer (r ∷ rs) new_end more old own le (inl here) =
     let gap = gap_longer rs new_end more le in
@@ -40,12 +40,12 @@ written_longer (r ∷ rs) new_end more old own le (inl here) =
 written_longer (r ∷ rs) new_end more old own le (inr later) = inr (written_longer rs new_end more old own le later)
 
 -- an operator that is written is in a run, whose gap stays
-gap_same : (rs : List Run) (new_end more old own : ℕ) → IsWritten rs new_end old own → first_gap rs more ≡ first_gap rs new_end
+gap_same : (rs : List Run) (new_end more old own : ℕ) → IsWrittenAt rs new_end old own → first_gap rs more ≡ first_gap rs new_end
 gap_same [] new_end more old own none = elim none [ ]
 gap_same (r ∷ rs) new_end more old own written = refl
 
-pub place_longer : (from new_from : ℕ) (rs : List Run) (end new_end : ℕ) → AreRuns from new_from rs end new_end → (more old own a : ℕ) → new_end ≤ more → IsWritten rs new_end old own → a ≤ old
-    → place rs more a ≡ place rs new_end a
+pub place_longer : (from new_from : ℕ) (rs : List Run) (end new_end : ℕ) → AreRunsOfCode from new_from rs end new_end → (more old own a : ℕ) → new_end ≤ more → IsWrittenAt rs new_end old own → a ≤ old
+    → new_place rs more a ≡ new_place rs new_end a
 place_longer from new_from [] end new_end runs more old own a le none until = elim none [ ]
 place_longer from new_from (r ∷ rs) end new_end runs more old own a le (inl here) until =
     let first = runs.0 in
@@ -63,12 +63,12 @@ place_longer from new_from (r ∷ rs) end new_end runs more old own a le (inr la
     elim (place_cases r rs new_end a first.0.1) [
       | inl before ↦ place_before r rs more a before.0 ∙ sym before.1
       | inr (inl inside) ↦ place_in r rs more a inside.0 inside.1 ∙ ap (min (r.own + (a - r.old))) gap ∙ sym inside.2
-      | inr (inr behind) ↦ place_after r rs more a first.0.1 behind.0 ∙ place_longer r.end (suc r.own) rs end new_end runs.1 more old own a le later until ∙ sym behind.1
+      | inr (inr past) ↦ place_after r rs more a first.0.1 past.0 ∙ place_longer r.end (suc r.own) rs end new_end runs.1 more old own a le later until ∙ sym past.1
     ]
 
 -- ---- a run is added
 
-pub runs_append : (from new_from : ℕ) (rs : List Run) (r : Run) → AreRuns from new_from rs r.old r.gap → r.old < r.end → r.gap ≤ r.own → AreRuns from new_from (rs ++ r ∷ []) r.end (suc r.own)
+pub runs_append : (from new_from : ℕ) (rs : List Run) (r : Run) → AreRunsOfCode from new_from rs r.old r.gap → r.old < r.end → r.gap ≤ r.own → AreRunsOfCode from new_from (rs ++ r ∷ []) r.end (suc r.own)
 runs_append from new_from [] r runs some le = (((runs.0, some), (runs.1, le)), (omega arith, omega arith))
 runs_append from new_from (q ∷ rs) r runs some le = (runs.0, runs_append q.end (suc q.own) rs r runs.1 some le)
 
@@ -76,44 +76,44 @@ gap_append : (rs : List Run) (r : Run) (new_end : ℕ) → first_gap (rs ++ r �
 gap_append [] r new_end = refl
 gap_append (q ∷ rs) r new_end = refl
 
-pub written_append : (rs : List Run) (r : Run) (new_end old own : ℕ) → IsWritten rs r.gap old own → IsWritten (rs ++ r ∷ []) new_end old own
+pub written_append : (rs : List Run) (r : Run) (new_end old own : ℕ) → IsWrittenAt rs r.gap old own → IsWrittenAt (rs ++ r ∷ []) new_end old own
 written_append [] r new_end old own none = elim none [ ]
 written_append (q ∷ rs) r new_end old own (inl here) = inl (here.0, here.1, here.2, subst (λ g. own < g) (sym (gap_append rs r new_end)) here.3)
 written_append (q ∷ rs) r new_end old own (inr later) = inr (written_append rs r new_end old own later)
 
 -- the first operator of a last run is written
-pub first_written : (rs : List Run) (r : Run) (new_end old own : ℕ) → r.old ≤ old → old < r.end → own ≡ r.own + (old - r.old) → own < new_end → IsWritten (rs ++ r ∷ []) new_end old own
+pub first_written : (rs : List Run) (r : Run) (new_end old own : ℕ) → r.old ≤ old → old < r.end → own ≡ r.own + (old - r.old) → own < new_end → IsWrittenAt (rs ++ r ∷ []) new_end old own
 first_written [] r new_end old own low high is lt = inl (low, high, is, lt)
 first_written (q ∷ rs) r new_end old own low high is lt = inr (first_written rs r new_end old own low high is lt)
 
-pub place_append : (from new_from : ℕ) (rs : List Run) (r : Run) → AreRuns from new_from rs r.old r.gap → (new_end a : ℕ) → a ≤ r.old → place (rs ++ r ∷ []) new_end a ≡ place rs r.gap a
+pub place_append : (from new_from : ℕ) (rs : List Run) (r : Run) → AreRunsOfCode from new_from rs r.old r.gap → (new_end a : ℕ) → a ≤ r.old → new_place (rs ++ r ∷ []) new_end a ≡ new_place rs r.gap a
 place_append from new_from [] r runs new_end a le = place_before r [] new_end a le
 place_append from new_from (q ∷ rs) r runs new_end a le =
     let first = runs.0 in
     elim (place_cases q rs r.gap a first.0.1) [
       | inl before ↦ place_before q (rs ++ r ∷ []) new_end a before.0 ∙ sym before.1
       | inr (inl inside) ↦ place_in q (rs ++ r ∷ []) new_end a inside.0 inside.1 ∙ ap (min (q.own + (a - q.old))) (gap_append rs r new_end) ∙ sym inside.2
-      | inr (inr behind) ↦ place_after q (rs ++ r ∷ []) new_end a first.0.1 behind.0 ∙ place_append q.end (suc q.own) rs r runs.1 new_end a le ∙ sym behind.1
+      | inr (inr past) ↦ place_after q (rs ++ r ∷ []) new_end a first.0.1 past.0 ∙ place_append q.end (suc q.own) rs r runs.1 new_end a le ∙ sym past.1
     ]
 
 -- after all runs
-pub place_behind : (from new_from : ℕ) (rs : List Run) (end new_end : ℕ) → AreRuns from new_from rs end new_end → (a : ℕ) → end ≤ a → place rs new_end a ≡ new_end
-place_behind from new_from [] end new_end runs a le = refl
-place_behind from new_from (r ∷ rs) end new_end runs a le =
+pub place_after_end : (from new_from : ℕ) (rs : List Run) (end new_end : ℕ) → AreRunsOfCode from new_from rs end new_end → (a : ℕ) → end ≤ a → new_place rs new_end a ≡ new_end
+place_after_end from new_from [] end new_end runs a le = refl
+place_after_end from new_from (r ∷ rs) end new_end runs a le =
     let last = runs_end r.end (suc r.own) rs end new_end runs.1 in
-    place_after r rs new_end a runs.0.0.1 (omega arith) ∙ place_behind r.end (suc r.own) rs end new_end runs.1 a le
+    place_after r rs new_end a runs.0.0.1 (omega arith) ∙ place_after_end r.end (suc r.own) rs end new_end runs.1 a le
 
 ends_first : (r : Run) (a : ℕ) → ends_written (r ∷ []) a ≡ (nat_lt r.old a && nat_le a r.end)
 ends_first r a = grind (arith, nat_tests)
 
-pub ends_append : (from new_from : ℕ) (rs : List Run) (r : Run) → AreRuns from new_from rs r.old r.gap → (a : ℕ) → ends_written (rs ++ r ∷ []) a ≡ (ends_written rs a || (nat_lt r.old a && nat_le a r.end))
+pub ends_append : (from new_from : ℕ) (rs : List Run) (r : Run) → AreRunsOfCode from new_from rs r.old r.gap → (a : ℕ) → ends_written (rs ++ r ∷ []) a ≡ (ends_written rs a || (nat_lt r.old a && nat_le a r.end))
 ends_append from new_from [] r runs a = ends_first r a
 ends_append from new_from (q ∷ rs) r runs a =
     let first = runs.0 in
     let last = runs_end q.end (suc q.own) rs r.old r.gap runs.1 in
     elim (cases_lt q.old a) [
       | inl after ↦ elim (cases_lt q.end a) [
-        | inl behind ↦ rw (lt-ltb q.old a after, lt-leb a q.end behind) (ends_append q.end (suc q.own) rs r runs.1 a)
+        | inl past ↦ rw (lt-ltb q.old a after, lt-leb a q.end past) (ends_append q.end (suc q.own) rs r runs.1 a)
         | inr inside ↦ rw (lt-ltb q.old a after, le-leb a q.end inside) refl
       ]
       | inr before ↦ rw (le-ltb q.old a before, le-ltb r.old a (omega arith)) refl
@@ -125,8 +125,8 @@ ends_append from new_from (q ∷ rs) r runs a =
 abbrev pub longer : Run → (end : ℕ) → Run
 longer r more = record r { end = more }
 
-pub runs_extend : (from new_from : ℕ) (front : List Run) (r : Run) (end new_end : ℕ) → AreRuns from new_from (front ++ r ∷ []) end new_end → (more new_more : ℕ) → r.end ≤ more → new_end ≤ new_more
-    → AreRuns from new_from (front ++ longer r more ∷ []) more new_more
+pub runs_extend : (from new_from : ℕ) (front : List Run) (r : Run) (end new_end : ℕ) → AreRunsOfCode from new_from (front ++ r ∷ []) end new_end → (more new_more : ℕ) → r.end ≤ more → new_end ≤ new_more
+    → AreRunsOfCode from new_from (front ++ longer r more ∷ []) more new_more
 runs_extend from new_from [] r end new_end runs more new_more le new_le = ((((runs.0.0.0, omega arith), runs.0.1)), (omega arith, omega arith))
 runs_extend from new_from (q ∷ front) r end new_end runs more new_more le new_le = (runs.0, runs_extend q.end (suc q.own) front r end new_end runs.1 more new_more le new_le)
 
@@ -134,14 +134,14 @@ gap_extend : (front : List Run) (r : Run) (more new_end : ℕ) → first_gap (fr
 gap_extend [] r more new_end = refl
 gap_extend (q ∷ front) r more new_end = refl
 
-pub written_extend : (front : List Run) (r : Run) (more new_end old own : ℕ) → r.end ≤ more → IsWritten (front ++ r ∷ []) new_end old own → IsWritten (front ++ longer r more ∷ []) new_end old own
+pub written_extend : (front : List Run) (r : Run) (more new_end old own : ℕ) → r.end ≤ more → IsWrittenAt (front ++ r ∷ []) new_end old own → IsWrittenAt (front ++ longer r more ∷ []) new_end old own
 written_extend [] r more new_end old own le (inl here) = inl (here.0, omega arith, here.2, here.3)
 written_extend [] r more new_end old own le (inr none) = elim none [ ]
 written_extend (q ∷ front) r more new_end old own le (inl here) = inl (here.0, here.1, here.2, subst (λ g. own < g) (sym (gap_extend front r more new_end)) here.3)
 written_extend (q ∷ front) r more new_end old own le (inr later) = inr (written_extend front r more new_end old own le later)
 
-pub place_extend : (from new_from : ℕ) (front : List Run) (r : Run) (end end2 : ℕ) → AreRuns from new_from (front ++ r ∷ []) end end2 → (more new_end a : ℕ) → r.end ≤ more → a < r.end
-    → place (front ++ longer r more ∷ []) new_end a ≡ place (front ++ r ∷ []) new_end a
+pub place_extend : (from new_from : ℕ) (front : List Run) (r : Run) (end end2 : ℕ) → AreRunsOfCode from new_from (front ++ r ∷ []) end end2 → (more new_end a : ℕ) → r.end ≤ more → a < r.end
+    → new_place (front ++ longer r more ∷ []) new_end a ≡ new_place (front ++ r ∷ []) new_end a
 place_extend from new_from [] r end end2 runs more new_end a le lt = elim (cases_lt r.old a) [
   | inl after ↦ place_in (longer r more) [] new_end a after (omega arith) ∙ sym (place_in r [] new_end a after lt)
   | inr before ↦ place_before (longer r more) [] new_end a before ∙ sym (place_before r [] new_end a before)
@@ -150,14 +150,14 @@ place_extend from new_from (q ∷ front) r end end2 runs more new_end a le lt =
     elim (place_cases q (front ++ r ∷ []) new_end a runs.0.0.1) [
       | inl before ↦ place_before q (front ++ longer r more ∷ []) new_end a before.0 ∙ sym before.1
       | inr (inl inside) ↦ place_in q (front ++ longer r more ∷ []) new_end a inside.0 inside.1 ∙ ap (min (q.own + (a - q.old))) (gap_extend front r more new_end) ∙ sym inside.2
-      | inr (inr behind) ↦ place_after q (front ++ longer r more ∷ []) new_end a runs.0.0.1 behind.0
-          ∙ place_extend q.end (suc q.own) front r end end2 runs.1 more new_end a le lt ∙ sym behind.1
+      | inr (inr past) ↦ place_after q (front ++ longer r more ∷ []) new_end a runs.0.0.1 past.0
+          ∙ place_extend q.end (suc q.own) front r end end2 runs.1 more new_end a le lt ∙ sym past.1
     ]
 
 ends_longer : (r : Run) (more a : ℕ) → r.old < r.end → r.end ≤ more → ends_written (longer r more ∷ []) a ≡ (ends_written (r ∷ []) a || (nat_lt r.end a && nat_le a more))
 ends_longer r more a some le = grind (arith, nat_tests)
 
-pub ends_extend : (from new_from : ℕ) (front : List Run) (r : Run) (end new_end : ℕ) → AreRuns from new_from (front ++ r ∷ []) end new_end → (more a : ℕ) → r.end ≤ more
+pub ends_extend : (from new_from : ℕ) (front : List Run) (r : Run) (end new_end : ℕ) → AreRunsOfCode from new_from (front ++ r ∷ []) end new_end → (more a : ℕ) → r.end ≤ more
     → ends_written (front ++ longer r more ∷ []) a ≡ (ends_written (front ++ r ∷ []) a || (nat_lt r.end a && nat_le a more))
 ends_extend from new_from [] r end new_end runs more a le = ends_longer r more a runs.0.0.1 le
 ends_extend from new_from (q ∷ front) r end new_end runs more a le =
@@ -165,7 +165,7 @@ ends_extend from new_from (q ∷ front) r end new_end runs more a le =
     let within = run_within q.end (suc q.own) front r [] end new_end runs.1 in
     elim (cases_lt q.old a) [
       | inl after ↦ elim (cases_lt q.end a) [
-        | inl behind ↦ rw (lt-ltb q.old a after, lt-leb a q.end behind) (ends_extend q.end (suc q.own) front r end new_end runs.1 more a le)
+        | inl past ↦ rw (lt-ltb q.old a after, lt-leb a q.end past) (ends_extend q.end (suc q.own) front r end new_end runs.1 more a le)
         | inr inside ↦ rw (lt-ltb q.old a after, le-leb a q.end inside) refl
       ]
       | inr before ↦ rw (le-ltb q.old a before, le-ltb r.end a (omega arith)) refl

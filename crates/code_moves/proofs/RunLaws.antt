@@ -3,33 +3,33 @@ use Rattle.std.proofs.Common.{inl, inr, ◌≡◌, ℕ, suc, ◌+◌, ◌-◌, �
 use Rattle.std.specs.Prelude.{min, ◌⊎◌, Any}
 use Rattle.std.proofs.lemmas.Bool.{cases_lt}
 use Rattle.code_moves.specs.declared.run.Run.{Run}
-use Rattle.code_moves.specs.Order.{AreRunsOfCode as AreRuns}
-use Rattle.code_moves.specs.Moves.{first_gap, new_place as place, IsWrittenAt as IsWritten}
+use Rattle.code_moves.specs.Order.{AreRunsOfCode}
+use Rattle.code_moves.specs.Moves.{first_gap, new_place, IsWrittenAt}
 use Rattle.code_moves.proofs.RunSearch.{runs_end, place_before, place_in, place_after}
 
 -- before the run's second byte, inside of it, or after it
 abbrev pub PlaceCases : Run → List Run → (new_end a : ℕ) → Type 0
 PlaceCases r rs new_end a =
-    ((a ≤ r.old) × (place (r ∷ rs) new_end a ≡ r.gap))
-    ⊎ (((r.old < a) × (a < r.end) × (place (r ∷ rs) new_end a ≡ min (r.own + (a - r.old)) (first_gap rs new_end)))
-    ⊎ ((r.end ≤ a) × (place (r ∷ rs) new_end a ≡ place rs new_end a)))
+    ((a ≤ r.old) × (new_place (r ∷ rs) new_end a ≡ r.gap))
+    ⊎ (((r.old < a) × (a < r.end) × (new_place (r ∷ rs) new_end a ≡ min (r.own + (a - r.old)) (first_gap rs new_end)))
+    ⊎ ((r.end ≤ a) × (new_place (r ∷ rs) new_end a ≡ new_place rs new_end a)))
 
 pub place_cases : (r : Run) (rs : List Run) (new_end a : ℕ) → r.old < r.end → PlaceCases r rs new_end a
 place_cases r rs new_end a some = elim (cases_lt r.old a) [
   | inr before ↦ inl (before, place_before r rs new_end a before)
   | inl after ↦ elim (cases_lt a r.end) [
     | inl inside ↦ inr (inl (after, inside, place_in r rs new_end a after inside))
-    | inr behind ↦ inr (inr (behind, place_after r rs new_end a some behind))
+    | inr past ↦ inr (inr (past, place_after r rs new_end a some past))
   ]
 ]
 
 -- ---- the ends, the first gap, and the places after it
 
-pub gap_from : (from new_from : ℕ) (rs : List Run) (end new_end : ℕ) → AreRuns from new_from rs end new_end → new_from ≤ first_gap rs new_end
+pub gap_from : (from new_from : ℕ) (rs : List Run) (end new_end : ℕ) → AreRunsOfCode from new_from rs end new_end → new_from ≤ first_gap rs new_end
 gap_from from new_from [] end new_end runs = runs.1
 gap_from from new_from (r ∷ rs) end new_end runs = runs.0.1.0
 
-pub place_from_gap : (from new_from : ℕ) (rs : List Run) (end new_end : ℕ) → AreRuns from new_from rs end new_end → (a : ℕ) → first_gap rs new_end ≤ place rs new_end a
+pub place_from_gap : (from new_from : ℕ) (rs : List Run) (end new_end : ℕ) → AreRunsOfCode from new_from rs end new_end → (a : ℕ) → first_gap rs new_end ≤ new_place rs new_end a
 place_from_gap from new_from [] end new_end runs a = omega arith
 place_from_gap from new_from (r ∷ rs) end new_end runs a =
     let first = runs.0 in
@@ -38,10 +38,10 @@ place_from_gap from new_from (r ∷ rs) end new_end runs a =
     elim (place_cases r rs new_end a first.0.1) [
       | inl before ↦ omega arith
       | inr (inl inside) ↦ omega arith
-      | inr (inr behind) ↦ omega arith
+      | inr (inr past) ↦ omega arith
     ]
 
-pub place_until_end : (from new_from : ℕ) (rs : List Run) (end new_end : ℕ) → AreRuns from new_from rs end new_end → (a : ℕ) → place rs new_end a ≤ new_end
+pub place_until_end : (from new_from : ℕ) (rs : List Run) (end new_end : ℕ) → AreRunsOfCode from new_from rs end new_end → (a : ℕ) → new_place rs new_end a ≤ new_end
 place_until_end from new_from [] end new_end runs a = omega arith
 place_until_end from new_from (r ∷ rs) end new_end runs a =
     let first = runs.0 in
@@ -51,12 +51,12 @@ place_until_end from new_from (r ∷ rs) end new_end runs a =
     elim (place_cases r rs new_end a first.0.1) [
       | inl before ↦ omega arith
       | inr (inl inside) ↦ omega arith
-      | inr (inr behind) ↦ omega arith
+      | inr (inr past) ↦ omega arith
     ]
 
 -- ---- places are in order
 
-pub place_rises : (from new_from : ℕ) (rs : List Run) (end new_end : ℕ) → AreRuns from new_from rs end new_end → (a c : ℕ) → a ≤ c → place rs new_end a ≤ place rs new_end c
+pub place_rises : (from new_from : ℕ) (rs : List Run) (end new_end : ℕ) → AreRunsOfCode from new_from rs end new_end → (a c : ℕ) → a ≤ c → new_place rs new_end a ≤ new_place rs new_end c
 place_rises from new_from [] end new_end runs a c le = omega arith
 place_rises from new_from (r ∷ rs) end new_end runs a c le =
     let first = runs.0 in
@@ -69,7 +69,7 @@ place_rises from new_from (r ∷ rs) end new_end runs a c le =
 
 -- ---- operators that are written
 
-pub written_within : (from new_from : ℕ) (rs : List Run) (end new_end : ℕ) → AreRuns from new_from rs end new_end → (old own : ℕ) → IsWritten rs new_end old own
+pub written_within : (from new_from : ℕ) (rs : List Run) (end new_end : ℕ) → AreRunsOfCode from new_from rs end new_end → (old own : ℕ) → IsWrittenAt rs new_end old own
     → (from ≤ old) × (first_gap rs new_end ≤ own) × (own < new_end) × (old < end)
 written_within from new_from [] end new_end runs old own none = elim none [ ]
 written_within from new_from (r ∷ rs) end new_end runs old own (inl here) =
@@ -84,14 +84,14 @@ written_within from new_from (r ∷ rs) end new_end runs old own (inr later) =
     let rest = written_within r.end (suc r.own) rs end new_end runs.1 old own later in
     (omega arith, omega arith, omega arith, omega arith)
 
-pub place_until : (from new_from : ℕ) (rs : List Run) (end new_end : ℕ) → AreRuns from new_from rs end new_end → (a old own : ℕ) → IsWritten rs new_end old own → a ≤ old → place rs new_end a ≤ own
+pub place_until : (from new_from : ℕ) (rs : List Run) (end new_end : ℕ) → AreRunsOfCode from new_from rs end new_end → (a old own : ℕ) → IsWrittenAt rs new_end old own → a ≤ old → new_place rs new_end a ≤ own
 place_until from new_from [] end new_end runs a old own none le = elim none [ ]
 place_until from new_from (r ∷ rs) end new_end runs a old own (inl here) le =
     let first = runs.0 in
     elim (place_cases r rs new_end a first.0.1) [
       | inl before ↦ omega arith
       | inr (inl inside) ↦ omega arith
-      | inr (inr behind) ↦ absurd (omega arith)
+      | inr (inr past) ↦ absurd (omega arith)
     ]
 place_until from new_from (r ∷ rs) end new_end runs a old own (inr later) le =
     let first = runs.0 in
@@ -101,10 +101,10 @@ place_until from new_from (r ∷ rs) end new_end runs a old own (inr later) le =
     elim (place_cases r rs new_end a first.0.1) [
       | inl before ↦ omega arith
       | inr (inl inside) ↦ omega arith
-      | inr (inr behind) ↦ omega arith
+      | inr (inr past) ↦ omega arith
     ]
 
-pub place_past : (from new_from : ℕ) (rs : List Run) (end new_end : ℕ) → AreRuns from new_from rs end new_end → (a old own : ℕ) → IsWritten rs new_end old own → old < a → own < place rs new_end a
+pub place_past : (from new_from : ℕ) (rs : List Run) (end new_end : ℕ) → AreRunsOfCode from new_from rs end new_end → (a old own : ℕ) → IsWrittenAt rs new_end old own → old < a → own < new_place rs new_end a
 place_past from new_from [] end new_end runs a old own none lt = elim none [ ]
 place_past from new_from (r ∷ rs) end new_end runs a old own (inl here) lt =
     let first = runs.0 in
@@ -112,7 +112,7 @@ place_past from new_from (r ∷ rs) end new_end runs a old own (inl here) lt =
     elim (place_cases r rs new_end a first.0.1) [
       | inl before ↦ absurd (omega arith)
       | inr (inl inside) ↦ omega arith
-      | inr (inr behind) ↦ omega arith
+      | inr (inr past) ↦ omega arith
     ]
 place_past from new_from (r ∷ rs) end new_end runs a old own (inr later) lt =
     let first = runs.0 in
@@ -121,7 +121,7 @@ place_past from new_from (r ∷ rs) end new_end runs a old own (inr later) lt =
     elim (place_cases r rs new_end a first.0.1) [
       | inl before ↦ absurd (omega arith)
       | inr (inl inside) ↦ absurd (omega arith)
-      | inr (inr behind) ↦ omega arith
+      | inr (inr past) ↦ omega arith
     ]
 
 -- ---- what is at a place
@@ -138,7 +138,7 @@ is_later_gap : (r : Run) (rs : List Run) (new : ℕ) → IsGap rs new → IsGap 
 is_later_gap r rs new gap = (suc gap.0, gap.1, omega arith, gap.3, gap.4)
 
 abbrev pub IsPlaceOfRuns : List Run → (new_end a new : ℕ) → Type 0
-IsPlaceOfRuns rs new_end a new = (new ≡ new_end) ⊎ (IsGap rs new ⊎ IsWritten rs new_end a new)
+IsPlaceOfRuns rs new_end a new = (new ≡ new_end) ⊎ (IsGap rs new ⊎ IsWrittenAt rs new_end a new)
 
 at_gap : (r : Run) (rs : List Run) (new_end a new : ℕ) → new ≡ first_gap rs new_end → IsPlaceOfRuns (r ∷ rs) new_end a new
 at_gap r rs new_end a new is = elim (is_first_gap rs new_end new is) [
@@ -157,24 +157,24 @@ later_place r rs new_end a new (inl end) = inl end
 later_place r rs new_end a new (inr (inl gap)) = inr (inl (is_later_gap r rs new gap))
 later_place r rs new_end a new (inr (inr written)) = inr (inr (inr written))
 
-pub place_of_runs : (from new_from : ℕ) (rs : List Run) (end new_end : ℕ) → AreRuns from new_from rs end new_end → (a : ℕ) → IsPlaceOfRuns rs new_end a (place rs new_end a)
+pub place_of_runs : (from new_from : ℕ) (rs : List Run) (end new_end : ℕ) → AreRunsOfCode from new_from rs end new_end → (a : ℕ) → IsPlaceOfRuns rs new_end a (new_place rs new_end a)
 place_of_runs from new_from [] end new_end runs a = inl refl
 place_of_runs from new_from (r ∷ rs) end new_end runs a =
     elim (place_cases r rs new_end a runs.0.0.1) [
       | inl before ↦ inr (inl (0, r, omega arith, refl, before.1))
-      | inr (inl inside) ↦ in_run r rs new_end a (place (r ∷ rs) new_end a) inside.0 inside.1 inside.2
-      | inr (inr behind) ↦ subst (IsPlaceOfRuns (r ∷ rs) new_end a) (sym behind.1) (later_place r rs new_end a (place rs new_end a) (place_of_runs r.end (suc r.own) rs end new_end runs.1 a))
+      | inr (inl inside) ↦ in_run r rs new_end a (new_place (r ∷ rs) new_end a) inside.0 inside.1 inside.2
+      | inr (inr past) ↦ subst (IsPlaceOfRuns (r ∷ rs) new_end a) (sym past.1) (later_place r rs new_end a (new_place rs new_end a) (place_of_runs r.end (suc r.own) rs end new_end runs.1 a))
     ]
 
 -- ---- a run in the middle: its end, and operators inside of it
 
-place_at_from : (from new_from : ℕ) (rs : List Run) (end new_end : ℕ) → AreRuns from new_from rs end new_end → (a : ℕ) → a ≤ from → place rs new_end a ≡ first_gap rs new_end
+place_at_from : (from new_from : ℕ) (rs : List Run) (end new_end : ℕ) → AreRunsOfCode from new_from rs end new_end → (a : ℕ) → a ≤ from → new_place rs new_end a ≡ first_gap rs new_end
 place_at_from from new_from [] end new_end runs a le = refl
 place_at_from from new_from (r ∷ rs) end new_end runs a le =
     let first = runs.0 in
     place_before r rs new_end a (omega arith)
 
-pub run_within : (from new_from : ℕ) (front : List Run) (r : Run) (rs : List Run) (end new_end : ℕ) → AreRuns from new_from (front ++ r ∷ rs) end new_end → (from ≤ r.old) × (r.old < r.end) × (r.end ≤ end) × (r.own < new_end)
+pub run_within : (from new_from : ℕ) (front : List Run) (r : Run) (rs : List Run) (end new_end : ℕ) → AreRunsOfCode from new_from (front ++ r ∷ rs) end new_end → (from ≤ r.old) × (r.old < r.end) × (r.end ≤ end) × (r.own < new_end)
 run_within from new_from [] r rs end new_end runs =
     let first = runs.0 in
     let last = runs_end r.end (suc r.own) rs end new_end runs.1 in
@@ -184,16 +184,16 @@ run_within from new_from (q ∷ front) r rs end new_end runs =
     let rest = run_within q.end (suc q.own) front r rs end new_end runs.1 in
     (omega arith, omega arith, omega arith, omega arith)
 
-pub place_at_end : (from new_from : ℕ) (front : List Run) (r : Run) (rs : List Run) (end new_end : ℕ) → AreRuns from new_from (front ++ r ∷ rs) end new_end
-    → place (front ++ r ∷ rs) new_end r.end ≡ first_gap rs new_end
+pub place_at_end : (from new_from : ℕ) (front : List Run) (r : Run) (rs : List Run) (end new_end : ℕ) → AreRunsOfCode from new_from (front ++ r ∷ rs) end new_end
+    → new_place (front ++ r ∷ rs) new_end r.end ≡ first_gap rs new_end
 place_at_end from new_from [] r rs end new_end runs =
     place_after r rs new_end r.end runs.0.0.1 (omega arith) ∙ place_at_from r.end (suc r.own) rs end new_end runs.1 r.end (omega arith)
 place_at_end from new_from (q ∷ front) r rs end new_end runs =
     let within = run_within q.end (suc q.own) front r rs end new_end runs.1 in
     place_after q (front ++ r ∷ rs) new_end r.end runs.0.0.1 (omega arith) ∙ place_at_end q.end (suc q.own) front r rs end new_end runs.1
 
-pub place_inside : (from new_from : ℕ) (front : List Run) (r : Run) (rs : List Run) (end new_end : ℕ) → AreRuns from new_from (front ++ r ∷ rs) end new_end
-    → (a : ℕ) → r.old < a → a < r.end → r.own + (a - r.old) < first_gap rs new_end → place (front ++ r ∷ rs) new_end a ≡ r.own + (a - r.old)
+pub place_inside : (from new_from : ℕ) (front : List Run) (r : Run) (rs : List Run) (end new_end : ℕ) → AreRunsOfCode from new_from (front ++ r ∷ rs) end new_end
+    → (a : ℕ) → r.old < a → a < r.end → r.own + (a - r.old) < first_gap rs new_end → new_place (front ++ r ∷ rs) new_end a ≡ r.own + (a - r.old)
 place_inside from new_from [] r rs end new_end runs a after inside below =
     let is = place_in r rs new_end a after inside in
     omega arith

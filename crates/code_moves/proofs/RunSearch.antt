@@ -7,20 +7,20 @@ use Rattle.std.proofs.lemmas.Bool.{leb-true, ltb-true, le-leb, lt-leb, lt-ltb, l
 use Rattle.std.proofs.lemmas.Bool.Decides.{nat_tests}
 use lib.Dec.{leb}
 use Rattle.code_moves.specs.declared.run.Run.{Run}
-use Rattle.code_moves.specs.Order.{AreRunsOfCode as AreRuns}
-use Rattle.code_moves.specs.Moves.{first_gap, new_place as place, ends_written}
+use Rattle.code_moves.specs.Order.{AreRunsOfCode}
+use Rattle.code_moves.specs.Moves.{first_gap, new_place, ends_written}
 use Rattle.code_moves.proofs.Bisection.{RiseFrom, rise}
 
-ends_from : (from new_from : ℕ) (rs : List Run) (end new_end : ℕ) → AreRuns from new_from rs end new_end → RiseFrom (λ (r : Run). r.end) from rs
+ends_from : (from new_from : ℕ) (rs : List Run) (end new_end : ℕ) → AreRunsOfCode from new_from rs end new_end → RiseFrom (λ (r : Run). r.end) from rs
 ends_from from new_from [] end new_end runs = tt
 ends_from from new_from (r ∷ rs) end new_end runs =
     let first = runs.0 in
     (omega arith, ends_from r.end (suc r.own) rs end new_end runs.1)
 
-pub ends_rise : (from new_from : ℕ) (rs : List Run) (end new_end : ℕ) → AreRuns from new_from rs end new_end → IsNonDecreasingBy (λ (r : Run). r.end) rs
+pub ends_rise : (from new_from : ℕ) (rs : List Run) (end new_end : ℕ) → AreRunsOfCode from new_from rs end new_end → IsNonDecreasingBy (λ (r : Run). r.end) rs
 ends_rise from new_from rs end new_end runs = rise (λ (r : Run). r.end) from rs (ends_from from new_from rs end new_end runs)
 
-pub runs_end : (from new_from : ℕ) (rs : List Run) (end new_end : ℕ) → AreRuns from new_from rs end new_end → (from ≤ end) × (new_from ≤ new_end)
+pub runs_end : (from new_from : ℕ) (rs : List Run) (end new_end : ℕ) → AreRunsOfCode from new_from rs end new_end → (from ≤ end) × (new_from ≤ new_end)
 runs_end from new_from [] end new_end runs = runs
 runs_end from new_from (r ∷ rs) end new_end runs =
     let first = runs.0 in
@@ -29,26 +29,26 @@ runs_end from new_from (r ∷ rs) end new_end runs =
 
 -- ---- one run
 
-pub place_before : (r : Run) (rs : List Run) (new_end a : ℕ) → a ≤ r.old → place (r ∷ rs) new_end a ≡ r.gap
+pub place_before : (r : Run) (rs : List Run) (new_end a : ℕ) → a ≤ r.old → new_place (r ∷ rs) new_end a ≡ r.gap
 place_before r rs new_end a le = rw (le-leb a r.old le) refl
 
-pub place_in : (r : Run) (rs : List Run) (new_end a : ℕ) → r.old < a → a < r.end → place (r ∷ rs) new_end a ≡ min (r.own + (a - r.old)) (first_gap rs new_end)
+pub place_in : (r : Run) (rs : List Run) (new_end a : ℕ) → r.old < a → a < r.end → new_place (r ∷ rs) new_end a ≡ min (r.own + (a - r.old)) (first_gap rs new_end)
 place_in r rs new_end a low high = rw (lt-leb a r.old low, lt-ltb a r.end high) refl
 
-pub place_after : (r : Run) (rs : List Run) (new_end a : ℕ) → r.old < r.end → r.end ≤ a → place (r ∷ rs) new_end a ≡ place rs new_end a
+pub place_after : (r : Run) (rs : List Run) (new_end a : ℕ) → r.old < r.end → r.end ≤ a → new_place (r ∷ rs) new_end a ≡ new_place rs new_end a
 place_after r rs new_end a some le = rw (lt-leb a r.old (omega arith), le-ltb a r.end le) refl
 
 -- ---- the runs that are passed
 
-pub place_passes : (from new_from : ℕ) (rs : List Run) (end new_end : ℕ) → AreRuns from new_from rs end new_end → (a at : ℕ) → AllWithin (λ (r : Run). leb r.end a ≡ true) rs 0 at
-    → place rs new_end a ≡ place (drop at rs) new_end a
+pub place_passes : (from new_from : ℕ) (rs : List Run) (end new_end : ℕ) → AreRunsOfCode from new_from rs end new_end → (a at : ℕ) → AllWithin (λ (r : Run). leb r.end a ≡ true) rs 0 at
+    → new_place rs new_end a ≡ new_place (drop at rs) new_end a
 place_passes from new_from rs end new_end runs a zero by = refl
 place_passes from new_from [] end new_end runs a (suc at) by = refl
 place_passes from new_from (r ∷ rs) end new_end runs a (suc at) by =
     place_after r rs new_end a runs.0.0.1 (leb-true r.end a (by 0 r (omega arith) (omega arith)))
     ∙ place_passes r.end (suc r.own) rs end new_end runs.1 a at (λ k d low high. by (suc k) d (omega arith) (omega arith))
 
-pub ends_written_passes : (from new_from : ℕ) (rs : List Run) (end new_end : ℕ) → AreRuns from new_from rs end new_end → (a at : ℕ) → AllWithin (λ (r : Run). ltb r.end a ≡ true) rs 0 at
+pub ends_written_passes : (from new_from : ℕ) (rs : List Run) (end new_end : ℕ) → AreRunsOfCode from new_from rs end new_end → (a at : ℕ) → AllWithin (λ (r : Run). ltb r.end a ≡ true) rs 0 at
     → ends_written rs a ≡ ends_written (drop at rs) a
 ends_written_passes from new_from rs end new_end runs a zero by = refl
 ends_written_passes from new_from [] end new_end runs a (suc at) by = refl

@@ -4,7 +4,7 @@ use Rattle.code_moves.specs.declared.body.Body.{Body}
 use Rattle.code_moves.specs.declared.body.LocalMove.{LocalMove}
 use Rattle.code_moves.specs.declared.run.Run.{Run}
 use Rattle.code_moves.specs.declared.runs.Runs.{Runs}
-use Rattle.code_moves.specs.Moves.{new_place as place, ends_written, IsWrittenAt as IsWritten}
+use Rattle.code_moves.specs.Moves.{new_place, ends_written, IsWrittenAt}
 
 -- where that begins at the earliest which is added in front of the next operator of the source
 abbrev pub limit : Runs → ℕ
@@ -12,11 +12,11 @@ limit built = unwrap_or built.added (suc built.last)
 
 -- The operator of the source at the first address is written at the second.
 abbrev pub IsWrittenSoFar : Runs → (old own : ℕ) → Type 0
-IsWrittenSoFar built old own = IsWritten built.runs.items (limit built) old own
+IsWrittenSoFar built old own = IsWrittenAt built.runs.items (limit built) old own
 
 -- where an address of the source goes, so far
 abbrev pub place_so_far : Runs → (address : ℕ) → ℕ
-place_so_far built a = place built.runs.items (limit built) a
+place_so_far built a = new_place built.runs.items (limit built) a
 
 -- the same body
 abbrev pub IsOfSameBody : (before after : Runs) → Type 0
@@ -70,5 +70,5 @@ pub record IsBodyOf (built : Runs) (end new_end parameters : ℕ) (locals : List
 
 -- Each operator that was pushed is where it is written, and an address up to it goes where it went.
 pub record KeepsInBody (built : Runs) (b : Body) : Type 0 where
-  pub written : (old own : ℕ) → IsWrittenSoFar built old own → IsWritten b.runs.items b.new_end old own
-  pub places : (old own a : ℕ) → IsWrittenSoFar built old own → a ≤ old → place b.runs.items b.new_end a ≡ place_so_far built a
+  pub written : (old own : ℕ) → IsWrittenSoFar built old own → IsWrittenAt b.runs.items b.new_end old own
+  pub places : (old own a : ℕ) → IsWrittenSoFar built old own → a ≤ old → new_place b.runs.items b.new_end a ≡ place_so_far built a

@@ -5,15 +5,15 @@ use Rattle.std.specs.List.{AllByRecursion}
 use Rattle.code_moves.specs.declared.run.Run.{Run}
 use Rattle.code_moves.specs.declared.body.Body.{Body}
 use Rattle.code_moves.specs.OrderedBodies.{AreOrdered}
-use Rattle.code_moves.specs.Moves.{first_gap, body_with_address as body_at, new_address, IsWrittenAt as IsWritten}
+use Rattle.code_moves.specs.Moves.{first_gap, body_with_address, new_address, IsWrittenAt}
 
 -- an address of some body
 abbrev pub IsOfABody : List Body → (address : ℕ) → Type 0
-IsOfABody bs a = (b : Body) × (body_at bs a ≡ Some b)
+IsOfABody bs a = (b : Body) × (body_with_address bs a ≡ Some b)
 
 -- an operator of some body is written
 abbrev pub IsWrittenIn : List Body → (old own : ℕ) → Type 0
-IsWrittenIn bs old own = (b : Body) × (body_at bs old ≡ Some b) × IsWritten b.runs.items b.new_end old own
+IsWrittenIn bs old own = (b : Body) × (body_with_address bs old ≡ Some b) × IsWrittenAt b.runs.items b.new_end old own
 
 -- The order of addresses stays.
 abbrev pub Sorted : Type 0
@@ -38,14 +38,14 @@ Rows = (bs : List Body) (rows : List ℕ) (old own : ℕ) → AreOrdered 0 0 bs 
 -- the beginning or the end of the body, where what is added in front of the first operator of a run begins, or an operator that is
 -- written itself
 abbrev pub IsPlace : Body → (address new : ℕ) → Type 0
-IsPlace b a new = (new ≡ b.new_begin) ⊎ ((new ≡ b.new_end) ⊎ (Any (λ r. new ≡ r.gap) b.runs.items ⊎ IsWritten b.runs.items b.new_end a new))
+IsPlace b a new = (new ≡ b.new_begin) ⊎ ((new ≡ b.new_end) ⊎ (Any (λ r. new ≡ r.gap) b.runs.items ⊎ IsWrittenAt b.runs.items b.new_end a new))
 
 abbrev pub Places : Type 0
-Places = (bs : List Body) (b : Body) (a : ℕ) → body_at bs a ≡ Some b → IsPlace b a (new_address bs a)
+Places = (bs : List Body) (b : Body) (a : ℕ) → body_with_address bs a ≡ Some b → IsPlace b a (new_address bs a)
 
 -- The end of the last operator of a run goes to the end of what is written for it; that of another one to the operator after it.
 abbrev pub Calls : Type 0
-Calls = (bs : List Body) (b : Body) (front rs : List Run) (r : Run) → AreOrdered 0 0 bs → body_at bs r.end ≡ Some b
+Calls = (bs : List Body) (b : Body) (front rs : List Run) (r : Run) → AreOrdered 0 0 bs → body_with_address bs r.end ≡ Some b
     → b.runs.items ≡ front ++ r ∷ rs
     → (new_address bs r.end ≡ first_gap rs b.new_end)
     × ((a : ℕ) → r.old < a → a < r.end → r.own + (a - r.old) < first_gap rs b.new_end → new_address bs a ≡ r.own + (a - r.old))

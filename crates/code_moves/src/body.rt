@@ -1,7 +1,7 @@
 //! The body of a function, before and after it is written anew.
 
 ghost use Rattle.std.specs.Prelude.{suc, ◌↔◌, IsTrue};
-ghost use Rattle.code_moves.specs.Order.{AreRunsOfCode as AreRuns, AreRuns-prop, AreLocals, AreLocals-prop};
+ghost use Rattle.code_moves.specs.Order.{AreRunsOfCode, AreRuns-prop, AreLocals, AreLocals-prop};
 
 use crate::run::Run;
 
@@ -46,13 +46,13 @@ pub struct Body {
     /// The declared locals that are kept, by ascending index in the source.
     pub locals: Vec<LocalMove>,
     // A body has at least the count of its declarations in front of its operators.
-    pub ghost are_runs: { AreRuns (suc begin) (suc new_begin) runs.items end new_end } by { AreRuns-prop (suc begin) (suc new_begin) runs.items end new_end },
+    pub ghost are_runs: { AreRunsOfCode (suc begin) (suc new_begin) runs.items end new_end } by { AreRuns-prop (suc begin) (suc new_begin) runs.items end new_end },
     pub ghost are_locals: { AreLocals parameters locals.items } by { AreLocals-prop parameters locals.items },
 }
 
 impl Body {
     ghost use Rattle.std.specs.Prelude.{◌≡◌, drop};
-    ghost use Rattle.code_moves.specs.Moves.{new_place as place, moved_in, first_gap, ends_written, new_local_in as local_in};
+    ghost use Rattle.code_moves.specs.Moves.{new_place, moved_in, first_gap, ends_written, new_local_in};
 
     // Where the first of the runs from this index on begins, with what is added in front of it, or else the new end.
     fn gap_from(&self, index: usize) -> u64
@@ -66,7 +66,7 @@ impl Body {
 
     // Where an address goes that is after the first byte.
     fn place(&self, address: u32) -> u64
-        ensures { result ≡ place self.now.runs.items self.now.new_end address }
+        ensures { result ≡ new_place self.now.runs.items self.now.new_end address }
     {
         let index = self.runs.partition_point(|run| run.end <= address);
         let Some(run) = self.runs.get(index) else {
@@ -108,7 +108,7 @@ impl Body {
     /// The new index of the local of this index, or None if it isn't kept. Takes time logarithmic in the number of
     /// declared locals that are.
     pub fn local(&self, local: u64) -> Option<u32>
-        ensures { result ≡ local_in self.now local }
+        ensures { result ≡ new_local_in self.now local }
     {
         if local < u64::from(self.parameters) {
             return Some(local as u32);

@@ -9,8 +9,6 @@ mod laws;
 mod moves;
 mod run;
 mod runs;
-#[cfg(test)]
-mod tests;
 
 pub use body::{Body, LocalMove};
 pub use fault::MoveError;

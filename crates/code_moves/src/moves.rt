@@ -16,7 +16,7 @@ pub struct Moves {
 impl Moves {
     ghost use Rattle.std.specs.Prelude.{◌≡◌, ◌++◌, ◌∷◌, [], ◌↔◌, IsTrue, Err, OnOk, OnErr};
     ghost use Rattle.std.specs.Option.{option_copied};
-    ghost use Rattle.code_moves.specs.Moves.{address_moved as moved, body_with_address as body_at, ends_written_at};
+    ghost use Rattle.code_moves.specs.Moves.{address_moved, body_with_address, ends_written_at};
     ghost use Rattle.code_moves.specs.declared.fault.MoveError.TheVariants.{Disordered};
 
     /// The moves of a module without bodies. This allocates nothing.
@@ -58,7 +58,7 @@ impl Moves {
 
     /// The body that this address is of. Takes time logarithmic in the number of bodies.
     pub fn body(&self, address: u64) -> Option<&Body>
-        ensures { option_copied result ≡ body_at self.now.bodies.items address }
+        ensures { option_copied result ≡ body_with_address self.now.bodies.items address }
     {
         let index = self
             .bodies
@@ -71,7 +71,7 @@ impl Moves {
 
     /// Where this address goes, or None if it is of no body. Takes time logarithmic in the numbers of bodies and runs.
     pub fn address(&self, address: u64) -> Option<u64>
-        ensures { result ≡ moved self.now.bodies.items address }
+        ensures { result ≡ address_moved self.now.bodies.items address }
     {
         self.body(address)?.address(address)
     }

@@ -1,4 +1,4 @@
-//! Runs of operators that are written as they were, one behind the other.
+//! Runs of operators that are written as they were, one after the other.
 
 /// Operators of the source that are written one after the other, with nothing left out or added between them, each but the
 /// last in as many bytes as it had.

@@ -1,7 +1,7 @@
 //! The runs of a body, from its operators as they are written.
 
 ghost use Rattle.std.specs.Prelude.{suc, ◌≤◌, unwrap_or};
-ghost use Rattle.code_moves.specs.Order.{AreRunsOfCode as AreRuns, AreRuns-prop};
+ghost use Rattle.code_moves.specs.Order.{AreRunsOfCode, AreRuns-prop};
 
 use crate::body::{Body, LocalMove, are_locals};
 use crate::fault::MoveError;
@@ -24,14 +24,14 @@ pub struct Runs {
     begin: u32,
     /// That in what is written.
     new_begin: u32,
-    ghost are_runs: { AreRuns (suc begin) (suc new_begin) runs.items (suc source) (unwrap_or added (suc last)) } by { AreRuns-prop (suc begin) (suc new_begin) runs.items (suc source) (unwrap_or added (suc last)) },
+    ghost are_runs: { AreRunsOfCode (suc begin) (suc new_begin) runs.items (suc source) (unwrap_or added (suc last)) } by { AreRuns-prop (suc begin) (suc new_begin) runs.items (suc source) (unwrap_or added (suc last)) },
     ghost added_by_last: { unwrap_or added (suc last) ≤ suc last },
 }
 
 impl Runs {
     ghost use Rattle.std.specs.Prelude.{◌≡◌, ◌<◌, ◌⊎◌, ◌↔◌, [], ℕ, None, Some, Err, OnOk, OnErr, IsOk, IfOk, IfErr, IfSome};
     ghost use Rattle.code_moves.specs.Order.{AreLocals};
-    ghost use Rattle.code_moves.specs.Building.{limit, IsWrittenSoFar, place_so_far, IsOfSameBody, KeepsOfCode as Keeps, IsAddedNext, IsWrittenNext, IsTheSame, FollowsOfCode as Follows, IsBodyOf, KeepsInBody};
+    ghost use Rattle.code_moves.specs.Building.{limit, IsWrittenSoFar, place_so_far, IsOfSameBody, KeepsOfCode, IsAddedNext, IsWrittenNext, IsTheSame, FollowsOfCode, IsBodyOf, KeepsInBody};
     ghost use Rattle.code_moves.specs.declared.fault.MoveError.TheVariants.{Disordered};
 
     /// No operators yet of a body whose first byte is at `begin` in the source and at `new_begin` in what is written. This
@@ -59,7 +59,7 @@ impl Runs {
     /// as they were then.
     pub fn push_added(&mut self, own: u32) -> Result<(), MoveError>
         ensures added { OnOk result (IsAddedNext self.old self.new own) }
-        ensures keeps { Keeps self.old self.new }
+        ensures keeps { KeepsOfCode self.old self.new }
         ensures body { IsOfSameBody self.old self.new }
         ensures err { OnErr result (self.new ≡ self.old) }
         ensures disordered { result ≡ Err Disordered ↔ own ≤ self.old.last }
@@ -76,7 +76,7 @@ impl Runs {
     fn longer(&self, old: u32, end: u32, own: u32) -> Option<Run>
         requires old { self.now.source < old }
         requires own { self.now.last < own }
-        ensures { IfSome result (λ run. Follows self.now old end own run) }
+        ensures { IfSome result (λ run. FollowsOfCode self.now old end own run) }
     {
         let last = self.runs.last()?;
         if self.added.is_some() || last.end != old || own - last.own != old - last.old {
@@ -95,7 +95,7 @@ impl Runs {
     pub fn push(&mut self, old: u32, end: u32, own: u32) -> Result<(), MoveError>
         ensures written { self.old.source < old → OnOk result (IsWrittenNext self.old self.new old end own) }
         ensures added { old ≤ self.old.source → OnOk result (IsAddedNext self.old self.new own) }
-        ensures keeps { OnOk result (Keeps self.old self.new) }
+        ensures keeps { OnOk result (KeepsOfCode self.old self.new) }
         ensures body { IsOfSameBody self.old self.new }
         ensures err { OnErr result (IsTheSame self.old self.new) }
         ensures disordered { result ≡ Err Disordered ↔ ((own ≤ self.old.last) ⊎ (end ≤ old)) }

@@ -9,7 +9,3 @@ pub mod ChangeLaws
 -- what a reader takes
 pub mod Local
 pub mod Shorter
--- what is read of bytes in front of others
-pub mod Framing
-
--- what a reader takes

@@ -1,23 +1,19 @@
 -- Readers that read the bytes that they take as the same value, whatever follows these.
-use Rattle.std.proofs.Common.{◌≡◌, ℕ, zero, suc, ◌+◌, ◌-◌, ◌<◌, ◌≤◌, Bool, true, false, cond, eqb, ltb, leb, slice_index, List, [], ◌∷◌, ◌++◌, length, take, drop, Option, Some, None, Result, Ok, Err, refl, sym, ap, subst, ◌∙◌, append_assoc, arith, inl, inr, length-append}
+use Rattle.std.proofs.Common.{◌≡◌, ℕ, zero, suc, ◌-◌, ◌<◌, ◌≤◌, Bool, true, false, cond, ltb, leb, List, [], ◌∷◌, ◌++◌, length, take, drop, Option, Some, None, Result, Ok, Err, refl, sym, ap, subst, ◌∙◌, append_assoc, arith, inl, inr, length-append}
 use Rattle.std.proofs.Math.Seq.{take-append_seam, drop-append_seam}
 use Rattle.std.proofs.lemmas.Bool.{le-leb, leb-true}
 use Rattle.std.proofs.lemmas.List.{take-append-drop, length-take}
 use Rattle.wasm_numbers.proofs.Agreement.{chosen}
 use Rattle.wasm_numbers.proofs.ResultLemmas.{bind_ok, with_fault_ok, ok_same}
-use Rattle.wasm_numbers.specs.Numbers.{Encoding, integer, last_byte, byte, as_bits, bits, u64, s64, unsigned as an_unsigned, signed as a_signed}
-use Rattle.wasm_numbers.specs.Reading.{made, many}
+use Rattle.wasm_numbers.specs.Numbers.{Encoding, integer, last_byte, byte, as_bits, bits, u64, s64, unsigned, signed}
+use Rattle.wasm_numbers.specs.Reading.{many}
 use Rattle.wasm_numbers.specs.Results.{◌>>=◌, with_fault}
 use Rattle.wasm_numbers.specs.declared.fault.ReadFault.{ReadFault}
 use Rattle.wasm_numbers.specs.declared.fault.ReadFault.TheVariants.{BadNumber}
 use Rattle.dwarf_bytes.specs.declared.fault.DebugFault.{DebugFault}
-use Rattle.dwarf_bytes.specs.declared.fault.DebugFault.TheVariants.{Truncated, BadLength}
-use Rattle.dwarf_bytes.specs.Faults.{debug_fault_of as fault_of}
-use Rattle.dwarf_bytes.specs.Numbers.{fixed_number as fixed, unsigned_leb as unsigned, signed_leb as signed, part_and_rest as parts}
-
--- a reader with faults of any kind
-abbrev pub AnyReader : (A E : Type 0) → Type 0
-AnyReader A E = List ℕ → Result (A × List ℕ) E
+use Rattle.dwarf_bytes.specs.declared.fault.DebugFault.TheVariants.{BadLength}
+use Rattle.dwarf_bytes.specs.Faults.{debug_fault_of}
+use Rattle.dwarf_bytes.specs.Numbers.{fixed_number, unsigned_leb, signed_leb, part_and_rest as parts}
 
 -- The bytes begin with a text that is read as this value, whatever follows it.
 pub record Takes {A E : Type 0} (one : List ℕ → Result (A × List ℕ) E) (bytes : List ℕ) (x : A) (rest : List ℕ) : Type 0 where
@@ -126,14 +122,14 @@ integer_local e bits = record { takes = integer_takes e bits }
 
 -- ---- numbers of DWARF
 
-pub fixed_local : (count : ℕ) → IsLocal (fixed count)
-fixed_local count = with_fault_local fault_of (bits count) (bits_local count)
+pub fixed_local : (count : ℕ) → IsLocal (fixed_number count)
+fixed_local count = with_fault_local debug_fault_of (bits count) (bits_local count)
 
-pub unsigned_local : IsLocal unsigned
-unsigned_local = with_fault_local fault_of u64 (integer_local an_unsigned 64)
+pub unsigned_local : IsLocal unsigned_leb
+unsigned_local = with_fault_local debug_fault_of u64 (integer_local unsigned 64)
 
-pub signed_local : IsLocal signed
-signed_local = with_fault_local fault_of s64 (integer_local a_signed 64)
+pub signed_local : IsLocal signed_leb
+signed_local = with_fault_local debug_fault_of s64 (integer_local signed 64)
 
 -- ---- parts
 
@@ -162,7 +158,7 @@ parts_local count = record { takes = parts_takes } where
 
 -- ---- how many bytes are left
 
-shorter_by : (text rest : List ℕ) (bytes : List ℕ) → (text ≡ [] → ⊥) → bytes ≡ text ++ rest → length rest < length bytes
+pub shorter_by : (text rest : List ℕ) (bytes : List ℕ) → (text ≡ [] → ⊥) → bytes ≡ text ++ rest → length rest < length bytes
 shorter_by [] rest bytes some split = absurd (some refl)
 shorter_by (b ∷ text) rest bytes some split = omega (arith, ap length split, length-append text rest)
 

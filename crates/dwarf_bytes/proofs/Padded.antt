@@ -6,8 +6,8 @@ use Rattle.std.proofs.Math.Pow.{pow_mono}
 use Rattle.wasm_numbers.proofs.Powers.{pow_split}
 use Rattle.wasm_numbers.specs.Numbers.{integer, unsigned}
 use Rattle.wasm_numbers.specs.Results.{with_fault}
-use Rattle.dwarf_bytes.specs.Faults.{debug_fault_of as fault_of}
-use Rattle.dwarf_bytes.specs.Numbers.{unsigned_leb as unsigned_number}
+use Rattle.dwarf_bytes.specs.Faults.{debug_fault_of}
+use Rattle.dwarf_bytes.specs.Numbers.{unsigned_leb}
 use Rattle.dwarf_bytes.specs.Writing.{leb, padded}
 
 one_byte : (bits value : ℕ) (following : List ℕ) → value < 128 → value < 2 ^ bits → integer unsigned bits (value ∷ following) ≡ Ok (value, following)
@@ -44,8 +44,8 @@ leb_read (suc more) bits width value following low high fits =
           rw f (more_bytes bits (value % 128) (value / 128) _ following (omega arith) wide rest ∙ ap (λ n. Ok (n, following)) (parts_of value))
     ]
 
-pub padded_read : (width value : ℕ) (following : List ℕ) → value < 2 ^ 64 → unsigned_number (padded width value ++ following) ≡ Ok (value, following)
-padded_read width value following h = ap (with_fault fault_of) (leb_read 9 64 width value following (omega arith) (omega arith) h)
+pub padded_read : (width value : ℕ) (following : List ℕ) → value < 2 ^ 64 → unsigned_leb (padded width value ++ following) ≡ Ok (value, following)
+padded_read width value following h = ap (with_fault debug_fault_of) (leb_read 9 64 width value following (omega arith) (omega arith) h)
 
 pub leb_width : (more width value : ℕ) → 0 < width → width ≤ suc more → value < 128 ^ width → length (leb more width value) ≡ width
 unfolding leb

@@ -3,7 +3,7 @@ use Rattle.std.proofs.Common.{◌≡◌, ℕ, zero, suc, ◌+◌, ◌-◌, ◌<�
 use Rattle.std.proofs.lemmas.Bool.{le-leb, lt-leb, leb-true, leb-false}
 use Rattle.std.specs.List.Sorted.{IsNonDecreasingBy, IsPartitionPoint}
 use Rattle.std.proofs.lemmas.List.{take-append-le, drop-append-le, drop_at, take_all, length-drop, length-take, length-take-le, get_or-take, drop_more, drop_all}
-use Rattle.dwarf_bytes.specs.Changes.{SectionChange as Change, AreChangesInOrder as AreInOrder, end_from, patched_from, moved_offset_from as moved_from}
+use Rattle.dwarf_bytes.specs.Changes.{SectionChange, AreChangesInOrder, end_from, patched_from, moved_offset_from}
 use Rattle.dwarf_bytes.specs.declared.patches.Patch.{Patch}
 use Rattle.dwarf_bytes.specs.Order.{IsCut, IsPatchFrom, ArePatches, no_patch, last_of}
 use Rattle.dwarf_bytes.specs.Patches.{changes_from}
@@ -26,10 +26,10 @@ pub end_is : (p : Patch) (ps : List Patch) (bytes : List ℕ) (len : ℕ) → Fo
 end_is p [] bytes len h = refl
 end_is p (q ∷ ps) bytes len h = ap (λ (n : ℕ). end_from n (changes_from q.end ps bytes)) (stop_is p q h.0) ∙ end_is q ps bytes len h.1
 
-pub in_order : (p : Patch) (ps : List Patch) (bytes : List ℕ) (len : ℕ) → Follow p ps len → AreInOrder p.stop (changes_from p.end ps bytes)
+pub in_order : (p : Patch) (ps : List Patch) (bytes : List ℕ) (len : ℕ) → Follow p ps len → AreChangesInOrder p.stop (changes_from p.end ps bytes)
 in_order p [] bytes len h = tt
 in_order p (q ∷ ps) bytes len h =
-    (h.0.0.0, subst (λ (n : ℕ). AreInOrder n (changes_from q.end ps bytes)) (sym (stop_is p q h.0)) (in_order q ps bytes len h.1))
+    (h.0.0.0, subst (λ (n : ℕ). AreChangesInOrder n (changes_from q.end ps bytes)) (sym (stop_is p q h.0)) (in_order q ps bytes len h.1))
 
 -- all that the bytes have is added by the patches
 pub start_within : (p : Patch) (ps : List Patch) (len : ℕ) → Follow p ps len → p.end ≤ len
@@ -66,7 +66,7 @@ range_after bytes new =
     let few : length new ≤ length (bytes ++ new) - length bytes = omega (arith, length-append bytes new) in
     rw (drop_at bytes new (length bytes) refl) (take_all (length (bytes ++ new) - length bytes) new few)
 
-abbrev change_of : Patch → List ℕ → Change
+abbrev change_of : Patch → List ℕ → SectionChange
 change_of q new = record { at = q.at; old = q.stop - q.at; new = new }
 
 pub changes_more : (p : Patch) (ps : List Patch) (q : Patch) (bytes new : List ℕ) → Follow p ps (length bytes) → q.end ≡ length (bytes ++ new)
@@ -97,7 +97,7 @@ stops_sorted p (q ∷ ps) len h (suc i) (suc j) d up below =
 cut_rest : (q : Patch) (ps : List Patch) (offset count : ℕ) → IsCut (q ∷ ps) offset (suc count) → IsCut ps offset count
 cut_rest q ps offset count c = record {
   before = λ i d low. c.before (suc i) d (omega arith);
-  behind = λ i d high low. c.behind (suc i) d (omega arith) (omega arith);
+  after = λ i d high low. c.after (suc i) d (omega arith) (omega arith);
   within = omega (arith, c.within);
 }
 
@@ -106,11 +106,11 @@ length-range bytes from to up within = omega (arith, length-take (to - from) (dr
 
 -- how many bytes are added up to an offset, and how many replaced, is known of the last patch before it
 pub moved_is : (p : Patch) (ps : List Patch) (bytes : List ℕ) (offset count : ℕ) → Follow p ps (length bytes) → p.replaced ≤ p.stop → p.stop ≤ offset → IsCut ps offset count
-    → let last = last_of p (take count ps) in (offset - last.replaced) + last.end ≡ moved_from p.stop (changes_from p.end ps bytes) offset + ((p.stop - p.replaced) + p.end)
+    → let last = last_of p (take count ps) in (offset - last.replaced) + last.end ≡ moved_offset_from p.stop (changes_from p.end ps bytes) offset + ((p.stop - p.replaced) + p.end)
 moved_is p [] bytes offset zero h less reached cut = omega arith
 moved_is p [] bytes offset (suc count) h less reached cut = absurd (omega (arith, cut.within))
 moved_is p (q ∷ ps) bytes offset zero h less reached cut =
-    let past : offset < q.stop = cut.behind 0 q (omega arith) (omega arith) in
+    let past : offset < q.stop = cut.after 0 q (omega arith) (omega arith) in
     let k = stop_is p q h.0 in
     let no : leb (q.at + (q.stop - q.at)) offset ≡ false = lt-leb _ _ (omega arith) in
     rw no (omega arith)
@@ -120,7 +120,7 @@ moved_is p (q ∷ ps) bytes offset (suc count) h less reached cut =
     let yes : leb (q.at + (q.stop - q.at)) offset ≡ true = le-leb _ _ (omega arith) in
     let later = moved_is q ps bytes offset count h.1 (omega (arith, h.0)) here (cut_rest q ps offset count cut) in
     let len = length-range bytes p.end q.end (omega (arith, h.0)) (start_within q ps (length bytes) h.1) in
-    let same = ap (λ (n : ℕ). moved_from n (changes_from q.end ps bytes) offset) k in
+    let same = ap (λ (n : ℕ). moved_offset_from n (changes_from q.end ps bytes) offset) k in
     rw yes (omega (arith, h.0, later, len, same))
 
 -- ---- what becomes of a section
@@ -133,7 +133,7 @@ pub no_changes : (start : ℕ) (ps : List Patch) (bytes : List ℕ) → changes_
 no_changes start [] bytes e = refl
 no_changes start (p ∷ ps) bytes e = absurd cc
 
--- Patches are applied one after the other: what is written, and what becomes of the section behind it, is the whole.
+-- Patches are applied one after the other: what is written, and what becomes of the section after it, is the whole.
 pub record Applied (left : List Patch) (whole bytes section out : List ℕ) (from start : ℕ) : Type 0 where
   pub last : Patch
   pub from_is : last.stop ≡ from
@@ -207,7 +207,7 @@ sorted ps len h i j d up below = (stops_sorted no_patch ps len h i j d up below)
 pub cut_from : (ps : List Patch) (offset count : ℕ) → IsPartitionPoint (λ p. leb (stop_of p) offset ≡ true) (λ p. leb (stop_of p) offset ≡ false) ps count → count ≤ length ps → IsCut ps offset count
 cut_from ps offset count point few = record {
   before = λ i d low. leb-true (stop_of (get_or ps i d)) offset (point.0 i d (omega arith) low);
-  behind = λ i d high low. leb-false (stop_of (get_or ps i d)) offset (point.1 i d high low);
+  after = λ i d high low. leb-false (stop_of (get_or ps i d)) offset (point.1 i d high low);
   within = few;
 }
 
@@ -238,5 +238,5 @@ less_before ps len offset count h cut =
     omega (arith, less, stop)
 
 pub moved_before : (ps : List Patch) (bytes : List ℕ) (offset count : ℕ) → Follow no_patch ps (length bytes) → IsCut ps offset count
-    → let last = last_of no_patch (take count ps) in moved_from 0 (changes_from 0 ps bytes) offset ≡ (offset - last.replaced) + last.end
+    → let last = last_of no_patch (take count ps) in moved_offset_from 0 (changes_from 0 ps bytes) offset ≡ (offset - last.replaced) + last.end
 moved_before ps bytes offset count h cut = let is = moved_is no_patch ps bytes offset count h (omega arith) (omega arith) cut in omega (arith, is)

@@ -31,5 +31,5 @@ last_of p (q ∷ ps) = last_of q ps
 -- the first patches, of this number, end at this offset or before it, and no others do
 pub record IsCut (ps : List Patch) (offset count : ℕ) : Type 0 where
   pub before : (i : ℕ) (d : Patch) → i < count → (slice_index_or ps i d).stop ≤ offset
-  pub behind : (i : ℕ) (d : Patch) → count ≤ i → i < length ps → offset < (slice_index_or ps i d).stop
+  pub after : (i : ℕ) (d : Patch) → count ≤ i → i < length ps → offset < (slice_index_or ps i d).stop
   pub within : count ≤ length ps

@@ -1,7 +1,7 @@
 -- Numbers as they are written.
 use Rattle.std.specs.Prelude.{◌≡◌, ℕ, zero, suc, ◌+◌, ◌-◌, ◌/◌, ◌%◌, ◌^◌, ◌<◌, ◌≤◌, ◌&&◌, List, [], ◌∷◌, ◌++◌, length, Ok, nat_lt, nat_le, if◌then◌else◌}
 use Rattle.dwarf_bytes.specs.declared.size.Size.{Size}
-use Rattle.dwarf_bytes.specs.Numbers.{size_in_bytes as bytes_of, fixed_number as fixed, unsigned_leb as unsigned}
+use Rattle.dwarf_bytes.specs.Numbers.{size_in_bytes, fixed_number, unsigned_leb}
 
 -- a number as this many bytes
 abbrev pub fixed_bytes : (count value : ℕ) → List ℕ
@@ -23,11 +23,11 @@ padded = leb 9
 
 -- What is written of a number is read as this number.
 abbrev pub Sized : Type 0
-Sized = (size : Size) (value : ℕ) (following : List ℕ) → value < 256 ^ bytes_of size
-    → fixed (bytes_of size) (fixed_bytes (bytes_of size) value ++ following) ≡ Ok (value, following)
+Sized = (size : Size) (value : ℕ) (following : List ℕ) → value < 256 ^ size_in_bytes size
+    → fixed_number (size_in_bytes size) (fixed_bytes (size_in_bytes size) value ++ following) ≡ Ok (value, following)
 
 abbrev pub Padded : Type 0
-Padded = (width value : ℕ) (following : List ℕ) → value < 2 ^ 64 → unsigned (padded width value ++ following) ≡ Ok (value, following)
+Padded = (width value : ℕ) (following : List ℕ) → value < 2 ^ 64 → unsigned_leb (padded width value ++ following) ≡ Ok (value, following)
 
 -- The width is kept where the number fits it.
 abbrev pub KeepsWidth : Type 0

@@ -33,12 +33,13 @@ pub struct Address {
 }
 
 impl AddressTable<'_> {
-    ghost use Rattle.std.specs.Prelude.{◌≡◌, Some, IfOk, IfSome};
-    ghost use Rattle.dwarf_bytes.specs.Addresses.{place_of_address as place_of, address_at};
+    ghost use Rattle.std.specs.Prelude.{◌≡◌, ◌<◌, Some, IfOk, IfSome, IfNone};
+    ghost use Rattle.dwarf_bytes.specs.Addresses.{place_of_address, address_at, addresses_of_table, indexed_address};
 
     // where the address of this index is
     fn place(&self, index: u64) -> Option<usize>
-        ensures { IfSome result (λ at. at ≡ place_of self.now index) }
+        ensures some { IfSome result (λ at. at ≡ place_of_address self.now index) }
+        ensures none { IfNone result (usize.MAX < place_of_address self.now index) }
     {
         let size = self.size.bytes() as u64;
         let at = index.checked_mul(size)?.checked_add(self.base)?;
@@ -49,11 +50,12 @@ impl AddressTable<'_> {
     ///
     /// # Errors
     ///
-    /// `BadOffset` if it is behind the end of the section; `Truncated` if the section ends inside it.
+    /// `BadOffset` if it is after the end of the section; `Truncated` if the section ends inside it.
     pub fn get(&self, index: u64) -> Result<Address, DebugFault>
         ensures value { IfOk result (λ a. address_at self.now index ≡ Some a.value) }
-        ensures place { IfOk result (λ a. a.at ≡ place_of self.now index) }
+        ensures place { IfOk result (λ a. a.at ≡ place_of_address self.now index) }
         ensures size { IfOk result (λ a. a.size ≡ self.now.size) }
+        ensures gives { result ≡ indexed_address (addresses_of_table self.now) index }
     {
         let at = self.place(index).ok_or(DebugFault::BadOffset)?;
         let rest = self.section.get(at..).ok_or(DebugFault::BadOffset)?;
@@ -93,40 +95,65 @@ pub struct AddressUses {
 }
 
 impl LongerTable {
-    /// The table of these addresses, in front of which is its header: its length, its version and two sizes (DWARF 5, section 7.27).
-    fn of(table: &AddressTable<'_>, format: Format) -> Result<LongerTable, DebugFault> {
-        let length_size = format.offset_size();
-        let base = usize::try_from(table.base).map_err(|_| DebugFault::BadOffset)?;
-        let length_at = base
-            .checked_sub(4)
-            .and_then(|place| place.checked_sub(length_size.bytes()))
-            .ok_or(DebugFault::BadOffset)?;
-        let rest = table.section.get(length_at..).ok_or(DebugFault::BadOffset)?;
-        let (length, _) = read_sized(length_size, rest)?;
-        let end = usize::try_from(length)
-            .ok()
-            .and_then(|length| length.checked_add(base))
-            .and_then(|end| end.checked_sub(4))
-            .ok_or(DebugFault::BadLength)?;
-        if end < base || end > table.section.len() {
+    ghost use Rattle.std.specs.Prelude.{◌≡◌, ◌-◌, ◌≤◌, length};
+    ghost use Rattle.dwarf_bytes.specs.Numbers.{offset_size};
+    ghost use Rattle.dwarf_bytes.specs.Addresses.{addresses_of_table};
+    ghost use Rattle.dwarf_bytes.specs.Uses.{distance_of_length, longer_by_length, longer_table};
+
+    // The table of these addresses whose length is this number, at this place.
+    fn by_length(
+        table: &AddressTable<'_>,
+        length_at: usize,
+        length_size: Size,
+        count: u64,
+    ) -> Result<LongerTable, DebugFault>
+        requires { table.now.base ≤ length table.now.section.now }
+        ensures { result ≡ longer_by_length (addresses_of_table table.now) length_at length_size count }
+    {
+        let base = table.base as usize;
+        let Some(entries) = count.checked_sub(4) else {
+            return Err(DebugFault::BadLength);
+        };
+        if entries > (table.section.len() - base) as u64 {
             return Err(DebugFault::BadLength);
         }
         Ok(LongerTable {
             length_at,
             length_size,
-            length,
-            end,
+            length: count,
+            end: base + entries as usize,
             size: table.size,
         })
+    }
+
+    /// The table of these addresses, in front of which is its header: its length, its version and two sizes (DWARF 5, section 7.27).
+    #[tactic(auto, unfolding(crate::specs::Uses::longer_table))]
+    fn of(table: &AddressTable<'_>, format: Format) -> Result<LongerTable, DebugFault>
+        ensures { result ≡ longer_table (addresses_of_table table.now) format }
+    {
+        let length_size = format.offset_size();
+        let distance = length_size.bytes() as u64 + 4;
+        if table.base < distance || table.base > table.section.len() as u64 {
+            return Err(DebugFault::BadOffset);
+        }
+        let length_at = (table.base - distance) as usize;
+        let (length, _) = read_sized(length_size, &table.section[length_at..])?;
+        LongerTable::by_length(table, length_at, length_size, length)
     }
 }
 
 impl AddressUses {
-    ghost use Rattle.std.specs.Prelude.{◌≡◌, ◌++◌, ◌∷◌, [], OnOk, OnErr};
-    ghost use Rattle.dwarf_bytes.specs.Uses.{told};
+    ghost use Rattle.std.specs.Prelude.{◌≡◌, ◌++◌, ◌∷◌, ◌⊎◌, [], Ok, Err, IfOk, IfErr, OnOk, OnErr};
+    ghost use Rattle.dwarf_bytes.specs.Addresses.{addresses_of_table};
+    ghost use Rattle.dwarf_bytes.specs.Uses.{told, lengthened, none_added};
+    ghost use Rattle.dwarf_bytes.specs.declared.fault.DebugFault.{DebugFault as AFault};
+    ghost use Rattle.dwarf_bytes.specs.declared.fault.DebugError.TheVariants.{Memory, Fault};
 
     /// None is used.
-    pub fn new(alloc: Global) -> AddressUses {
+    pub fn new(alloc: Global) -> AddressUses
+        ensures told { told result ≡ [] }
+        ensures tables { lengthened result ≡ [] }
+    {
         AddressUses {
             uses: Vec::new(alloc),
             longer: Vec::new(alloc),
@@ -137,25 +164,27 @@ impl AddressUses {
     pub fn push(&mut self, address: Address, new: u64) -> Result<(), DebugError>
         ensures ok { OnOk result (told self.new ≡ told self.old ++ (address, new) ∷ []) }
         ensures err { OnErr result (told self.new ≡ told self.old) }
+        ensures tables { lengthened self.new ≡ lengthened self.old }
+        ensures memory { IfErr result (λ e. e ≡ Memory) }
     {
         self.uses.push(AddressUse { address, new })?;
         Ok(())
     }
 
-    /// The table gets one more address at its end, which is no address, if it didn't get it before. Returns the index of that.
+    /// The table gets one more address at its end, which is no address: the same one, each time. Returns the index of that.
     ///
     /// # Errors
     ///
     /// `BadOffset` or `BadLength` if the table has no header; out of memory.
-    pub fn push_none(
-        &mut self,
-        table: &AddressTable<'_>,
-        format: Format,
-    ) -> Result<u64, DebugError> {
+    pub fn push_none(&mut self, table: &AddressTable<'_>, format: Format) -> Result<u64, DebugError>
+        ensures added { IfOk result (λ index. none_added (addresses_of_table table.now) format (lengthened self.old)
+            ≡ Ok (index, lengthened self.new)) }
+        ensures told { told self.new ≡ told self.old }
+        ensures refused { IfErr result (λ e. (e ≡ Memory) ⊎ ((fault : AFault) × (e ≡ Fault fault)
+            × (none_added (addresses_of_table table.now) format (lengthened self.old) ≡ Err fault))) }
+    {
         let longer = LongerTable::of(table, format)?;
-        if self.longer.last() != Some(&longer) {
-            self.longer.push(longer)?;
-        }
+        self.longer.push(longer)?;
         let bytes = (longer.end as u64).saturating_sub(table.base);
         match table.size {
             Size::Eight => Ok(bytes / 8),

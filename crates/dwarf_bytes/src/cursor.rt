@@ -1,6 +1,8 @@
 //! Bytes of a section, read from the first one on.
 
-ghost use Rattle.std.specs.Prelude.{◌≡◌, ◌≤◌, ◌<◌, length, OnOk};
+ghost use Rattle.std.specs.Prelude.{◌≡◌, ◌≤◌, ◌<◌, ◌-◌, ◌↔◌, [], length, IsTrue, IfOk, OnOk, OnErr};
+ghost use Rattle.wasm_numbers.specs.Results.{Gives};
+ghost use Rattle.dwarf_bytes.specs.Numbers.{size_in_bytes, fixed_number, unsigned_leb, signed_leb, initial_length, part_and_rest, terminated};
 
 use crate::fault::DebugFault;
 use crate::number::{read_initial_length, read_signed, read_sized, read_u8, read_unsigned};
@@ -15,7 +17,10 @@ pub struct Cursor<'a> {
 
 impl<'a> Cursor<'a> {
     /// All bytes of a section.
-    pub fn new(section: &'a [u8]) -> Cursor<'a> {
+    pub fn new(section: &'a [u8]) -> Cursor<'a>
+        ensures rest { result.rest.now ≡ section.now }
+        ensures end { result.end ≡ length section.now }
+    {
         Cursor {
             rest: section,
             end: section.len(),
@@ -23,7 +28,9 @@ impl<'a> Cursor<'a> {
     }
 
     /// The place of the next byte in the section.
-    pub fn at(&self) -> usize {
+    pub fn at(&self) -> usize
+        ensures { result ≡ self.now.end - length self.now.rest.now }
+    {
         self.end.saturating_sub(self.rest.len())
     }
 
@@ -35,12 +42,16 @@ impl<'a> Cursor<'a> {
     }
 
     /// The place where the part ends.
-    pub fn end(&self) -> usize {
+    pub fn end(&self) -> usize
+        ensures { result ≡ self.now.end }
+    {
         self.end
     }
 
     /// Whether no bytes are left.
-    pub fn is_empty(&self) -> bool {
+    pub fn is_empty(&self) -> bool
+        ensures { IsTrue result ↔ (self.now.rest.now ≡ []) }
+    {
         self.rest.is_empty()
     }
 
@@ -50,6 +61,11 @@ impl<'a> Cursor<'a> {
     ///
     /// `BadLength` if fewer are left.
     pub fn part(&mut self, count: u64) -> Result<Cursor<'a>, DebugFault>
+        ensures gives { Gives (λ x. (x.rest.now, self.new.rest.now)) result (part_and_rest count self.old.rest.now) }
+        ensures unread { OnErr result (self.new.rest.now ≡ self.old.rest.now) }
+        ensures end { self.new.end ≡ self.old.end }
+        ensures part_end { IfOk result
+            (λ x. x.end ≡ self.old.end - length self.new.rest.now) }
         ensures shorter { length self.new.rest.now ≤ length self.old.rest.now }
     {
         if count > self.rest.len() as u64 {
@@ -65,6 +81,9 @@ impl<'a> Cursor<'a> {
 
     /// The next `count` bytes. Errors are those of `part`.
     pub fn bytes(&mut self, count: u64) -> Result<&'a [u8], DebugFault>
+        ensures gives { Gives (λ x. (x.now, self.new.rest.now)) result (part_and_rest count self.old.rest.now) }
+        ensures unread { OnErr result (self.new.rest.now ≡ self.old.rest.now) }
+        ensures end { self.new.end ≡ self.old.end }
         ensures shorter { length self.new.rest.now ≤ length self.old.rest.now }
     {
         Ok(self.part(count)?.rest)
@@ -76,6 +95,9 @@ impl<'a> Cursor<'a> {
     ///
     /// `Truncated`.
     pub fn byte(&mut self) -> Result<u8, DebugFault>
+        ensures gives { Gives (λ x. (x, self.new.rest.now)) result (fixed_number 1 self.old.rest.now) }
+        ensures unread { OnErr result (self.new.rest.now ≡ self.old.rest.now) }
+        ensures end { self.new.end ≡ self.old.end }
         ensures shorter { length self.new.rest.now ≤ length self.old.rest.now }
     {
         let (byte, rest) = read_u8(self.rest)?;
@@ -89,6 +111,9 @@ impl<'a> Cursor<'a> {
     ///
     /// `Truncated`.
     pub fn sized(&mut self, size: Size) -> Result<u64, DebugFault>
+        ensures gives { Gives (λ x. (x, self.new.rest.now)) result (fixed_number (size_in_bytes size) self.old.rest.now) }
+        ensures unread { OnErr result (self.new.rest.now ≡ self.old.rest.now) }
+        ensures end { self.new.end ≡ self.old.end }
         ensures shorter { OnOk result (length self.new.rest.now < length self.old.rest.now) }
         ensures no_longer { length self.new.rest.now ≤ length self.old.rest.now }
     {
@@ -103,6 +128,9 @@ impl<'a> Cursor<'a> {
     ///
     /// `Truncated` or `BadLength`.
     pub fn initial_length(&mut self) -> Result<(Format, u64), DebugFault>
+        ensures gives { Gives (λ x. (x, self.new.rest.now)) result (initial_length self.old.rest.now) }
+        ensures unread { OnErr result (self.new.rest.now ≡ self.old.rest.now) }
+        ensures end { self.new.end ≡ self.old.end }
         ensures shorter { OnOk result (length self.new.rest.now < length self.old.rest.now) }
     {
         let (length, rest) = read_initial_length(self.rest)?;
@@ -116,6 +144,9 @@ impl<'a> Cursor<'a> {
     ///
     /// `Truncated`, or `BadNumber` if it doesn't fit 64 bits.
     pub fn unsigned(&mut self) -> Result<u64, DebugFault>
+        ensures gives { Gives (λ x. (x, self.new.rest.now)) result (unsigned_leb self.old.rest.now) }
+        ensures unread { OnErr result (self.new.rest.now ≡ self.old.rest.now) }
+        ensures end { self.new.end ≡ self.old.end }
         ensures shorter { OnOk result (length self.new.rest.now < length self.old.rest.now) }
         ensures no_longer { length self.new.rest.now ≤ length self.old.rest.now }
     {
@@ -126,6 +157,9 @@ impl<'a> Cursor<'a> {
 
     /// The signed LEB128 number at the front. Errors are those of `unsigned`.
     pub fn signed(&mut self) -> Result<i64, DebugFault>
+        ensures gives { Gives (λ x. (x, self.new.rest.now)) result (signed_leb self.old.rest.now) }
+        ensures unread { OnErr result (self.new.rest.now ≡ self.old.rest.now) }
+        ensures end { self.new.end ≡ self.old.end }
         ensures shorter { OnOk result (length self.new.rest.now < length self.old.rest.now) }
         ensures no_longer { length self.new.rest.now ≤ length self.old.rest.now }
     {
@@ -134,18 +168,21 @@ impl<'a> Cursor<'a> {
         Ok(number)
     }
 
-    /// Moves past the bytes up to a zero byte, and past that.
+    /// The bytes up to the first zero byte, and that one.
     ///
     /// # Errors
     ///
     /// `Truncated` if there is none.
-    pub fn terminated(&mut self) -> Result<(), DebugFault>
+    pub fn terminated(&mut self) -> Result<&'a [u8], DebugFault>
+        ensures gives { Gives (λ x. (x.now, self.new.rest.now)) result (terminated self.old.rest.now) }
+        ensures unread { OnErr result (self.new.rest.now ≡ self.old.rest.now) }
+        ensures end { self.new.end ≡ self.old.end }
         ensures shorter { length self.new.rest.now ≤ length self.old.rest.now }
     {
-        let Some(len) = self.rest.iter().position(|byte| *byte == 0) else {
-            return Err(DebugFault::Truncated);
-        };
-        self.bytes(len as u64 + 1)?;
-        Ok(())
+        let zero_at = self.rest.iter().position(|byte| *byte == 0);
+        match zero_at {
+            Some(len) => self.bytes(len as u64 + 1),
+            None => Err(DebugFault::Truncated),
+        }
     }
 }

@@ -2,7 +2,7 @@
 
 ghost use Rattle.std.specs.Prelude.{◌≡◌};
 ghost use Rattle.dwarf_bytes.specs.declared.fault.DebugError.TheVariants.{Memory, Fault};
-ghost use Rattle.dwarf_bytes.specs.Faults.{debug_fault_of as fault_of};
+ghost use Rattle.dwarf_bytes.specs.Faults.{debug_fault_of};
 
 use std::alloc::{AllocError, AllocFailed};
 use thiserror::Error;
@@ -55,7 +55,7 @@ pub enum DebugError {
 }
 
 impl From<ReadFault> for DebugFault {
-    ghost from_gives = { λ fault d. d ≡ fault_of fault };
+    ghost from_gives = { λ fault d. d ≡ debug_fault_of fault };
 
     fn from(fault: ReadFault) -> DebugFault {
         match fault {
@@ -74,7 +74,7 @@ impl From<DebugFault> for DebugError {
 }
 
 impl From<ReadFault> for DebugError {
-    ghost from_gives = { λ fault e. e ≡ Fault (fault_of fault) };
+    ghost from_gives = { λ fault e. e ≡ Fault (debug_fault_of fault) };
 
     fn from(fault: ReadFault) -> DebugError {
         DebugError::Fault(DebugFault::from(fault))

@@ -10,8 +10,6 @@ mod merging;
 mod number;
 mod patches;
 mod size;
-#[cfg(test)]
-mod tests;
 mod writing;
 
 pub use addresses::{Address, AddressTable, AddressUses};

@@ -2,7 +2,7 @@
 
 ghost use Rattle.std.specs.Prelude.{◌≡◌, ◌<◌, ◌^◌, ◌*◌, IfOk};
 ghost use Rattle.wasm_numbers.specs.Results.{Gives};
-ghost use Rattle.dwarf_bytes.specs.Numbers.{size_in_bytes as bytes_of, fixed_number as fixed, unsigned_leb as unsigned, signed_leb as signed, offset, initial_length, part_and_rest as parts};
+ghost use Rattle.dwarf_bytes.specs.Numbers.{size_in_bytes, fixed_number, unsigned_leb, signed_leb, offset, initial_length, part_and_rest};
 
 use crate::fault::DebugFault;
 use crate::size::{Format, Size};
@@ -14,7 +14,7 @@ use crate::size::{Format, Size};
 /// `Truncated` if there is none.
 #[tactic(auto, unfolding(wasm_numbers::specs::Reading::many))]
 pub fn read_u8(bytes: &[u8]) -> Result<(u8, &[u8]), DebugFault>
-    ensures { Gives (λ x. (x.0, x.1.now)) result (fixed 1 bytes.now) }
+    ensures { Gives (λ x. (x.0, x.1.now)) result (fixed_number 1 bytes.now) }
 {
     let [byte, rest @ ..] = bytes else {
         return Err(DebugFault::Truncated);
@@ -29,7 +29,7 @@ pub fn read_u8(bytes: &[u8]) -> Result<(u8, &[u8]), DebugFault>
 /// `Truncated` if there are fewer bytes.
 #[tactic(auto, unfolding(wasm_numbers::specs::Reading::many))]
 pub fn read_u16(bytes: &[u8]) -> Result<(u16, &[u8]), DebugFault>
-    ensures { Gives (λ x. (x.0, x.1.now)) result (fixed 2 bytes.now) }
+    ensures { Gives (λ x. (x.0, x.1.now)) result (fixed_number 2 bytes.now) }
 {
     let [low, high, rest @ ..] = bytes else {
         return Err(DebugFault::Truncated);
@@ -40,7 +40,7 @@ pub fn read_u16(bytes: &[u8]) -> Result<(u16, &[u8]), DebugFault>
 /// Reads a number of three bytes at the front. Returns it and the bytes that follow.
 #[tactic(auto, unfolding(wasm_numbers::specs::Reading::many))]
 fn read_u24(bytes: &[u8]) -> Result<(u32, &[u8]), DebugFault>
-    ensures { Gives (λ x. (x.0, x.1.now)) result (fixed 3 bytes.now) }
+    ensures { Gives (λ x. (x.0, x.1.now)) result (fixed_number 3 bytes.now) }
 {
     let [low, middle, high, rest @ ..] = bytes else {
         return Err(DebugFault::Truncated);
@@ -57,7 +57,7 @@ fn read_u24(bytes: &[u8]) -> Result<(u32, &[u8]), DebugFault>
 ///
 /// `Truncated` if there are fewer bytes.
 pub fn read_u32(bytes: &[u8]) -> Result<(u32, &[u8]), DebugFault>
-    ensures { Gives (λ x. (x.0, x.1.now)) result (fixed 4 bytes.now) }
+    ensures { Gives (λ x. (x.0, x.1.now)) result (fixed_number 4 bytes.now) }
 {
     let (number, rest) = wasm_numbers::read_f32(bytes)?;
     Ok((number, rest))
@@ -69,7 +69,7 @@ pub fn read_u32(bytes: &[u8]) -> Result<(u32, &[u8]), DebugFault>
 ///
 /// `Truncated` if there are fewer bytes.
 pub fn read_u64(bytes: &[u8]) -> Result<(u64, &[u8]), DebugFault>
-    ensures { Gives (λ x. (x.0, x.1.now)) result (fixed 8 bytes.now) }
+    ensures { Gives (λ x. (x.0, x.1.now)) result (fixed_number 8 bytes.now) }
 {
     let (number, rest) = wasm_numbers::read_f64(bytes)?;
     Ok((number, rest))
@@ -81,7 +81,7 @@ pub fn read_u64(bytes: &[u8]) -> Result<(u64, &[u8]), DebugFault>
 ///
 /// `Truncated` if there are fewer bytes.
 pub fn read_sized(size: Size, bytes: &[u8]) -> Result<(u64, &[u8]), DebugFault>
-    ensures { Gives (λ x. (x.0, x.1.now)) result (fixed (bytes_of size) bytes.now) }
+    ensures { Gives (λ x. (x.0, x.1.now)) result (fixed_number (size_in_bytes size) bytes.now) }
 {
     match size {
         Size::One => {
@@ -111,7 +111,7 @@ pub fn read_sized(size: Size, bytes: &[u8]) -> Result<(u64, &[u8]), DebugFault>
 ///
 /// `BadNumber` if the number is too long or too great; otherwise `Truncated` if the bytes end inside it.
 pub fn read_unsigned(bytes: &[u8]) -> Result<(u64, &[u8]), DebugFault>
-    ensures { Gives (λ x. (x.0, x.1.now)) result (unsigned bytes.now) }
+    ensures { Gives (λ x. (x.0, x.1.now)) result (unsigned_leb bytes.now) }
 {
     let (number, rest) = wasm_numbers::read_u64(bytes)?;
     Ok((number, rest))
@@ -124,7 +124,7 @@ pub fn read_unsigned(bytes: &[u8]) -> Result<(u64, &[u8]), DebugFault>
 ///
 /// Those of `read_unsigned`.
 pub fn read_signed(bytes: &[u8]) -> Result<(i64, &[u8]), DebugFault>
-    ensures { Gives (λ x. (x.0, x.1.now)) result (signed bytes.now) }
+    ensures { Gives (λ x. (x.0, x.1.now)) result (signed_leb bytes.now) }
 {
     let (number, rest) = wasm_numbers::read_s64(bytes)?;
     Ok((number, rest))
@@ -167,7 +167,7 @@ pub fn read_initial_length(bytes: &[u8]) -> Result<((Format, u64), &[u8]), Debug
 ///
 /// `BadLength` if there are fewer.
 pub fn split(bytes: &[u8], count: u64) -> Result<(&[u8], &[u8]), DebugFault>
-    ensures { Gives (λ x. (x.0.now, x.1.now)) result (parts count bytes.now) }
+    ensures { Gives (λ x. (x.0.now, x.1.now)) result (part_and_rest count bytes.now) }
 {
     if count <= bytes.len() as u64 {
         Ok(bytes.split_at(count as usize))

@@ -40,14 +40,14 @@ impl Patch {
 #[derive(Debug, Drop)]
 pub struct Patches {
     patches: Vec<Patch>,
-    /// What replaces the parts, one behind the other.
+    /// What replaces the parts, one after the other.
     bytes: Vec<u8>,
     ghost are_patches: { ArePatches 0 0 0 patches.items (length bytes.items) } by { ArePatches-prop 0 0 0 patches.items (length bytes.items) },
 }
 
 impl Patches {
     ghost use Rattle.std.specs.Prelude.{◌≡◌, ◌<◌, ◌≤◌, ◌+◌, ◌-◌, ◌++◌, ◌∷◌, [], ◌⊎◌, ◌↔◌, min, length, IsTrue, IfOk, OnOk, OnErr, IfErr};
-    ghost use Rattle.dwarf_bytes.specs.Changes.{AreChangesInOrder as AreInOrder, end_from, patched, moved_offset as moved};
+    ghost use Rattle.dwarf_bytes.specs.Changes.{AreChangesInOrder, end_from, patched, moved_offset};
     ghost use Rattle.dwarf_bytes.specs.Order.{no_patch, last_of, IsCut};
     ghost use Rattle.dwarf_bytes.specs.Patches.{changes};
     ghost use Rattle.dwarf_bytes.specs.declared.fault.DebugFault.TheVariants as faults;
@@ -90,7 +90,7 @@ impl Patches {
     /// The end of the last part that is replaced, or 0.
     pub fn end(&self) -> usize
         ensures end { result ≡ end_from 0 (changes self.now) }
-        ensures order { AreInOrder 0 (changes self.now) }
+        ensures order { AreChangesInOrder 0 (changes self.now) }
     {
         self.last().stop
     }
@@ -196,7 +196,7 @@ impl Patches {
     // the last patch that ends at this offset or before it
     fn before(&self, offset: usize) -> Patch
         ensures less { result.replaced ≤ offset }
-        ensures moved { moved (changes self.now) offset
+        ensures moved { moved_offset (changes self.now) offset
             ≡ (offset - result.replaced) + result.end }
     {
         let count = self.count_before(offset);
@@ -209,7 +209,7 @@ impl Patches {
     /// Where an offset into the section goes, or the greatest number if it is that great. The parts that end at it or before it
     /// are in front of it. Takes time logarithmic in the number of parts.
     pub fn moved(&self, offset: usize) -> usize
-        ensures { result ≡ min (moved (changes self.now) offset) usize.MAX }
+        ensures { result ≡ min (moved_offset (changes self.now) offset) usize.MAX }
     {
         let before = self.before(offset);
         (offset - before.replaced).saturating_add(before.end)

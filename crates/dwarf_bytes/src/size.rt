@@ -1,7 +1,7 @@
 //! The sizes of numbers.
 
 ghost use Rattle.std.specs.Prelude.{◌≡◌, ◌-◌, ◌^◌};
-ghost use Rattle.dwarf_bytes.specs.Numbers.{size_in_bytes as bytes_of, offset_size};
+ghost use Rattle.dwarf_bytes.specs.Numbers.{size_in_bytes, offset_size};
 
 /// How many bytes a number has.
 #[derive(Clone, Copy, Debug, PartialEq, Eq)]
@@ -21,7 +21,7 @@ pub enum Size {
 impl Size {
     /// The number of bytes.
     pub fn bytes(self) -> usize
-        ensures { result ≡ bytes_of self }
+        ensures { result ≡ size_in_bytes self }
     {
         match self {
             Size::One => 1,
@@ -34,7 +34,7 @@ impl Size {
 
     /// The greatest number of this size.
     pub fn greatest(self) -> u64
-        ensures { result ≡ 256 ^ bytes_of self - 1 }
+        ensures { result ≡ 256 ^ size_in_bytes self - 1 }
     {
         match self {
             Size::One => 0xff,

@@ -1,7 +1,7 @@
 //! Writing numbers.
 
 ghost use Rattle.std.specs.Prelude.{◌≡◌, ◌≢◌, ◌<◌, ◌^◌, ◌≤◌, ◌⊎◌, ◌++◌, OnOk, IfErr};
-ghost use Rattle.dwarf_bytes.specs.Numbers.{size_in_bytes as bytes_of};
+ghost use Rattle.dwarf_bytes.specs.Numbers.{size_in_bytes};
 ghost use Rattle.dwarf_bytes.specs.Writing.{fixed_bytes, leb, padded};
 ghost use Rattle.dwarf_bytes.specs.declared.fault.DebugFault.TheVariants as faults;
 ghost use Rattle.dwarf_bytes.specs.declared.fault.DebugError.TheVariants.{Memory, Fault};
@@ -29,10 +29,10 @@ fn write_bytes(out: &mut Vec<u8>, count: usize, value: u64) -> Result<(), AllocE
 /// `DoesNotFit` if it is too great, and then nothing is appended; or out of memory.
 pub fn write_sized(out: &mut Vec<u8>, size: Size, value: u64) -> Result<(), DebugError>
     ensures written { OnOk result (out.new.items
-        ≡ out.old.items ++ fixed_bytes (bytes_of size) value) }
-    ensures fits { OnOk result (value < 256 ^ bytes_of size) }
+        ≡ out.old.items ++ fixed_bytes (size_in_bytes size) value) }
+    ensures fits { OnOk result (value < 256 ^ size_in_bytes size) }
     ensures refused { IfErr result (λ e. (e ≡ Memory)
-        ⊎ ((e ≡ Fault faults.DoesNotFit) × (256 ^ bytes_of size ≤ value)
+        ⊎ ((e ≡ Fault faults.DoesNotFit) × (256 ^ size_in_bytes size ≤ value)
         × (out.new.items ≡ out.old.items))) }
 {
     if value > size.greatest() {

@@ -8,45 +8,45 @@ use Rattle.wasm_numbers.proofs.ResultLemmas.{bind_ok, some_or_ok, ok_same}
 use Rattle.dwarf_bytes.specs.declared.fault.DebugFault.{DebugFault}
 use Rattle.dwarf_bytes.specs.declared.fault.DebugFault.TheVariants as faults
 use Rattle.dwarf_bytes.specs.Faults.{DebugReader}
-use Rattle.dwarf_bytes.specs.Numbers.{size_in_bytes as bytes_of, fixed_number as fixed, unsigned_leb as unsigned, signed_leb as signed, part_and_rest as parts}
-use Rattle.dwarf_bytes.proofs.Framing.{IsFramed, framed_value, framed_fault, framed_cond, framed_then, framed_fixed, framed_unsigned, framed_signed, framed_parts}
+use Rattle.dwarf_bytes.specs.Numbers.{size_in_bytes, fixed_number, unsigned_leb, signed_leb, part_and_rest}
+use Rattle.dwarf_bytes.proofs.Local.{IsLocal, just_local, fail_local, cond_local, then_local, fixed_local, unsigned_local, signed_local, parts_local}
 use Rattle.dwarf_expressions.specs.declared.encoding.Encoding.{Encoding}
 use Rattle.dwarf_expressions.specs.declared.operand.Operand.{Operand}
 use Rattle.dwarf_expressions.specs.declared.operand.Operand.TheVariants.{Nothing, Address, Fixed, Unsigned, Signed, Branch, Block, ShortBlock, Expression, Place, EntryAt, Entry, EntryOfAnyUnit}
-use Rattle.dwarf_expressions.specs.Operands.{reference_size, expression_operands as operands}
-use Rattle.dwarf_expressions.specs.Expressions.{Simple, local, other, skipped, sized, expression_place as place, expression_operand as operand, names_local, before, both_operands, simple_operation, entry_value_parts, expression_operands_of as operands_of, simple_has}
+use Rattle.dwarf_expressions.specs.Operands.{reference_size, expression_operands}
+use Rattle.dwarf_expressions.specs.Expressions.{Simple, local, other, skipped, sized, expression_place, expression_operand, names_local, before, both_operands, simple_operation, entry_value_parts, expression_operands_of, simple_has}
 
 -- ---- operands
 
-framed_skipped : {A : Type 0} (read : DebugReader A) → IsFramed read → IsFramed (skipped read)
-framed_skipped read f = framed_then read (λ v bytes. Ok (tt, bytes)) f (λ v. framed_value tt)
+skipped_local : {A : Type 0} (read : DebugReader A) → IsLocal read → IsLocal (skipped read)
+skipped_local read f = then_local read (λ v bytes. Ok (tt, bytes)) f (λ v. just_local tt)
 
-pub framed_sized : (size : DebugReader ℕ) → IsFramed size → IsFramed (sized size)
-framed_sized size f = framed_then size parts f framed_parts
+pub sized_local : (size : DebugReader ℕ) → IsLocal size → IsLocal (sized size)
+sized_local size f = then_local size part_and_rest f parts_local
 
-framed_place : IsFramed place
-framed_place =
-    framed_then (fixed 1) (λ kind bytes. cond (leb kind 2) (skipped unsigned bytes) (cond (eqb kind 3) (skipped (fixed 4) bytes) (Err faults.UnknownOperation))) (framed_fixed 1)
-    (λ kind. framed_cond (leb kind 2) (skipped unsigned) _ (framed_skipped unsigned framed_unsigned) (framed_cond (eqb kind 3) (skipped (fixed 4)) _ (framed_skipped (fixed 4) (framed_fixed 4)) (framed_fault faults.UnknownOperation)))
+place_local : IsLocal expression_place
+place_local =
+    then_local (fixed_number 1) (λ kind bytes. cond (leb kind 2) (skipped unsigned_leb bytes) (cond (eqb kind 3) (skipped (fixed_number 4) bytes) (Err faults.UnknownOperation))) (fixed_local 1)
+    (λ kind. cond_local (leb kind 2) (skipped unsigned_leb) _ (skipped_local unsigned_leb unsigned_local) (cond_local (eqb kind 3) (skipped (fixed_number 4)) _ (skipped_local (fixed_number 4) (fixed_local 4)) (fail_local faults.UnknownOperation)))
 
-framed_operand : (e : Encoding) (kind : Operand) → IsFramed (operand e kind)
-unfolding operand
-framed_operand e Nothing = framed_value tt
-framed_operand e Address = framed_skipped (fixed (bytes_of e.address_size)) (framed_fixed (bytes_of e.address_size))
-framed_operand e (Fixed size) = framed_skipped (fixed (bytes_of size)) (framed_fixed (bytes_of size))
-framed_operand e Unsigned = framed_skipped unsigned framed_unsigned
-framed_operand e Signed = framed_skipped signed framed_signed
-framed_operand e Branch = framed_skipped (fixed 2) (framed_fixed 2)
-framed_operand e Block = framed_skipped (sized unsigned) (framed_sized unsigned framed_unsigned)
-framed_operand e ShortBlock = framed_skipped (sized (fixed 1)) (framed_sized (fixed 1) (framed_fixed 1))
-framed_operand e Expression = framed_fault faults.Unsupported
-framed_operand e Place = framed_place
-framed_operand e (EntryAt size) = framed_skipped (fixed (bytes_of size)) (framed_fixed (bytes_of size))
-framed_operand e Entry = framed_skipped unsigned framed_unsigned
-framed_operand e EntryOfAnyUnit = framed_skipped (fixed (bytes_of (reference_size e))) (framed_fixed (bytes_of (reference_size e)))
+operand_local : (e : Encoding) (kind : Operand) → IsLocal (expression_operand e kind)
+unfolding expression_operand
+operand_local e Nothing = just_local tt
+operand_local e Address = skipped_local (fixed_number (size_in_bytes e.address_size)) (fixed_local (size_in_bytes e.address_size))
+operand_local e (Fixed size) = skipped_local (fixed_number (size_in_bytes size)) (fixed_local (size_in_bytes size))
+operand_local e Unsigned = skipped_local unsigned_leb unsigned_local
+operand_local e Signed = skipped_local signed_leb signed_local
+operand_local e Branch = skipped_local (fixed_number 2) (fixed_local 2)
+operand_local e Block = skipped_local (sized unsigned_leb) (sized_local unsigned_leb unsigned_local)
+operand_local e ShortBlock = skipped_local (sized (fixed_number 1)) (sized_local (fixed_number 1) (fixed_local 1))
+operand_local e Expression = fail_local faults.Unsupported
+operand_local e Place = place_local
+operand_local e (EntryAt size) = skipped_local (fixed_number (size_in_bytes size)) (fixed_local (size_in_bytes size))
+operand_local e Entry = skipped_local unsigned_leb unsigned_local
+operand_local e EntryOfAnyUnit = skipped_local (fixed_number (size_in_bytes (reference_size e))) (fixed_local (size_in_bytes (reference_size e)))
 
-framed_operands : (e : Encoding) (kinds : Operand × Operand) → IsFramed (both_operands e kinds)
-framed_operands e kinds = framed_then (operand e kinds.0) (λ v. operand e kinds.1) (framed_operand e kinds.0) (λ v. framed_operand e kinds.1)
+operands_local : (e : Encoding) (kinds : Operand × Operand) → IsLocal (both_operands e kinds)
+operands_local e kinds = then_local (expression_operand e kinds.0) (λ v. expression_operand e kinds.1) (operand_local e kinds.0) (λ v. operand_local e kinds.1)
 
 -- ---- operations
 
@@ -76,37 +76,37 @@ same_again e bytes x y p a = subst (λ (z : Simple × List ℕ). Again e bytes z
 local_again : (e : Encoding) (bytes : List ℕ) (s : Simple) (rest : List ℕ) → names_local bytes ≡ true → simple_operation e bytes ≡ Ok (s, rest) → Again e bytes s rest
 unfolding simple_operation
 local_again e bytes s rest t r =
-    let x = bind_ok (unsigned (drop 2 bytes)) (λ index. Ok (local index.0, index.1)) (s, rest) (rw t at r) in
-    let f = framed_unsigned.frame (drop 2 bytes) x.0.0 x.0.1 x.1 in
-    same_again e bytes (local x.0.0, x.0.1) (s, rest) (ok_same (local x.0.0, x.0.1) (s, rest) x.2) (f.text, local_parts bytes t ∙ ap (λ (l : List ℕ). 0xed ∷ 0 ∷ l) f.bytes_are)
+    let x = bind_ok (unsigned_leb (drop 2 bytes)) (λ index. Ok (local index.0, index.1)) (s, rest) (rw t at r) in
+    let f = unsigned_local.takes (drop 2 bytes) x.0.0 x.0.1 x.1 in
+    same_again e bytes (local x.0.0, x.0.1) (s, rest) (ok_same (local x.0.0, x.0.1) (s, rest) x.2) (f.text, local_parts bytes t ∙ ap (λ (l : List ℕ). 0xed ∷ 0 ∷ l) f.split)
 
-no_byte : fixed 1 [] ≡ Err faults.Truncated
+no_byte : fixed_number 1 [] ≡ Err faults.Truncated
 unfolding many
 no_byte = refl
 
-place_known : operands 0xed ≡ Some (Place, Nothing)
-unfolding operands
+place_known : expression_operands 0xed ≡ Some (Place, Nothing)
+unfolding expression_operands
 place_known = refl
 
 pub not_both : {A E : Type 0} {fault : E} {v : A} {r : Result A E} → r ≡ Err fault → r ≡ Ok v → ⊥
 not_both e f = cc
 
 no_place : (e : Encoding) → both_operands e (Place, Nothing) [] ≡ Err faults.Truncated
-unfolding operand
+unfolding expression_operand
 no_place e = rw no_byte refl
 
 -- the operand of DW_OP_WASM_location has a byte
-some_operand : (e : Encoding) (code : ℕ) (kinds : Operand × Operand) → operands code ≡ Some kinds → both_operands e kinds [] ≡ Ok (tt, []) → eqb code 0xed ≡ false
+some_operand : (e : Encoding) (code : ℕ) (kinds : Operand × Operand) → expression_operands code ≡ Some kinds → both_operands e kinds [] ≡ Ok (tt, []) → eqb code 0xed ≡ false
 some_operand e code kinds known none =
     elim (cases_Bool (eqb code 0xed)) [
       | inl t ↦
-          let is = sym known ∙ (ap operands (eqb-true code 0xed t) ∙ place_known) in
+          let is = sym known ∙ (ap expression_operands (eqb-true code 0xed t) ∙ place_known) in
           let same : kinds ≡ (Place, Nothing) = cc in
           absurd (not_both (no_place e) (ap (λ (k : Operand × Operand). both_operands e k []) (sym same) ∙ none))
       | inr f ↦ f
     ]
 
-still_other : (e : Encoding) (code : ℕ) (kinds : Operand × Operand) (text rest following : List ℕ) → operands code ≡ Some kinds → ((more : List ℕ) → both_operands e kinds (text ++ more) ≡ Ok (tt, more))
+still_other : (e : Encoding) (code : ℕ) (kinds : Operand × Operand) (text rest following : List ℕ) → expression_operands code ≡ Some kinds → ((more : List ℕ) → both_operands e kinds (text ++ more) ≡ Ok (tt, more))
     → names_local (code ∷ (text ++ rest)) ≡ false → names_local (code ∷ (text ++ following)) ≡ false
 still_other e code kinds [] rest [] known reads f = refl
 still_other e code kinds [] rest (k ∷ following) known reads f = let no = some_operand e code kinds known (reads []) in rw no refl
@@ -118,21 +118,21 @@ after_operands code bytes x = Ok (other code (before bytes x.1), x.1)
 abbrev after_kinds : Encoding → ℕ → List ℕ → Operand × Operand → Result (Simple × List ℕ) DebugFault
 after_kinds e code bytes kinds = both_operands e kinds bytes >>= after_operands code bytes
 
-other_is : (e : Encoding) (code : ℕ) (bytes rest : List ℕ) (kinds : Operand × Operand) → names_local (code ∷ bytes) ≡ false → operands code ≡ Some kinds → both_operands e kinds bytes ≡ Ok (tt, rest)
+other_is : (e : Encoding) (code : ℕ) (bytes rest : List ℕ) (kinds : Operand × Operand) → names_local (code ∷ bytes) ≡ false → expression_operands code ≡ Some kinds → both_operands e kinds bytes ≡ Ok (tt, rest)
     → simple_operation e (code ∷ bytes) ≡ Ok (other code (before bytes rest), rest)
 unfolding simple_operation
 other_is e code bytes rest kinds f known r = rw (f, known, r) refl
 
-other_found : (e : Encoding) (code : ℕ) (bytes : List ℕ) (s : Simple) (rest left : List ℕ) (kinds : Operand × Operand) → names_local (code ∷ bytes) ≡ false → operands code ≡ Some kinds → both_operands e kinds bytes ≡ Ok (tt, left)
+other_found : (e : Encoding) (code : ℕ) (bytes : List ℕ) (s : Simple) (rest left : List ℕ) (kinds : Operand × Operand) → names_local (code ∷ bytes) ≡ false → expression_operands code ≡ Some kinds → both_operands e kinds bytes ≡ Ok (tt, left)
     → after_operands code bytes (tt, left) ≡ Ok (s, rest) → Again e (code ∷ bytes) s rest
 other_found e code bytes s rest left kinds t known r is =
-    let f = (framed_operands e kinds).frame bytes tt left r in
-    let text : before bytes left ≡ f.text = ap (λ (l : List ℕ). before l left) f.bytes_are ∙ before_is f.text left in
-    let other_bytes = subst (λ (l : List ℕ). names_local (code ∷ l) ≡ false) f.bytes_are t in
+    let f = (operands_local e kinds).takes bytes tt left r in
+    let text : before bytes left ≡ f.text = ap (λ (l : List ℕ). before l left) f.split ∙ before_is f.text left in
+    let other_bytes = subst (λ (l : List ℕ). names_local (code ∷ l) ≡ false) f.split t in
     let whole : Again e (code ∷ bytes) (other code f.text) left = (
-      ap (λ (l : List ℕ). code ∷ l) f.bytes_are,
+      ap (λ (l : List ℕ). code ∷ l) f.split,
       λ following.
-          other_is e code (f.text ++ following) following kinds (still_other e code kinds f.text left following known f.reads other_bytes) known (f.reads following)
+          other_is e code (f.text ++ following) following kinds (still_other e code kinds f.text left following known f.again other_bytes) known (f.again following)
           ∙ ap (λ (l : List ℕ). Ok (other code l, following)) (before_is f.text following),
     ) in
     same_again e (code ∷ bytes) (other code f.text, left) (s, rest) (ap (λ (l : List ℕ). (other code l, left)) (sym text) ∙ ok_same (other code (before bytes left), left) (s, rest) is) whole
@@ -140,8 +140,8 @@ other_found e code bytes s rest left kinds t known r is =
 other_again : (e : Encoding) (code : ℕ) (bytes : List ℕ) (s : Simple) (rest : List ℕ) → names_local (code ∷ bytes) ≡ false → simple_operation e (code ∷ bytes) ≡ Ok (s, rest) → Again e (code ∷ bytes) s rest
 unfolding simple_operation
 other_again e code bytes s rest t r =
-    let x = bind_ok (some_or (operands code) faults.UnknownOperation) (after_kinds e code bytes) (s, rest) (rw t at r) in
-    let known = some_or_ok (operands code) faults.UnknownOperation x.0 x.1 in
+    let x = bind_ok (some_or (expression_operands code) faults.UnknownOperation) (after_kinds e code bytes) (s, rest) (rw t at r) in
+    let known = some_or_ok (expression_operands code) faults.UnknownOperation x.0 x.1 in
     let y = bind_ok (both_operands e x.0 bytes) (after_operands code bytes) (s, rest) x.2 in
     other_found e code bytes s rest y.0.1 x.0 t known y.1 y.2
 
@@ -169,13 +169,13 @@ pub entry_shorter : (bytes : List ℕ) (code : ℕ) (inside rest : List ℕ) →
 unfolding entry_value_parts
 entry_shorter [] code inside rest r = absurd cc
 entry_shorter (c ∷ bytes) code inside rest r =
-    let x = bind_ok (sized unsigned bytes) (λ x. Ok ((c, x.0), x.1)) ((code, inside), rest) r in
-    let f = (framed_sized unsigned framed_unsigned).frame bytes x.0.0 x.0.1 x.1 in
+    let x = bind_ok (sized unsigned_leb bytes) (λ x. Ok ((c, x.0), x.1)) ((code, inside), rest) r in
+    let f = (sized_local unsigned_leb unsigned_local).takes bytes x.0.0 x.0.1 x.1 in
     let same = ok_same ((c, x.0.0), x.0.1) ((code, inside), rest) x.2 in
     let one : c ≡ code = ap (λ (z : (ℕ × List ℕ) × List ℕ). z.0.0) same in
     let end : x.0.1 ≡ rest = ap (λ (z : (ℕ × List ℕ) × List ℕ). z.1) same in
-    (bytes, ap (λ (n : ℕ). n ∷ bytes) one, omega (arith, ap length f.bytes_are, length-append f.text x.0.1, ap length end))
+    (bytes, ap (λ (n : ℕ). n ∷ bytes) one, omega (arith, ap length f.split, length-append f.text x.0.1, ap length end))
 
 -- the operation has operands of these kinds
-pub has_kinds : (test : Operand → Bool) (s : Simple) (kinds : Operand × Operand) (b : Bool) → b ≡ (test kinds.0 || test kinds.1) → kinds ≡ operands_of s → b ≡ simple_has test s
+pub has_kinds : (test : Operand → Bool) (s : Simple) (kinds : Operand × Operand) (b : Bool) → b ≡ (test kinds.0 || test kinds.1) → kinds ≡ expression_operands_of s → b ≡ simple_has test s
 has_kinds test s kinds b e f = e ∙ ap (λ (k : Operand × Operand). test k.0 || test k.1) f

@@ -5,7 +5,7 @@ use Rattle.std.proofs.lemmas.Option.{same_Some}
 use Rattle.std.specs.List.{list_any}
 use Rattle.std.proofs.lemmas.List.Folds.{list_any-append}
 use Rattle.dwarf_expressions.specs.Expressions.{BeginWith}
-use Rattle.dwarf_expressions.specs.Moving.{expression_all_of as all_of, WritesOfExpression as Writes}
+use Rattle.dwarf_expressions.specs.Moving.{expression_all_of, WritesOfExpression}
 
 pub begin_more : {A : Type 0} (B : List ℕ → A → List ℕ → Type 0) (bytes next rest : List ℕ) (xs : List A) (x : A) → BeginWith B bytes xs next → B next x rest → BeginWith B bytes (xs ++ x ∷ []) rest
 begin_more B bytes next rest [] x all one = (rest, subst (λ (l : List ℕ). B l x rest) (sym all) one, refl)
@@ -71,24 +71,24 @@ more_of (Some b) (Some bs) all ys y e more =
     let same : b ∷ bs ≡ ys = same_Some (b ∷ bs) ys e in
     rw (more bs refl, ← same) refl
 
-pub all_more : {A C : Type 0} (f : A → Option C) (xs : List A) (ys : List C) (x : A) (y : C) → all_of f xs ≡ Some ys → f x ≡ Some y → all_of f (xs ++ x ∷ []) ≡ Some (ys ++ y ∷ [])
+pub all_more : {A C : Type 0} (f : A → Option C) (xs : List A) (ys : List C) (x : A) (y : C) → expression_all_of f xs ≡ Some ys → f x ≡ Some y → expression_all_of f (xs ++ x ∷ []) ≡ Some (ys ++ y ∷ [])
 all_more f [] ys x y p q = let none : [] ≡ ys = same_Some [] ys p in rw (q, ← none) refl
-all_more f (a ∷ xs) ys x y p q = more_of (f a) (all_of f xs) (all_of f (xs ++ x ∷ [])) ys y p (λ bs e. all_more f xs bs x y e q)
+all_more f (a ∷ xs) ys x y p q = more_of (f a) (expression_all_of f xs) (expression_all_of f (xs ++ x ∷ [])) ys y p (λ bs e. all_more f xs bs x y e q)
 
 no_others : {C : Type 0} (first : Option C) → option_and_then (with_others None) first ≡ None
 no_others None = refl
 no_others (Some b) = refl
 
-pub all_none : {A C : Type 0} (f : A → Option C) (xs more : List A) (x : A) → f x ≡ None → all_of f (xs ++ x ∷ more) ≡ None
+pub all_none : {A C : Type 0} (f : A → Option C) (xs more : List A) (x : A) → f x ≡ None → expression_all_of f (xs ++ x ∷ more) ≡ None
 all_none f [] more x q = rw q refl
 all_none f (a ∷ xs) more x q = rw (all_none f xs more x q) (no_others (f a))
 
 -- ---- what is written
 
-pub writes_none : {A : Type 0} (B : List ℕ → A → List ℕ → Type 0) → Writes B [] []
+pub writes_none : {A : Type 0} (B : List ℕ → A → List ℕ → Type 0) → WritesOfExpression B [] []
 writes_none B following = refl
 
-pub writes_more : {A : Type 0} (B : List ℕ → A → List ℕ → Type 0) (text one : List ℕ) (xs : List A) (x : A) → Writes B text xs → ((following : List ℕ) → B (one ++ following) x following) → Writes B (text ++ one) (xs ++ x ∷ [])
+pub writes_more : {A : Type 0} (B : List ℕ → A → List ℕ → Type 0) (text one : List ℕ) (xs : List A) (x : A) → WritesOfExpression B text xs → ((following : List ℕ) → B (one ++ following) x following) → WritesOfExpression B (text ++ one) (xs ++ x ∷ [])
 writes_more B text one xs x all reads following =
     subst (λ (l : List ℕ). BeginWith B l (xs ++ x ∷ []) following) (sym (append_assoc text one following))
     (begin_more B (text ++ (one ++ following)) (one ++ following) following xs x (all (one ++ following)) (reads following))

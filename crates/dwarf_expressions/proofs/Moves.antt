@@ -5,16 +5,16 @@ use Rattle.std.proofs.lemmas.List.{take_at, drop_at}
 use Rattle.std.proofs.lemmas.Option.{same_Some}
 use Rattle.wasm_numbers.proofs.ResultLemmas.{ok_same}
 use Rattle.code_moves.specs.declared.body.Body.{Body}
-use Rattle.code_moves.specs.Moves.{new_local_in as local_in}
+use Rattle.code_moves.specs.Moves.{new_local_in}
 use Rattle.dwarf_bytes.specs.declared.fault.DebugFault.{DebugFault}
 use Rattle.dwarf_bytes.specs.declared.fault.DebugFault.TheVariants as faults
 use Rattle.dwarf_bytes.specs.Writing.{padded}
 use Rattle.dwarf_bytes.proofs.Padded.{padded_read}
 use Rattle.dwarf_expressions.specs.declared.encoding.Encoding.{Encoding}
 use Rattle.dwarf_expressions.specs.declared.operand.Operand.TheVariants.{Nothing, Expression}
-use Rattle.dwarf_expressions.specs.Operands.{expression_operands as operands}
-use Rattle.dwarf_expressions.specs.Expressions.{Simple, ExpressionOperation as Operation, local, other, simple, entry_value, names_local, expression_operand as operand, simple_operation, is_entry_value, entry_value_parts, BeginWith, BeginsSimple, Begins, IsExpression}
-use Rattle.dwarf_expressions.specs.Moving.{moved_simple, expression_written as written, HasIndex}
+use Rattle.dwarf_expressions.specs.Operands.{expression_operands}
+use Rattle.dwarf_expressions.specs.Expressions.{Simple, ExpressionOperation, local, other, simple, entry_value, names_local, expression_operand, simple_operation, is_entry_value, entry_value_parts, BeginWith, BeginsSimple, Begins, IsExpression}
+use Rattle.dwarf_expressions.specs.Moving.{moved_simple, expression_written, HasIndex}
 use Rattle.dwarf_expressions.proofs.Again.{again, no_operation, not_both, entry_shorter}
 use Rattle.dwarf_expressions.proofs.Loops.{IsOneWay, all_are, left_of_all}
 
@@ -23,17 +23,17 @@ unfolding simple_operation
 local_read e width index following few = let read = padded_read width index following few in rw read refl
 
 pub written_read : (e : Encoding) (b : Body) (bytes : List ℕ) (s new : Simple) (rest : List ℕ) (width : ℕ) → simple_operation e bytes ≡ Ok (s, rest) → moved_simple b s ≡ Some new → HasIndex new
-    → (following : List ℕ) → simple_operation e (written width new ++ following) ≡ Ok (new, following)
-written_read e b bytes (local i) new rest width r m few following = local_new (local_in b i) m few
+    → (following : List ℕ) → simple_operation e (expression_written width new ++ following) ≡ Ok (new, following)
+written_read e b bytes (local i) new rest width r m few following = local_new (new_local_in b i) m few
   where
-    local_new : (to : Option ℕ) → option_map local to ≡ Some new → HasIndex new → simple_operation e (written width new ++ following) ≡ Ok (new, following)
+    local_new : (to : Option ℕ) → option_map local to ≡ Some new → HasIndex new → simple_operation e (expression_written width new ++ following) ≡ Ok (new, following)
     local_new None p q = absurd cc
     local_new (Some n) p q =
         let same : local n ≡ new = same_Some (local n) new p in
-        subst (λ (x : Simple). HasIndex x → simple_operation e (written width x ++ following) ≡ Ok (x, following)) same (local_read e width n following) q
+        subst (λ (x : Simple). HasIndex x → simple_operation e (expression_written width x ++ following) ≡ Ok (x, following)) same (local_read e width n following) q
 written_read e b bytes (other code ops) new rest width r m few following =
     let same : other code ops ≡ new = same_Some (other code ops) new m in
-    subst (λ (x : Simple). simple_operation e (written width x ++ following) ≡ Ok (x, following)) same ((again e bytes (other code ops) rest r).1 following)
+    subst (λ (x : Simple). simple_operation e (expression_written width x ++ following) ≡ Ok (x, following)) same ((again e bytes (other code ops) rest r).1 following)
 
 pub one_way_simple : (e : Encoding) → IsOneWay (BeginsSimple e)
 one_way_simple e = record {
@@ -54,20 +54,20 @@ no_fault e bytes next ss all fault p q some r =
 
 -- ---- DW_OP_entry_value
 
-known_first : operands 0xa3 ≡ Some (Expression, Nothing)
-unfolding operands
+known_first : expression_operands 0xa3 ≡ Some (Expression, Nothing)
+unfolding expression_operands
 known_first = refl
 
-known_other : operands 0xf3 ≡ Some (Expression, Nothing)
-unfolding operands
+known_other : expression_operands 0xf3 ≡ Some (Expression, Nothing)
+unfolding expression_operands
 known_other = refl
 
 not_local : (code : ℕ) (bytes : List ℕ) → eqb code 0xed ≡ false → names_local (code ∷ bytes) ≡ false
 not_local code [] e = refl
 not_local code (k ∷ bytes) e = rw e refl
 
-no_expression : (e : Encoding) (code : ℕ) (bytes : List ℕ) → names_local (code ∷ bytes) ≡ false → operands code ≡ Some (Expression, Nothing) → simple_operation e (code ∷ bytes) ≡ Err faults.Unsupported
-unfolding simple_operation operand
+no_expression : (e : Encoding) (code : ℕ) (bytes : List ℕ) → names_local (code ∷ bytes) ≡ false → expression_operands code ≡ Some (Expression, Nothing) → simple_operation e (code ∷ bytes) ≡ Err faults.Unsupported
+unfolding simple_operation expression_operand
 no_expression e code bytes f known = rw (f, known) refl
 
 entry_refused : (e : Encoding) (code : ℕ) (bytes : List ℕ) → (eqb code 0xa3 ≡ true) ⊎ (eqb code 0xf3 ≡ true) → simple_operation e (code ∷ bytes) ≡ Err faults.Unsupported
@@ -92,13 +92,13 @@ same_entry e bytes inside other_inside c d ss ts n m p q r s =
     let same = all_are (BeginsSimple e) (one_way_simple e) inside ss ts r (subst (λ (l : List ℕ). BeginWith (BeginsSimple e) l ts []) (sym text) s) in
     (ap (λ (x : ℕ). entry_value x ss) code ∙ ap (entry_value d) (sym same), rest)
 
-same_operation : (e : Encoding) (bytes : List ℕ) (x y : Operation) (n m : List ℕ) → Begins e bytes x n → Begins e bytes y m → (x ≡ y) × (n ≡ m)
+same_operation : (e : Encoding) (bytes : List ℕ) (x y : ExpressionOperation) (n m : List ℕ) → Begins e bytes x n → Begins e bytes y m → (x ≡ y) × (n ≡ m)
 same_operation e bytes (simple s) (simple t) n m p q = let both = (one_way_simple e).same bytes s t n m p q in (ap simple both.0, both.1)
 same_operation e bytes (simple s) (entry_value d ts) n m p q = absurd (entry_not_simple e bytes s n q.1 p)
 same_operation e bytes (entry_value c ss) (simple t) n m p q = absurd (entry_not_simple e bytes t m p.1 q)
 same_operation e bytes (entry_value c ss) (entry_value d ts) n m p q = same_entry e bytes p.0 q.0 c d ss ts n m p.2 q.2 p.3 q.3
 
-some_operation : (e : Encoding) (x : Operation) (n : List ℕ) → Begins e [] x n → ⊥
+some_operation : (e : Encoding) (x : ExpressionOperation) (n : List ℕ) → Begins e [] x n → ⊥
 some_operation e (simple s) n p = (one_way_simple e).some s n p
 some_operation e (entry_value c ss) n p = let f : false ≡ true = p.1 in cc
 
@@ -106,8 +106,8 @@ pub one_way : (e : Encoding) → IsOneWay (Begins e)
 one_way e = record { same = same_operation e; some = some_operation e }
 
 -- what is left of an expression and isn't empty begins with an operation
-next_begins : (e : Encoding) (bytes next : List ℕ) (os all : List Operation) → BeginWith (Begins e) bytes os next → IsExpression e bytes all → false ≡ eqb (length next) 0
-    → (x : Operation) × (rest : List ℕ) × Begins e next x rest × ((others : List Operation) × (all ≡ os ++ x ∷ others))
+next_begins : (e : Encoding) (bytes next : List ℕ) (os all : List ExpressionOperation) → BeginWith (Begins e) bytes os next → IsExpression e bytes all → false ≡ eqb (length next) 0
+    → (x : ExpressionOperation) × (rest : List ℕ) × Begins e next x rest × ((others : List ExpressionOperation) × (all ≡ os ++ x ∷ others))
 next_begins e bytes next os all p q some =
     elim (left_of_all (Begins e) (one_way e) bytes next os all p q) [
       | inl none ↦ absurd (eqb-false (length next) 0 (sym some) (ap length none))
@@ -115,26 +115,26 @@ next_begins e bytes next os all p q some =
     ]
 
 -- what begins with DW_OP_entry_value
-abbrev IsEntry : Encoding → List ℕ → List Operation → List Operation → Type 0
+abbrev IsEntry : Encoding → List ℕ → List ExpressionOperation → List ExpressionOperation → Type 0
 IsEntry e next os all =
     (code : ℕ) × (ss : List Simple) × (inside rest : List ℕ) × (entry_value_parts next ≡ Ok ((code, inside), rest)) × BeginWith (BeginsSimple e) inside ss []
-    × ((others : List Operation) × (all ≡ os ++ entry_value code ss ∷ others))
+    × ((others : List ExpressionOperation) × (all ≡ os ++ entry_value code ss ∷ others))
 
-entry_of : (e : Encoding) (next : List ℕ) (os all : List Operation) (x : Operation) (rest : List ℕ) → is_entry_value next ≡ true → Begins e next x rest → ((others : List Operation) × (all ≡ os ++ x ∷ others)) → IsEntry e next os all
+entry_of : (e : Encoding) (next : List ℕ) (os all : List ExpressionOperation) (x : ExpressionOperation) (rest : List ℕ) → is_entry_value next ≡ true → Begins e next x rest → ((others : List ExpressionOperation) × (all ≡ os ++ x ∷ others)) → IsEntry e next os all
 entry_of e next os all (simple s) rest t p q = absurd (entry_not_simple e next s rest t p)
 entry_of e next os all (entry_value c ss) rest t p q = (c, ss, p.0, rest, p.2, p.3, q)
 
-pub next_entry : (e : Encoding) (bytes next : List ℕ) (os all : List Operation) → BeginWith (Begins e) bytes os next → IsExpression e bytes all → false ≡ eqb (length next) 0 → is_entry_value next ≡ true → IsEntry e next os all
+pub next_entry : (e : Encoding) (bytes next : List ℕ) (os all : List ExpressionOperation) → BeginWith (Begins e) bytes os next → IsExpression e bytes all → false ≡ eqb (length next) 0 → is_entry_value next ≡ true → IsEntry e next os all
 next_entry e bytes next os all p q some t = let x = next_begins e bytes next os all p q some in entry_of e next os all x.0 x.1 t x.2 x.3
 
-abbrev IsNextSimple : Encoding → List ℕ → List Operation → List Operation → Type 0
-IsNextSimple e next os all = (s : Simple) × (rest : List ℕ) × (simple_operation e next ≡ Ok (s, rest)) × ((others : List Operation) × (all ≡ os ++ simple s ∷ others))
+abbrev IsNextSimple : Encoding → List ℕ → List ExpressionOperation → List ExpressionOperation → Type 0
+IsNextSimple e next os all = (s : Simple) × (rest : List ℕ) × (simple_operation e next ≡ Ok (s, rest)) × ((others : List ExpressionOperation) × (all ≡ os ++ simple s ∷ others))
 
-simple_next_of : (e : Encoding) (next : List ℕ) (os all : List Operation) (x : Operation) (rest : List ℕ) → is_entry_value next ≡ false → Begins e next x rest → ((others : List Operation) × (all ≡ os ++ x ∷ others)) → IsNextSimple e next os all
+simple_next_of : (e : Encoding) (next : List ℕ) (os all : List ExpressionOperation) (x : ExpressionOperation) (rest : List ℕ) → is_entry_value next ≡ false → Begins e next x rest → ((others : List ExpressionOperation) × (all ≡ os ++ x ∷ others)) → IsNextSimple e next os all
 simple_next_of e next os all (simple s) rest f p q = (s, rest, p, q)
 simple_next_of e next os all (entry_value c ss) rest f p q = let both : false ≡ true = sym f ∙ p.1 in absurd cc
 
-pub next_simple : (e : Encoding) (bytes next : List ℕ) (os all : List Operation) → BeginWith (Begins e) bytes os next → IsExpression e bytes all → false ≡ eqb (length next) 0 → is_entry_value next ≡ false → IsNextSimple e next os all
+pub next_simple : (e : Encoding) (bytes next : List ℕ) (os all : List ExpressionOperation) → BeginWith (Begins e) bytes os next → IsExpression e bytes all → false ≡ eqb (length next) 0 → is_entry_value next ≡ false → IsNextSimple e next os all
 next_simple e bytes next os all p q some f = let x = next_begins e bytes next os all p q some in simple_next_of e next os all x.0 x.1 f x.2 x.3
 
 -- DW_OP_entry_value that is written is read

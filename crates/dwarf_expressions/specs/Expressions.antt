@@ -1,11 +1,11 @@
--- Expressions: one operation behind the other (DWARF 5, section 2.5).
+-- Expressions: one operation after the other (DWARF 5, section 2.5).
 use Rattle.std.specs.Prelude.{◌≡◌, ◌≢◌, ◌⊎◌, MatchBool, ℕ, List, [], ◌∷◌, length, drop, take, ◌-◌, Bool, true, false, ◌&&◌, ◌||◌, nat_le, ◌==◌, if◌then◌else◌, Option, Some, None, Ok, Err}
 use Rattle.std.specs.List.{list_any}
 use Rattle.wasm_numbers.specs.Results.{◌>>=◌, some_or}
 use Rattle.dwarf_bytes.specs.declared.fault.DebugFault.{DebugFault}
 use Rattle.dwarf_bytes.specs.declared.fault.DebugFault.TheVariants as faults
 use Rattle.dwarf_bytes.specs.Faults.{DebugReader}
-use Rattle.dwarf_bytes.specs.Numbers.{size_in_bytes as bytes_of, fixed_number as fixed, unsigned_leb as unsigned, signed_leb as signed, part_and_rest as parts}
+use Rattle.dwarf_bytes.specs.Numbers.{size_in_bytes, fixed_number, unsigned_leb, signed_leb, part_and_rest}
 use Rattle.dwarf_expressions.specs.declared.encoding.Encoding.{Encoding}
 use Rattle.dwarf_expressions.specs.declared.operand.Operand.{Operand}
 use Rattle.dwarf_expressions.specs.declared.operand.Operand.TheVariants.{Nothing, Address, Fixed, Unsigned, Signed, Branch, Block, ShortBlock, Expression, Place, EntryAt, Entry, EntryOfAnyUnit}
@@ -27,30 +27,30 @@ abbrev pub skipped : {A : Type 0} → DebugReader A → DebugReader (Unit {0})
 skipped read bytes = read bytes >>= λ x. Ok (tt, x.1)
 
 abbrev pub sized : (size : DebugReader ℕ) → DebugReader (List ℕ)
-sized size bytes = size bytes >>= λ n. parts n.0 n.1
+sized size bytes = size bytes >>= λ n. part_and_rest n.0 n.1
 
 -- A place of WebAssembly (DWARF for WebAssembly, "DW_OP_WASM_location"): kind 0 is a local, 1 a global, 2 a value of the operand stack,
 -- all with an index in LEB128; 3 is a global with an index in four bytes.
 abbrev pub expression_place : DebugReader (Unit {0})
-expression_place bytes = fixed 1 bytes >>= λ kind.
-    if nat_le kind.0 2 then skipped unsigned kind.1
-    else if kind.0 == 3 then skipped (fixed 4) kind.1
+expression_place bytes = fixed_number 1 bytes >>= λ kind.
+    if nat_le kind.0 2 then skipped unsigned_leb kind.1
+    else if kind.0 == 3 then skipped (fixed_number 4) kind.1
     else Err faults.UnknownOperation
 
 unfoldable pub expression_operand : Encoding → Operand → DebugReader (Unit {0})
 expression_operand e Nothing = λ bytes. Ok (tt, bytes)
-expression_operand e Address = skipped (fixed (bytes_of e.address_size))
-expression_operand e (Fixed size) = skipped (fixed (bytes_of size))
-expression_operand e Unsigned = skipped unsigned
-expression_operand e Signed = skipped signed
-expression_operand e Branch = skipped (fixed 2)
-expression_operand e Block = skipped (sized unsigned)
-expression_operand e ShortBlock = skipped (sized (fixed 1))
+expression_operand e Address = skipped (fixed_number (size_in_bytes e.address_size))
+expression_operand e (Fixed size) = skipped (fixed_number (size_in_bytes size))
+expression_operand e Unsigned = skipped unsigned_leb
+expression_operand e Signed = skipped signed_leb
+expression_operand e Branch = skipped (fixed_number 2)
+expression_operand e Block = skipped (sized unsigned_leb)
+expression_operand e ShortBlock = skipped (sized (fixed_number 1))
 expression_operand e Expression = λ bytes. Err faults.Unsupported
 expression_operand e Place = expression_place
-expression_operand e (EntryAt size) = skipped (fixed (bytes_of size))
-expression_operand e Entry = skipped unsigned
-expression_operand e EntryOfAnyUnit = skipped (fixed (bytes_of (reference_size e)))
+expression_operand e (EntryAt size) = skipped (fixed_number (size_in_bytes size))
+expression_operand e Entry = skipped unsigned_leb
+expression_operand e EntryOfAnyUnit = skipped (fixed_number (size_in_bytes (reference_size e)))
 
 -- ---- reading an operation
 
@@ -76,7 +76,7 @@ other_operation e (code ∷ bytes) =
 
 unfoldable pub simple_operation : Encoding → DebugReader Simple
 simple_operation e bytes =
-    if names_local bytes then (unsigned (drop 2 bytes) >>= λ index. Ok (local index.0, index.1)) else other_operation e bytes
+    if names_local bytes then (unsigned_leb (drop 2 bytes) >>= λ index. Ok (local index.0, index.1)) else other_operation e bytes
 
 -- whether the bytes begin with DW_OP_entry_value
 abbrev pub is_entry_value : List ℕ → Bool
@@ -86,11 +86,11 @@ is_entry_value (code ∷ bytes) = (code == 0xa3) || (code == 0xf3)
 -- the code of DW_OP_entry_value and the bytes of its expression
 unfoldable pub entry_value_parts : DebugReader (ℕ × List ℕ)
 entry_value_parts [] = Err faults.Truncated
-entry_value_parts (code ∷ bytes) = sized unsigned bytes >>= λ x. Ok ((code, x.0), x.1)
+entry_value_parts (code ∷ bytes) = sized unsigned_leb bytes >>= λ x. Ok ((code, x.0), x.1)
 
--- ---- one operation behind the other
+-- ---- one operation after the other
 
--- The bytes begin with these, one behind the other, and these bytes follow. `Begins bytes x rest`: bytes begin with x, and the rest follows.
+-- The bytes begin with these, one after the other, and these bytes follow. `Begins bytes x rest`: bytes begin with x, and the rest follows.
 abbrev pub BeginWith : {A : Type 0} → (Begins : List ℕ → A → List ℕ → Type 0) → List ℕ → List A → List ℕ → Type 0
 BeginWith Begins bytes [] rest = bytes ≡ rest
 BeginWith Begins bytes (x ∷ xs) rest = (next : List ℕ) × Begins bytes x next × BeginWith Begins next xs rest
@@ -113,19 +113,19 @@ abbrev pub FailsSimple : Encoding → List ℕ → DebugFault → Type 0
 FailsSimple e bytes fault = (bytes ≢ []) × (simple_operation e bytes ≡ Err fault)
 
 -- The bytes begin with some of these, and what follows fails.
-abbrev pub FailBehind : {A : Type 0} → (Begins : List ℕ → A → List ℕ → Type 0) → (FailsOfExpression : List ℕ → DebugFault → Type 0) → List ℕ → DebugFault → Type 0
-FailBehind {A} Begins FailsOfExpression bytes fault = (xs : List A) × (rest : List ℕ) × BeginWith Begins bytes xs rest × FailsOfExpression rest fault
+abbrev pub FailAfter : {A : Type 0} → (Begins : List ℕ → A → List ℕ → Type 0) → (FailsOfExpression : List ℕ → DebugFault → Type 0) → List ℕ → DebugFault → Type 0
+FailAfter {A} Begins FailsOfExpression bytes fault = (xs : List A) × (rest : List ℕ) × BeginWith Begins bytes xs rest × FailsOfExpression rest fault
 
 abbrev pub FailsEntryValue : Encoding → List ℕ → DebugFault → Type 0
 FailsEntryValue e bytes fault =
     (entry_value_parts bytes ≡ Err fault)
-    ⊎ ((code : ℕ) × (inside rest : List ℕ) × (entry_value_parts bytes ≡ Ok ((code, inside), rest)) × FailBehind (BeginsSimple e) (FailsSimple e) inside fault)
+    ⊎ ((code : ℕ) × (inside rest : List ℕ) × (entry_value_parts bytes ≡ Ok ((code, inside), rest)) × FailAfter (BeginsSimple e) (FailsSimple e) inside fault)
 
 abbrev pub FailsOfExpression : Encoding → List ℕ → DebugFault → Type 0
 FailsOfExpression e bytes fault = MatchBool (is_entry_value bytes) (FailsEntryValue e bytes fault) (FailsSimple e bytes fault)
 
 abbrev pub IsFaultOfOfExpression : Encoding → List ℕ → DebugFault → Type 0
-IsFaultOfOfExpression e bytes fault = FailBehind (Begins e) (FailsOfExpression e) bytes fault
+IsFaultOfOfExpression e bytes fault = FailAfter (Begins e) (FailsOfExpression e) bytes fault
 
 -- ---- what an expression has
 

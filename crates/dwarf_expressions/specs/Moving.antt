@@ -2,12 +2,12 @@
 use Rattle.std.specs.Prelude.{◌≡◌, ⊤, ◌⊎◌, MatchOption, ℕ, ◌^◌, ◌<◌, Bool, true, false, List, [], ◌∷◌, ◌++◌, length, Option, Some, None, option_map, option_and_then}
 use Rattle.std.specs.List.{list_any}
 use Rattle.code_moves.specs.declared.body.Body.{Body}
-use Rattle.code_moves.specs.Moves.{new_local_in as local_in}
+use Rattle.code_moves.specs.Moves.{new_local_in}
 use Rattle.dwarf_bytes.specs.declared.fault.DebugFault.{DebugFault}
 use Rattle.dwarf_bytes.specs.declared.fault.DebugFault.TheVariants as faults
 use Rattle.dwarf_bytes.specs.Writing.{padded}
 use Rattle.dwarf_expressions.specs.declared.encoding.Encoding.{Encoding}
-use Rattle.dwarf_expressions.specs.Expressions.{Simple, ExpressionOperation as Operation, local, other, simple, entry_value, BeginWith, IsExpression, IsFaultOfOfExpression as IsFaultOf, expression_has as has, is_branch, expression_is_entry as is_entry}
+use Rattle.dwarf_expressions.specs.Expressions.{Simple, ExpressionOperation, local, other, simple, entry_value, BeginWith, IsExpression, IsFaultOfOfExpression, expression_has, is_branch, expression_is_entry}
 
 -- all of them, each turned into another one, or nothing if one can't be
 abbrev pub expression_all_of : {A B : Type 0} → (A → Option B) → List A → Option (List B)
@@ -16,14 +16,14 @@ expression_all_of f (x ∷ xs) = option_and_then (λ y. option_map (λ ys. y ∷
 
 -- A local has its new index; if it isn't kept, there is none.
 abbrev pub moved_simple : Body → Simple → Option Simple
-moved_simple b (local index) = option_map local (local_in b index)
+moved_simple b (local index) = option_map local (new_local_in b index)
 moved_simple b (other code bytes) = Some (other code bytes)
 
-abbrev pub moved_operation : Body → Operation → Option Operation
+abbrev pub moved_operation : Body → ExpressionOperation → Option ExpressionOperation
 moved_operation b (simple s) = option_map simple (moved_simple b s)
 moved_operation b (entry_value code ss) = option_map (entry_value code) (expression_all_of (moved_simple b) ss)
 
-abbrev pub expression_moved : Body → List Operation → Option (List Operation)
+abbrev pub expression_moved : Body → List ExpressionOperation → Option (List ExpressionOperation)
 expression_moved b = expression_all_of (moved_operation b)
 
 -- ---- what is written
@@ -44,17 +44,17 @@ WritesOfExpression Begins text xs = (following : List ℕ) → BeginWith Begins 
 -- What is appended of an expression of these operations, and whether an operation that is appended names an entry by its offset. With
 -- no body the expression is appended as it is. If a local isn't kept, nothing is appended: the empty expression says that there is no
 -- location. An operation that goes forward or back in the expression is appended only if the expression keeps its length.
-abbrev pub IsAppendedOfExpression : Encoding → (body : Option Body) → (old : List ℕ) → List Operation → (added : List ℕ) (names_entries : Bool) → Type 0
-IsAppendedOfExpression e None old os added names = (added ≡ old) × (names ≡ list_any (has is_entry) os)
+abbrev pub IsAppendedOfExpression : Encoding → (body : Option Body) → (old : List ℕ) → List ExpressionOperation → (added : List ℕ) (names_entries : Bool) → Type 0
+IsAppendedOfExpression e None old os added names = (added ≡ old) × (names ≡ list_any (expression_has expression_is_entry) os)
 IsAppendedOfExpression e (Some b) old os added names =
     MatchOption (expression_moved b os)
     ((added ≡ []) × (names ≡ false))
-    (λ news. IsExpression e added news × (names ≡ list_any (has is_entry) news) × (list_any (has is_branch) os ≡ true → length added ≡ length old))
+    (λ news. IsExpression e added news × (names ≡ list_any (expression_has expression_is_entry) news) × (list_any (expression_has is_branch) os ≡ true → length added ≡ length old))
 
 -- Why nothing is appended: the expression can't be read; or it has an operation that goes forward or back, and has other lengths of
 -- operations when it is moved.
 abbrev pub IsRefusedOfExpression : Encoding → (body : Option Body) → (old : List ℕ) → DebugFault → Type 0
-IsRefusedOfExpression e None old fault = IsFaultOf e old fault
+IsRefusedOfExpression e None old fault = IsFaultOfOfExpression e old fault
 IsRefusedOfExpression e (Some b) old fault =
-    IsFaultOf e old fault
-    ⊎ ((fault ≡ faults.Unsupported) × (os news : List Operation) × IsExpression e old os × (list_any (has is_branch) os ≡ true) × (expression_moved b os ≡ Some news))
+    IsFaultOfOfExpression e old fault
+    ⊎ ((fault ≡ faults.Unsupported) × (os news : List ExpressionOperation) × IsExpression e old os × (list_any (expression_has is_branch) os ≡ true) × (expression_moved b os ≡ Some news))

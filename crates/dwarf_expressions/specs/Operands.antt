@@ -1,5 +1,5 @@
 -- The operands of operations (DWARF 5, section 7.7.1; DWARF for WebAssembly, "DW_OP_WASM_location"). Besides those that GCC and LLVM
--- write, whose names begin with DW_OP_GNU: they stand in the range that the standard leaves to vendors.
+-- write, whose names begin with DW_OP_GNU: they are in the range that the standard leaves to vendors.
 use Rattle.std.specs.Prelude.{ℕ, List, [], ◌∷◌, ◌&&◌, nat_le, nat_lt, ◌==◌, if◌then◌else◌, Option, Some, None}
 use Rattle.dwarf_bytes.specs.declared.size.Size.{Size}
 use Rattle.dwarf_bytes.specs.declared.size.Size.TheVariants.{One, Two, Four, Eight}

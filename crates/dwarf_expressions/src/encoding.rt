@@ -15,7 +15,7 @@ pub struct Encoding {
 
 impl Encoding {
     ghost use Rattle.std.specs.Prelude.{◌≡◌, ◌-◌, ◌^◌};
-    ghost use Rattle.dwarf_bytes.specs.Numbers.{size_in_bytes as bytes_of, offset_size};
+    ghost use Rattle.dwarf_bytes.specs.Numbers.{size_in_bytes, offset_size};
     ghost use Rattle.dwarf_expressions.specs.Operands.{reference_size};
 
     /// The size of offsets into a section.
@@ -38,7 +38,7 @@ impl Encoding {
 
     /// The greatest address.
     pub fn greatest_address(self) -> u64
-        ensures { result ≡ 256 ^ bytes_of self.address_size - 1 }
+        ensures { result ≡ 256 ^ size_in_bytes self.address_size - 1 }
     {
         self.address_size.greatest()
     }

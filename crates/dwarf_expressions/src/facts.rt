@@ -2,7 +2,7 @@
 
 ghost use Rattle.std.specs.Prelude.{◌≡◌, ◌||◌, List, [], IfOk, IfErr, Err};
 ghost use Rattle.std.specs.List.{list_any};
-ghost use Rattle.dwarf_expressions.specs.Expressions.{Simple as ASimple, ExpressionOperation as Operation, simple_operation, simple_has, expression_has as has, is_branch, expression_is_entry as is_entry, BeginWith, BeginsSimple, FailBehind, FailsSimple, IsExpression, IsFaultOfOfExpression as IsFaultOf};
+ghost use Rattle.dwarf_expressions.specs.Expressions.{Simple, ExpressionOperation, simple_operation, simple_has, expression_has, is_branch, expression_is_entry as is_entry, BeginWith, BeginsSimple, FailAfter, FailsSimple, IsExpression, IsFaultOfOfExpression};
 
 use crate::encoding::Encoding;
 use crate::operand::Operand;
@@ -74,12 +74,12 @@ impl Facts {
 
 // the facts of an expression of simple operations
 fn simple_facts(encoding: Encoding, expression: &[u8]) -> Result<Facts, DebugFault>
-    ensures read { IfOk result (λ facts. (ss : List ASimple)
+    ensures read { IfOk result (λ facts. (ss : List Simple)
         × BeginWith (BeginsSimple encoding) expression.now ss []
         × (facts.branches ≡ list_any (simple_has is_branch) ss)
         × (facts.names_entries ≡ list_any (simple_has is_entry) ss)) }
     ensures refused { IfErr result (λ fault.
-        FailBehind (BeginsSimple encoding) (FailsSimple encoding) expression.now fault) }
+        FailAfter (BeginsSimple encoding) (FailsSimple encoding) expression.now fault) }
 {
     let mut facts = Facts::none();
     let mut rest = expression;
@@ -97,11 +97,11 @@ fn simple_facts(encoding: Encoding, expression: &[u8]) -> Result<Facts, DebugFau
 ///
 /// The fault of its first operation that can't be read; `Unsupported` if an expression in the expression contains another one.
 pub(crate) fn expression_facts(encoding: Encoding, expression: &[u8]) -> Result<Facts, DebugFault>
-    ensures read { IfOk result (λ facts. (os : List Operation)
+    ensures read { IfOk result (λ facts. (os : List ExpressionOperation)
         × IsExpression encoding expression.now os
-        × (facts.branches ≡ list_any (has is_branch) os)
-        × (facts.names_entries ≡ list_any (has is_entry) os)) }
-    ensures refused { IfErr result (λ fault. IsFaultOf encoding expression.now fault) }
+        × (facts.branches ≡ list_any (expression_has is_branch) os)
+        × (facts.names_entries ≡ list_any (expression_has is_entry) os)) }
+    ensures refused { IfErr result (λ fault. IsFaultOfOfExpression encoding expression.now fault) }
 {
     let mut facts = Facts::none();
     let mut rest = expression;

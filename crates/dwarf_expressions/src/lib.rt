@@ -7,8 +7,6 @@ mod law;
 mod moving;
 mod operand;
 mod reading;
-#[cfg(test)]
-mod tests;
 
 pub use encoding::Encoding;
 pub use law::law_one_reading;

@@ -4,8 +4,8 @@ ghost use Rattle.std.specs.Prelude.{◌≡◌, ◌≢◌, ◌⊎◌, ◌-◌, �
 ghost use Rattle.dwarf_bytes.specs.Writing.{padded};
 ghost use Rattle.dwarf_bytes.specs.declared.fault.DebugError.TheVariants.{Memory, Fault};
 ghost use Rattle.dwarf_bytes.specs.declared.fault.DebugFault.{DebugFault as AFault};
-ghost use Rattle.dwarf_expressions.specs.Expressions.{Simple as ASimple, ExpressionOperation as Operation, Begins, BeginsSimple, BeginWith, IsExpression};
-ghost use Rattle.dwarf_expressions.specs.Moving.{expression_all_of as all_of, moved_simple, moved_operation, expression_moved as moved, expression_written as written, HasIndex, WritesOfExpression as Writes, IsAppendedOfExpression as IsAppended, IsRefusedOfExpression as IsRefused};
+ghost use Rattle.dwarf_expressions.specs.Expressions.{Simple as ASimple, ExpressionOperation, Begins, BeginsSimple, BeginWith, IsExpression};
+ghost use Rattle.dwarf_expressions.specs.Moving.{expression_all_of, moved_simple, moved_operation, expression_moved, expression_written, HasIndex, WritesOfExpression, IsAppendedOfExpression, IsRefusedOfExpression};
 ghost use Rattle.dwarf_expressions.specs.Reading.{simple_of};
 
 use crate::encoding::Encoding;
@@ -19,7 +19,7 @@ fn move_simple(operation: &Simple<'_>, body: &Body, out: &mut Vec<u8>) -> Result
     ensures moved { IfOk result (λ kept. MatchBool kept
         ((new : ASimple) × (moved_simple body.now (simple_of operation.now) ≡ Some new)
         × HasIndex new
-        × (out.new.items ≡ out.old.items ++ written (length operation.now.bytes.now - 1) new))
+        × (out.new.items ≡ out.old.items ++ expression_written (length operation.now.bytes.now - 1) new))
         ((moved_simple body.now (simple_of operation.now) ≡ None)
         × (out.new.items ≡ out.old.items))) }
     ensures memory { IfErr result (λ e. e ≡ Memory) }
@@ -49,10 +49,10 @@ fn move_simples(
     ensures moved { IfOk result (λ kept. MatchBool kept
         ((ss news : List ASimple) × (text : List ℕ)
         × BeginWith (BeginsSimple encoding) expression.now ss []
-        × (all_of (moved_simple body.now) ss ≡ Some news)
-        × (out.new.items ≡ out.old.items ++ text) × Writes (BeginsSimple encoding) text news)
+        × (expression_all_of (moved_simple body.now) ss ≡ Some news)
+        × (out.new.items ≡ out.old.items ++ text) × WritesOfExpression (BeginsSimple encoding) text news)
         ((ss : List ASimple) → BeginWith (BeginsSimple encoding) expression.now ss []
-        → all_of (moved_simple body.now) ss ≡ None)) }
+        → expression_all_of (moved_simple body.now) ss ≡ None)) }
     ensures memory { (ss : List ASimple) → BeginWith (BeginsSimple encoding) expression.now ss []
         → IfErr result (λ e. e ≡ Memory) }
 {
@@ -78,13 +78,13 @@ fn move_entry_value(
     ensures moved { IfOk result (λ kept. MatchBool kept
         ((ss news : List ASimple) × (inside : List ℕ)
         × BeginWith (BeginsSimple encoding) value.now.expression.now ss []
-        × (all_of (moved_simple body.now) ss ≡ Some news)
+        × (expression_all_of (moved_simple body.now) ss ≡ Some news)
         × BeginWith (BeginsSimple encoding) inside news []
         × (length inside < 2 ^ 64)
         × (out.new.items ≡ out.old.items
         ++ (value.now.code ∷ (padded value.now.width (length inside) ++ inside))))
         (((ss : List ASimple) → BeginWith (BeginsSimple encoding) value.now.expression.now ss []
-        → all_of (moved_simple body.now) ss ≡ None) × (out.new.items ≡ out.old.items))) }
+        → expression_all_of (moved_simple body.now) ss ≡ None) × (out.new.items ≡ out.old.items))) }
     ensures memory { (ss : List ASimple)
         → BeginWith (BeginsSimple encoding) value.now.expression.now ss []
         → IfErr result (λ e. e ≡ Memory) }
@@ -108,12 +108,12 @@ fn move_operations(
 ) -> Result<bool, DebugError>
     ensures added { OnOk result ((text : List ℕ) × (out.new.items ≡ out.old.items ++ text)) }
     ensures moved { IfOk result (λ kept. MatchBool kept
-        ((os news : List Operation) × (text : List ℕ) × IsExpression encoding expression.now os
-        × (moved body.now os ≡ Some news)
-        × (out.new.items ≡ out.old.items ++ text) × Writes (Begins encoding) text news)
-        ((os : List Operation) → IsExpression encoding expression.now os
-        → moved body.now os ≡ None)) }
-    ensures memory { (os : List Operation) → IsExpression encoding expression.now os
+        ((os news : List ExpressionOperation) × (text : List ℕ) × IsExpression encoding expression.now os
+        × (expression_moved body.now os ≡ Some news)
+        × (out.new.items ≡ out.old.items ++ text) × WritesOfExpression (Begins encoding) text news)
+        ((os : List ExpressionOperation) → IsExpression encoding expression.now os
+        → expression_moved body.now os ≡ None)) }
+    ensures memory { (os : List ExpressionOperation) → IsExpression encoding expression.now os
         → IfErr result (λ e. e ≡ Memory) }
 {
     let mut rest = expression;
@@ -149,13 +149,13 @@ pub fn moved_expression(
     body: Option<&Body>,
     out: &mut Vec<u8>,
 ) -> Result<bool, DebugError>
-    ensures moved { IfOk result (λ names_entries. (os : List Operation) × (added : List ℕ)
+    ensures moved { IfOk result (λ names_entries. (os : List ExpressionOperation) × (added : List ℕ)
         × IsExpression encoding expression.now os
         × (out.new.items ≡ out.old.items ++ added)
-        × IsAppended encoding (option_map (λ b. b.now) body.entry) expression.now os added
+        × IsAppendedOfExpression encoding (option_map (λ b. b.now) body.entry) expression.now os added
         names_entries) }
     ensures refused { IfErr result (λ e. (e ≡ Memory) ⊎ ((fault : AFault) × (e ≡ Fault fault)
-        × IsRefused encoding (option_map (λ b. b.now) body.entry) expression.now fault)) }
+        × IsRefusedOfExpression encoding (option_map (λ b. b.now) body.entry) expression.now fault)) }
 {
     let facts = expression_facts(encoding, expression)?;
     let Some(body) = body else {

@@ -2,7 +2,7 @@
 //! LLVM write besides, whose names begin with `DW_OP_GNU`).
 
 ghost use Rattle.std.specs.Prelude.{◌≡◌};
-ghost use Rattle.dwarf_expressions.specs.Operands.{first_rows, other_rows, vendor_rows, expression_operands_in as operands_in, expression_operands as operands};
+ghost use Rattle.dwarf_expressions.specs.Operands.{first_rows, other_rows, vendor_rows, expression_operands_in, expression_operands as operands};
 
 use dwarf_bytes::Size;
 
@@ -41,7 +41,7 @@ const NONE: (Operand, Operand) = (Operand::Nothing, Operand::Nothing);
 
 // the operands of an operation that computes, or whose code contains a number
 fn first_operands(code: u8) -> Option<(Operand, Operand)>
-    ensures { result ≡ operands_in first_rows code }
+    ensures { result ≡ expression_operands_in first_rows code }
 {
     let operands = match code {
         // addr
@@ -69,7 +69,7 @@ fn first_operands(code: u8) -> Option<(Operand, Operand)>
 
 // the operands of another operation of the standard
 fn other_operands(code: u8) -> Option<(Operand, Operand)>
-    ensures { result ≡ operands_in other_rows code }
+    ensures { result ≡ expression_operands_in other_rows code }
 {
     let operands = match code {
         // regx; piece; addrx, constx
@@ -111,7 +111,7 @@ fn other_operands(code: u8) -> Option<(Operand, Operand)>
 
 // the operands of an operation of a vendor
 fn vendor_operands(code: u8) -> Option<(Operand, Operand)>
-    ensures { result ≡ operands_in vendor_rows code }
+    ensures { result ≡ expression_operands_in vendor_rows code }
 {
     let operands = match code {
         // GNU_push_tls_address; GNU_uninit

@@ -2,8 +2,8 @@
 
 ghost use Rattle.std.specs.Prelude.{◌≡◌, ◌≤◌, ◌<◌, ◌-◌, ◌+◌, length, take, IfOk};
 ghost use Rattle.wasm_numbers.specs.Results.{Gives};
-ghost use Rattle.dwarf_bytes.specs.Numbers.{size_in_bytes as bytes_of, fixed_number as fixed, unsigned_leb as unsigned, signed_leb as signed};
-ghost use Rattle.dwarf_expressions.specs.Expressions.{skipped, sized, expression_place as place, expression_operand as operand, both_operands, before, other_operation, simple_operation, is_entry_value, entry_value_parts, expression_operands_of as operands_of};
+ghost use Rattle.dwarf_bytes.specs.Numbers.{size_in_bytes, fixed_number, unsigned_leb, signed_leb};
+ghost use Rattle.dwarf_expressions.specs.Expressions.{skipped, sized, expression_place, expression_operand as operand, both_operands, before, other_operation, simple_operation, is_entry_value, entry_value_parts, expression_operands_of};
 ghost use Rattle.dwarf_expressions.specs.Reading.{simple_of};
 
 use crate::encoding::Encoding;
@@ -23,25 +23,25 @@ pub(crate) struct Simple<'a> {
     pub operands: (Operand, Operand),
 }
 
-// behind a number of this size
-fn behind_sized(size: Size, bytes: &[u8]) -> Result<&[u8], DebugFault>
-    ensures { Gives (λ rest. (tt, rest.now)) result (skipped (fixed (bytes_of size)) bytes.now) }
+// after a number of this size
+fn after_sized(size: Size, bytes: &[u8]) -> Result<&[u8], DebugFault>
+    ensures { Gives (λ rest. (tt, rest.now)) result (skipped (fixed_number (size_in_bytes size)) bytes.now) }
 {
     let (_, rest) = read_sized(size, bytes)?;
     Ok(rest)
 }
 
-// behind an unsigned number
-fn behind_unsigned(bytes: &[u8]) -> Result<&[u8], DebugFault>
-    ensures { Gives (λ rest. (tt, rest.now)) result (skipped unsigned bytes.now) }
+// after an unsigned number
+fn after_unsigned(bytes: &[u8]) -> Result<&[u8], DebugFault>
+    ensures { Gives (λ rest. (tt, rest.now)) result (skipped unsigned_leb bytes.now) }
 {
     let (_, rest) = read_unsigned(bytes)?;
     Ok(rest)
 }
 
-// behind a signed number
-fn behind_signed(bytes: &[u8]) -> Result<&[u8], DebugFault>
-    ensures { Gives (λ rest. (tt, rest.now)) result (skipped signed bytes.now) }
+// after a signed number
+fn after_signed(bytes: &[u8]) -> Result<&[u8], DebugFault>
+    ensures { Gives (λ rest. (tt, rest.now)) result (skipped signed_leb bytes.now) }
 {
     let (_, rest) = read_signed(bytes)?;
     Ok(rest)
@@ -49,46 +49,46 @@ fn behind_signed(bytes: &[u8]) -> Result<&[u8], DebugFault>
 
 // a number, and as many bytes
 fn read_block(bytes: &[u8]) -> Result<(&[u8], &[u8]), DebugFault>
-    ensures { Gives (λ x. (x.0.now, x.1.now)) result (sized unsigned bytes.now) }
+    ensures { Gives (λ x. (x.0.now, x.1.now)) result (sized unsigned_leb bytes.now) }
 {
     let (count, rest) = read_unsigned(bytes)?;
     split(rest, count)
 }
 
-// behind a number, and as many bytes
-fn behind_block(bytes: &[u8]) -> Result<&[u8], DebugFault>
-    ensures { Gives (λ rest. (tt, rest.now)) result (skipped (sized unsigned) bytes.now) }
+// after a number, and as many bytes
+fn after_block(bytes: &[u8]) -> Result<&[u8], DebugFault>
+    ensures { Gives (λ rest. (tt, rest.now)) result (skipped (sized unsigned_leb) bytes.now) }
 {
     let (_, rest) = read_block(bytes)?;
     Ok(rest)
 }
 
-// behind a byte, and as many bytes as it says
-fn behind_short_block(bytes: &[u8]) -> Result<&[u8], DebugFault>
-    ensures { Gives (λ rest. (tt, rest.now)) result (skipped (sized (fixed 1)) bytes.now) }
+// after a byte, and as many bytes as it says
+fn after_short_block(bytes: &[u8]) -> Result<&[u8], DebugFault>
+    ensures { Gives (λ rest. (tt, rest.now)) result (skipped (sized (fixed_number 1)) bytes.now) }
 {
     let (count, rest) = read_u8(bytes)?;
     let (_, rest) = split(rest, u64::from(count))?;
     Ok(rest)
 }
 
-// behind a place of WebAssembly
-fn behind_place(bytes: &[u8]) -> Result<&[u8], DebugFault>
-    ensures { Gives (λ rest. (tt, rest.now)) result (place bytes.now) }
+// after a place of WebAssembly
+fn after_place(bytes: &[u8]) -> Result<&[u8], DebugFault>
+    ensures { Gives (λ rest. (tt, rest.now)) result (expression_place bytes.now) }
 {
     let (kind, rest) = read_u8(bytes)?;
     if kind <= 2 {
-        return behind_unsigned(rest);
+        return after_unsigned(rest);
     }
     if kind == 3 {
-        return behind_sized(Size::Four, rest);
+        return after_sized(Size::Four, rest);
     }
     Err(DebugFault::UnknownOperation)
 }
 
-// behind an operand of this kind
+// after an operand of this kind
 #[tactic(auto, unfolding(crate::specs::Expressions::expression_operand))]
-fn behind_operand<'a>(
+fn after_operand<'a>(
     encoding: Encoding,
     kind: Operand,
     bytes: &'a [u8],
@@ -97,21 +97,21 @@ fn behind_operand<'a>(
 {
     match kind {
         Operand::Nothing => Ok(bytes),
-        Operand::Address => behind_sized(encoding.address_size, bytes),
-        Operand::Fixed(size) | Operand::EntryAt(size) => behind_sized(size, bytes),
-        Operand::Unsigned | Operand::Entry => behind_unsigned(bytes),
-        Operand::Signed => behind_signed(bytes),
-        Operand::Branch => behind_sized(Size::Two, bytes),
-        Operand::Block => behind_block(bytes),
-        Operand::ShortBlock => behind_short_block(bytes),
+        Operand::Address => after_sized(encoding.address_size, bytes),
+        Operand::Fixed(size) | Operand::EntryAt(size) => after_sized(size, bytes),
+        Operand::Unsigned | Operand::Entry => after_unsigned(bytes),
+        Operand::Signed => after_signed(bytes),
+        Operand::Branch => after_sized(Size::Two, bytes),
+        Operand::Block => after_block(bytes),
+        Operand::ShortBlock => after_short_block(bytes),
         Operand::Expression => Err(DebugFault::Unsupported),
-        Operand::Place => behind_place(bytes),
-        Operand::EntryOfAnyUnit => behind_sized(encoding.reference_size(), bytes),
+        Operand::Place => after_place(bytes),
+        Operand::EntryOfAnyUnit => after_sized(encoding.reference_size(), bytes),
     }
 }
 
-// behind two operands
-fn behind_operands<'a>(
+// after two operands
+fn after_operands<'a>(
     encoding: Encoding,
     kinds: (Operand, Operand),
     bytes: &'a [u8],
@@ -119,8 +119,8 @@ fn behind_operands<'a>(
     ensures { Gives (λ rest. (tt, rest.now)) result (both_operands encoding kinds bytes.now) }
 {
     let (one, two) = kinds;
-    let rest = behind_operand(encoding, one, bytes)?;
-    behind_operand(encoding, two, rest)
+    let rest = after_operand(encoding, one, bytes)?;
+    after_operand(encoding, two, rest)
 }
 
 // the bytes in front of those at their end
@@ -134,7 +134,7 @@ fn before<'a>(bytes: &'a [u8], rest: &[u8]) -> &'a [u8]
 fn read_other<'a>(encoding: Encoding, bytes: &'a [u8]) -> Result<(Simple<'a>, &'a [u8]), DebugFault>
     ensures gives { Gives (λ x. (simple_of x.0, x.1.now)) result
         (other_operation encoding bytes.now) }
-    ensures operands { IfOk result (λ x. x.0.operands ≡ operands_of (simple_of x.0)) }
+    ensures operands { IfOk result (λ x. x.0.operands ≡ expression_operands_of (simple_of x.0)) }
 {
     let [code, after @ ..] = bytes else {
         return Err(DebugFault::Truncated);
@@ -142,7 +142,7 @@ fn read_other<'a>(encoding: Encoding, bytes: &'a [u8]) -> Result<(Simple<'a>, &'
     let Some(kinds) = operands(*code) else {
         return Err(DebugFault::UnknownOperation);
     };
-    let rest = behind_operands(encoding, kinds, after)?;
+    let rest = after_operands(encoding, kinds, after)?;
     let simple = Simple {
         code: *code,
         bytes: before(after, rest),
@@ -165,7 +165,7 @@ pub(crate) fn read_simple<'a>(
 ) -> Result<(Simple<'a>, &'a [u8]), DebugFault>
     ensures gives { Gives (λ x. (simple_of x.0, x.1.now)) result
         (simple_operation encoding bytes.now) }
-    ensures operands { IfOk result (λ x. x.0.operands ≡ operands_of (simple_of x.0)) }
+    ensures operands { IfOk result (λ x. x.0.operands ≡ expression_operands_of (simple_of x.0)) }
 {
     let [0xed, 0, number @ ..] = bytes else {
         return read_other(encoding, bytes);

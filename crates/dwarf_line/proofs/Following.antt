@@ -5,32 +5,26 @@ use Rattle.code_moves.specs.Moves.{new_address}
 use Rattle.dwarf_line.specs.declared.operation.AddressSize.{AddressSize}
 use Rattle.dwarf_line.specs.declared.operation.Change.{Change}
 use Rattle.dwarf_line.specs.declared.operation.Operation.{Operation}
-use Rattle.dwarf_line.specs.declared.operation.Operation.TheVariants.{Advance, SetAddress, Special, AppendRow, EndSequence, Changes}
+use Rattle.dwarf_line.specs.declared.operation.Operation.TheVariants.{SetAddress, Special, AppendRow, EndSequence, Changes}
 use Rattle.dwarf_line.specs.declared.place.Place.{Place}
-use Rattle.dwarf_line.specs.Kept.{line_kept as kept}
-use Rattle.dwarf_line.specs.LineProgram.{Parameters, Registers, LineRow as Row, advanced, address_advance, line_advance, before_row, after_row, row_of, state_after, all_appended}
+use Rattle.dwarf_line.specs.Kept.{line_kept}
+use Rattle.dwarf_line.specs.LineProgram.{Parameters, Registers, LineRow, advanced, address_advance, line_advance, before_row, after_row, row_of, state_after, all_appended}
 use Rattle.dwarf_line.specs.MovedRows.{moved_row}
-use Rattle.dwarf_line.specs.Operations.{line_operation as operation}
-use Rattle.dwarf_line.specs.Repeated.{ReadsAs as Spells}
-use Rattle.dwarf_line.specs.Written.{AddsOfLines as Adds, line_state as state, LeadsOfLines as Leads, AdvancesOfLines as Advances, AddsAdvance, AddsSpecial, AddsLead, Carries, FollowsOfLines as Follows, line_start as start}
+use Rattle.dwarf_line.specs.Operations.{line_operation}
+use Rattle.dwarf_line.specs.Repeated.{ReadsAs}
+use Rattle.dwarf_line.specs.Written.{AddsOfLines, line_state as state, LeadsOfLines, AdvancesOfLines, AddsAdvance, AddsSpecial, AddsLead, Carries, FollowsOfLines, line_start}
 use Rattle.dwarf_line.proofs.KeptLemmas.{keeps_one}
-use Rattle.dwarf_line.proofs.MachineLemmas.{state_after_all-append, all_appended-append, adds-append, adds_nothing, leads-append}
+use Rattle.dwarf_line.proofs.MachineLemmas.{state_after_all-append, all_appended-append, adds-append, leads-append}
 
 -- ---- what leads to an address
 
-pub leads_nowhere : (p : Parameters) (from : ℕ) → Leads p [] from from
-leads_nowhere p from = record { rows = λ x. refl; after = λ x. refl }
-
-pub adds_no_lead : (p : Parameters) (old : List ℕ) (from : ℕ) → AddsLead p old old from from
-adds_no_lead p old from = record { operations = []; adds = adds_nothing p old; leads = leads_nowhere p from }
-
-pub adds_lead_by_set : (p : Parameters) (size : AddressSize) (old new : List ℕ) (from to : ℕ) → Adds p old new (SetAddress size to ∷ []) [] → AddsLead p old new from to
+pub adds_lead_by_set : (p : Parameters) (size : AddressSize) (old new : List ℕ) (from to : ℕ) → AddsOfLines p old new (SetAddress size to ∷ []) [] → AddsLead p old new from to
 adds_lead_by_set p size old new from to adds = record { operations = SetAddress size to ∷ []; adds = adds; leads = record { rows = λ x. refl; after = λ x. refl } }
 
-leads_further : (p : Parameters) (os : List Operation) (from distance to : ℕ) → from ≤ to → to < 2 ^ 64 → distance ≡ to - from → Advances p os distance → Leads p os from to
+leads_further : (p : Parameters) (os : List Operation) (from distance to : ℕ) → from ≤ to → to < 2 ^ 64 → distance ≡ to - from → AdvancesOfLines p os distance → LeadsOfLines p os from to
 leads_further p os from distance to below fits e advances =
     let k : from + distance ≡ to = omega arith in
-    subst (λ n. Leads p os from n) k (advances from (omega arith))
+    subst (λ n. LeadsOfLines p os from n) k (advances from (omega arith))
 
 pub adds_lead_further : (p : Parameters) (old between new : List ℕ) (a b c : ℕ) → b ≤ c → c < 2 ^ 64 → AddsLead p old between a b → AddsAdvance p between new (c - b) → AddsLead p old new a c
 adds_lead_further p old between new a b c below fits lead advance = record {
@@ -41,7 +35,7 @@ adds_lead_further p old between new a b c below fits lead advance = record {
 
 -- ---- an operation after what leads to its address
 
-module _ (bodies : List Body) (p : Parameters) (os : List Operation) (o written : Operation) (from to : Place) (target : ℕ) (leads : Leads p os from.new target)
+module _ (bodies : List Body) (p : Parameters) (os : List Operation) (o written : Operation) (from to : Place) (target : ℕ) (leads : LeadsOfLines p os from.new target)
     (rows : (x : Registers) → all_appended p (written ∷ []) (state target x) ≡ map (moved_row bodies) (all_appended p (o ∷ []) (state from.old x)))
     (after : (x : Registers) → state_after p written (state target x) ≡ state to.new (state_after p o (state from.old x)).registers)
     (address : (x : Registers) → (state_after p o (state from.old x)).address ≡ to.old) where
@@ -54,26 +48,18 @@ module _ (bodies : List Body) (p : Parameters) (os : List Operation) (o written 
 
 -- ---- each operation
 
-pub adds_copied : (p : Parameters) (o : Operation) (text old new : List ℕ) → Spells (operation p) (o ∷ []) text → new ≡ old ++ text → Adds p old new (o ∷ []) (kept p o text)
+pub adds_copied : (p : Parameters) (o : Operation) (text old new : List ℕ) → ReadsAs (line_operation p) (o ∷ []) text → new ≡ old ++ text → AddsOfLines p old new (o ∷ []) (line_kept p o text)
 adds_copied p o text old new spells added = record { text = text; added = added; spells = spells; keeps = keeps_one p o text spells }
 
-pub follows_advance : (bodies : List Body) (p : Parameters) (distance : ℕ) (from to : Place) (old : List ℕ) → to.old ≡ advanced from.old distance → to.new ≡ from.new
-    → Follows bodies p (Advance distance ∷ []) from to old old []
-follows_advance bodies p distance from to old e f = record {
-  operations = [];
-  adds = adds_nothing p old;
-  carries = record { rows = λ x. refl; after = λ x. ap (λ n. state n x) (sym f); address = λ x. sym e };
-}
-
-pub follows_set : (bodies : List Body) (p : Parameters) (size : AddressSize) (address : ℕ) (from to : Place) (old new : List ℕ) → to.old ≡ address → Adds p old new (SetAddress size to.new ∷ []) []
-    → Follows bodies p (SetAddress size address ∷ []) from to old new []
+pub follows_set : (bodies : List Body) (p : Parameters) (size : AddressSize) (address : ℕ) (from to : Place) (old new : List ℕ) → to.old ≡ address → AddsOfLines p old new (SetAddress size to.new ∷ []) []
+    → FollowsOfLines bodies p (SetAddress size address ∷ []) from to old new []
 follows_set bodies p size address from to old new e adds = record {
   operations = SetAddress size to.new ∷ [];
   adds = adds;
   carries = record { rows = λ x. refl; after = λ x. refl; address = λ x. sym e };
 }
 
-pub follows_change : (bodies : List Body) (p : Parameters) (c : Change) (from : Place) (text old new : List ℕ) → Adds p old new (Changes c ∷ []) (text ∷ []) → Follows bodies p (Changes c ∷ []) from from old new (text ∷ [])
+pub follows_change : (bodies : List Body) (p : Parameters) (c : Change) (from : Place) (text old new : List ℕ) → AddsOfLines p old new (Changes c ∷ []) (text ∷ []) → FollowsOfLines bodies p (Changes c ∷ []) from from old new (text ∷ [])
 follows_change bodies p c from text old new adds = record {
   operations = Changes c ∷ [];
   adds = adds;
@@ -81,11 +67,11 @@ follows_change bodies p c from text old new adds = record {
 }
 
 -- a row at another address
-abbrev row_at : Registers → (end_sequence : Bool) → ℕ → List Row
+abbrev row_at : Registers → (end_sequence : Bool) → ℕ → List LineRow
 row_at x end a = record { address = a; registers = x; end_sequence = end } ∷ []
 
-pub follows_row : (bodies : List Body) (p : Parameters) (from to : Place) (target : ℕ) (text old between new : List ℕ) → AddsLead p old between from.new target → Adds p between new (AppendRow ∷ []) (text ∷ [])
-    → target ≡ new_address bodies from.old → to.old ≡ from.old → to.new ≡ target → Follows bodies p (AppendRow ∷ []) from to old new (text ∷ [])
+pub follows_row : (bodies : List Body) (p : Parameters) (from to : Place) (target : ℕ) (text old between new : List ℕ) → AddsLead p old between from.new target → AddsOfLines p between new (AppendRow ∷ []) (text ∷ [])
+    → target ≡ new_address bodies from.old → to.old ≡ from.old → to.new ≡ target → FollowsOfLines bodies p (AppendRow ∷ []) from to old new (text ∷ [])
 follows_row bodies p from to target text old between new lead adds moves e f = record {
   operations = lead.operations ++ AppendRow ∷ [];
   adds = adds-append p old between new lead.operations (AppendRow ∷ []) [] (text ∷ []) lead.adds adds;
@@ -93,12 +79,12 @@ follows_row bodies p from to target text old between new lead adds moves e f = r
       (λ x. ap (row_at x false) moves) (λ x. ap (λ n. state n (record x { discriminator = 0; basic_block = false; prologue_end = false; epilogue_begin = false })) (sym f)) (λ x. sym e);
 }
 
-pub follows_end : (bodies : List Body) (p : Parameters) (from : Place) (target : ℕ) (text old between new : List ℕ) → AddsLead p old between from.new target → Adds p between new (EndSequence ∷ []) (text ∷ [])
-    → target ≡ new_address bodies from.old → Follows bodies p (EndSequence ∷ []) from start old new (text ∷ [])
+pub follows_end : (bodies : List Body) (p : Parameters) (from : Place) (target : ℕ) (text old between new : List ℕ) → AddsLead p old between from.new target → AddsOfLines p between new (EndSequence ∷ []) (text ∷ [])
+    → target ≡ new_address bodies from.old → FollowsOfLines bodies p (EndSequence ∷ []) from line_start old new (text ∷ [])
 follows_end bodies p from target text old between new lead adds moves = record {
   operations = lead.operations ++ EndSequence ∷ [];
   adds = adds-append p old between new lead.operations (EndSequence ∷ []) [] (text ∷ []) lead.adds adds;
-  carries = carries_after_lead bodies p lead.operations EndSequence EndSequence from start target lead.leads (λ x. ap (row_at x true) moves) (λ x. refl) (λ x. refl);
+  carries = carries_after_lead bodies p lead.operations EndSequence EndSequence from line_start target lead.leads (λ x. ap (row_at x true) moves) (λ x. refl) (λ x. refl);
 }
 
 module _ (bodies : List Body) (p : Parameters) (opcode line : ℕ) (from to : Place) (back : ℕ) (old between new : List ℕ) (lead : AddsLead p old between from.new back)
@@ -108,7 +94,7 @@ module _ (bodies : List Body) (p : Parameters) (opcode line : ℕ) (from to : Pl
   target : ℕ
   target = back + special.by_front
 
-  front_leads : Leads p (lead.operations ++ special.front) from.new target
+  front_leads : LeadsOfLines p (lead.operations ++ special.front) from.new target
   unfolding target
   front_leads =
       let sum = special.whole in
@@ -145,19 +131,19 @@ module _ (bodies : List Body) (p : Parameters) (opcode line : ℕ) (from to : Pl
   special_kept : List (List ℕ)
   special_kept = ((p.opcode_base + line) ∷ []) ∷ []
 
-  special_adds : Adds p old new ((lead.operations ++ special.front) ++ Special special.opcode ∷ []) special_kept
+  special_adds : AddsOfLines p old new ((lead.operations ++ special.front) ++ Special special.opcode ∷ []) special_kept
   unfolding special_kept
   special_adds =
-      subst (λ os. Adds p old new os (((p.opcode_base + line) ∷ []) ∷ [])) (sym (append_assoc lead.operations special.front (Special special.opcode ∷ [])))
+      subst (λ os. AddsOfLines p old new os (((p.opcode_base + line) ∷ []) ∷ [])) (sym (append_assoc lead.operations special.front (Special special.opcode ∷ [])))
       (adds-append p old between new lead.operations (special.front ++ Special special.opcode ∷ []) [] (((p.opcode_base + line) ∷ []) ∷ []) lead.adds special.adds)
 
-  same_kept : special_kept ≡ kept p (Special opcode) []
+  same_kept : special_kept ≡ line_kept p (Special opcode) []
   unfolding special_kept
   same_kept = ap (λ n. ((p.opcode_base + n) ∷ []) ∷ []) line_is
 
-  pub follows_special : Follows bodies p (Special opcode ∷ []) from to old new (kept p (Special opcode) [])
+  pub follows_special : FollowsOfLines bodies p (Special opcode ∷ []) from to old new (line_kept p (Special opcode) [])
   follows_special = record {
     operations = (lead.operations ++ special.front) ++ Special special.opcode ∷ [];
-    adds = subst (Adds p old new ((lead.operations ++ special.front) ++ Special special.opcode ∷ [])) same_kept special_adds;
+    adds = subst (AddsOfLines p old new ((lead.operations ++ special.front) ++ Special special.opcode ∷ [])) same_kept special_adds;
     carries = carries_after_lead bodies p (lead.operations ++ special.front) (Special opcode) (Special special.opcode) from to target front_leads special_rows special_after (λ x. sym old_is);
   }

@@ -1,4 +1,4 @@
--- readers that read the same bytes as the same value, whatever follows them
+-- operations are read as the same values, whatever follows them
 pub mod Local
 -- values that are read one after the other
 pub mod RepeatedLemmas

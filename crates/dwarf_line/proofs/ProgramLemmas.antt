@@ -1,25 +1,26 @@
 -- Programs, while they are written.
-use Rattle.std.proofs.Common.{◌≡◌, ℕ, ◌+◌, ◌-◌, ◌<◌, ◌≤◌, true, false, is_some, List, [], ◌∷◌, ◌++◌, map, length, Ok, Err, refl, sym, ap, subst, ◌∙◌, append_assoc, length-append, arith, inl, inr}
+use Rattle.std.proofs.Common.{◌≡◌, ℕ, ◌+◌, ◌-◌, ◌<◌, true, false, is_some, List, [], ◌∷◌, ◌++◌, map, length, Ok, Err, refl, sym, ap, subst, ◌∙◌, append_assoc, length-append, arith, inl, inr}
 use Rattle.std.proofs.lemmas.Bool.{cases_Bool}
 use Rattle.std.proofs.lemmas.List.{append-nil}
 use Rattle.wasm_numbers.specs.Results.{◌>>=◌}
 use Rattle.dwarf_bytes.specs.declared.fault.DebugFault.{DebugFault}
 use Rattle.dwarf_bytes.specs.declared.fault.DebugFault.TheVariants.{Truncated}
 use Rattle.code_moves.specs.declared.body.Body.{Body}
-use Rattle.code_moves.specs.Moves.{address_moved as moved}
+use Rattle.code_moves.specs.Moves.{address_moved}
 use Rattle.dwarf_line.specs.declared.moved.Moved.{Moved}
 use Rattle.dwarf_line.specs.declared.operation.Operation.{Operation}
 use Rattle.dwarf_line.specs.declared.operation.Operation.TheVariants.{Advance, SetAddress, Special, AppendRow, EndSequence, Changes}
 use Rattle.dwarf_line.specs.declared.sequence.Sequence.{Sequence}
-use Rattle.dwarf_line.specs.Kept.{KeepsOfLines as Keeps}
-use Rattle.dwarf_line.specs.LineProgram.{Parameters, LineRow as Row, initial, sequences, state_after_all, all_appended}
+use Rattle.dwarf_line.specs.Kept.{KeepsOfLines}
+use Rattle.dwarf_line.specs.LineProgram.{Parameters, LineRow, initial, sequences, state_after_all, all_appended}
 use Rattle.dwarf_line.specs.LineTables.{IsSequenceAt, AreSequencesAt}
 use Rattle.dwarf_line.specs.MovedRows.{moved_row, moved_sequence}
-use Rattle.dwarf_line.specs.Operations.{line_operation as operation, rows}
-use Rattle.dwarf_line.specs.Refusals.{line_is_end as is_end, line_ends as ends, sound_program}
+use Rattle.dwarf_line.specs.Operations.{line_operation, rows}
+use Rattle.dwarf_line.specs.Refusals.{line_is_end, line_ends, sound_program}
 use Rattle.dwarf_line.specs.Repeated.{Begin}
-use Rattle.dwarf_line.specs.Written.{AddsOfLines as Adds, IsEnded, IsClosed, IsSequence, BeginsSequence, IsSequenceFault, AddsRows, AddsProgram}
-use Rattle.dwarf_line.proofs.Local.{operation_local, operation_some, shorter}
+use Rattle.dwarf_line.specs.Written.{AddsOfLines, IsEnded, IsClosed, IsSequence, BeginsSequence, IsSequenceFault, AddsRows, AddsProgram}
+use Rattle.dwarf_bytes.proofs.Local.{shorter_by, shorter}
+use Rattle.dwarf_line.proofs.Local.{operation_local, operation_some}
 use Rattle.dwarf_line.proofs.RepeatedLemmas.{begin-append, begin_text, spells_all, all_is, IsShortening, all_fails}
 use Rattle.dwarf_line.proofs.KeptLemmas.{keeps_nothing, keeps-append, kept_is}
 use Rattle.dwarf_line.proofs.MachineLemmas.{state_after_all-append, all_appended-append, adds-append, adds_nothing}
@@ -28,50 +29,50 @@ use Rattle.dwarf_line.proofs.MovedLemmas.{ended_after}
 
 -- ---- moved sequences
 
-closed_map : (bodies : List Body) (rs : List Row) → IsClosed rs → IsClosed (map (moved_row bodies) rs)
+closed_map : (bodies : List Body) (rs : List LineRow) → IsClosed rs → IsClosed (map (moved_row bodies) rs)
 closed_map bodies [] h = h
 closed_map bodies (r ∷ []) h = h
 closed_map bodies (r ∷ s ∷ rs) h = (h.0, closed_map bodies (s ∷ rs) h.1)
 
-closed_moved : (bodies : List Body) (rs : List Row) → IsClosed rs → IsClosed (moved_sequence bodies rs)
+closed_moved : (bodies : List Body) (rs : List LineRow) → IsClosed rs → IsClosed (moved_sequence bodies rs)
 closed_moved bodies [] h = h
-closed_moved bodies (r ∷ rs) h = elim (cases_Bool (is_some (moved bodies r.address))) [ inl t ↦ rw t (closed_map bodies (r ∷ rs) h) | inr f ↦ rw f h ]
+closed_moved bodies (r ∷ rs) h = elim (cases_Bool (is_some (address_moved bodies r.address))) [ inl t ↦ rw t (closed_map bodies (r ∷ rs) h) | inr f ↦ rw f h ]
 
 -- what these rows are followed by decides what is written after what is written for them
-abbrev pub Group : List Body → (rs written : List Row) → Type 0
-Group bodies rs written = (more others : List Row) → sequences others ≡ map (moved_sequence bodies) (sequences more)
+abbrev pub Group : List Body → (rs written : List LineRow) → Type 0
+Group bodies rs written = (more others : List LineRow) → sequences others ≡ map (moved_sequence bodies) (sequences more)
     → sequences (written ++ others) ≡ map (moved_sequence bodies) (sequences (rs ++ more))
 
-group_one : (bodies : List Body) (rs : List Row) → IsClosed rs → Group bodies rs (moved_sequence bodies rs)
+group_one : (bodies : List Body) (rs : List LineRow) → IsClosed rs → Group bodies rs (moved_sequence bodies rs)
 group_one bodies rs h = λ more others e.
-    closed_first (moved_sequence bodies rs) others (closed_moved bodies rs h) ∙ ap (λ (z : List (List Row)). moved_sequence bodies rs ∷ z) e
+    closed_first (moved_sequence bodies rs) others (closed_moved bodies rs h) ∙ ap (λ (z : List (List LineRow)). moved_sequence bodies rs ∷ z) e
     ∙ ap (map (moved_sequence bodies)) (sym (closed_first rs more h))
 
-group-append : (bodies : List Body) (rs ss ws vs : List Row) → Group bodies rs ws → Group bodies ss vs → Group bodies (rs ++ ss) (ws ++ vs)
+group-append : (bodies : List Body) (rs ss ws vs : List LineRow) → Group bodies rs ws → Group bodies ss vs → Group bodies (rs ++ ss) (ws ++ vs)
 group-append bodies rs ss ws vs first second = λ more others e.
-    ap sequences (append_assoc ws vs others) ∙ first (ss ++ more) (vs ++ others) (second more others e) ∙ ap (λ (z : List Row). map (moved_sequence bodies) (sequences z)) (sym (append_assoc rs ss more))
+    ap sequences (append_assoc ws vs others) ∙ first (ss ++ more) (vs ++ others) (second more others e) ∙ ap (λ (z : List LineRow). map (moved_sequence bodies) (sequences z)) (sym (append_assoc rs ss more))
 
 -- ---- the ends of sequences
 
-ends_one : (front : List Operation) → ends (front ++ EndSequence ∷ []) ≡ true
+ends_one : (front : List Operation) → line_ends (front ++ EndSequence ∷ []) ≡ true
 ends_one [] = refl
 ends_one (o ∷ []) = refl
 ends_one (o ∷ q ∷ os) = ends_one (q ∷ os)
 
-ends_ended : (os : List Operation) → IsEnded os → ends os ≡ true
-ends_ended os h = ap ends h.1 ∙ ends_one h.0
+ends_ended : (os : List Operation) → IsEnded os → line_ends os ≡ true
+ends_ended os h = ap line_ends h.1 ∙ ends_one h.0
 
 -- the last operation of the second ones decides, if there are any
-ends-append : (os : List Operation) (o : Operation) (qs : List Operation) → ends (os ++ o ∷ qs) ≡ ends (o ∷ qs)
+ends-append : (os : List Operation) (o : Operation) (qs : List Operation) → line_ends (os ++ o ∷ qs) ≡ line_ends (o ∷ qs)
 ends-append [] o qs = refl
 ends-append (a ∷ []) o qs = refl
 ends-append (a ∷ b ∷ os) o qs = ends-append (b ∷ os) o qs
 
-ends_both : (os qs : List Operation) → ends os ≡ true → ends qs ≡ true → ends (os ++ qs) ≡ true
-ends_both os [] p q = ap ends (append-nil os) ∙ p
+ends_both : (os qs : List Operation) → line_ends os ≡ true → line_ends qs ≡ true → line_ends (os ++ qs) ≡ true
+ends_both os [] p q = ap line_ends (append-nil os) ∙ p
 ends_both os (o ∷ qs) p q = ends-append os o qs ∙ q
 
-not_end : (o : Operation) → (o ≡ EndSequence → ⊥) → is_end o ≡ false
+not_end : (o : Operation) → (o ≡ EndSequence → ⊥) → line_is_end o ≡ false
 not_end (Advance n) h = refl
 not_end (SetAddress size a) h = refl
 not_end (Special opcode) h = refl
@@ -79,7 +80,7 @@ not_end AppendRow h = refl
 not_end EndSequence h = absurd (h refl)
 not_end (Changes c) h = refl
 
-pub not_ended : (o : Operation) (os : List Operation) → (IsEnded (o ∷ os) → ⊥) → ends (o ∷ os) ≡ false
+pub not_ended : (o : Operation) (os : List Operation) → (IsEnded (o ∷ os) → ⊥) → line_ends (o ∷ os) ≡ false
 not_ended o [] h = not_end o (λ e. h ([], ap (λ z. z ∷ []) e))
 not_ended o (q ∷ os) h = not_ended q os (λ e. h (o ∷ e.0, ap (λ (z : List Operation). o ∷ z) e.1))
 
@@ -112,15 +113,15 @@ sequences_at-append bodies p at new_at (k ∷ ms) m program new_program text new
 
 pub record ProgramSoFar (bodies : List Body) (p : Parameters) (place : Moved) (program rest old new : List ℕ) (old_moves new_moves : List Moved) : Type 0 where
   pub done : List Operation
-  pub reads : Begin (operation p) done program rest
+  pub reads : Begin (line_operation p) done program rest
   pub done_after : state_after_all p done (initial p) ≡ initial p
-  pub done_ends : ends done ≡ true
+  pub done_ends : line_ends done ≡ true
   pub written : List Operation
   pub front : List ℕ
   pub split : program ≡ front ++ rest
   pub texts : List (List ℕ)
-  pub source_keeps : Keeps p front texts
-  pub adds : Adds p old new written texts
+  pub source_keeps : KeepsOfLines p front texts
+  pub adds : AddsOfLines p old new written texts
   pub written_after : state_after_all p written (initial p) ≡ initial p
   pub group : Group bodies (all_appended p done (initial p)) (all_appended p written (initial p))
   pub moves : List Moved
@@ -154,18 +155,18 @@ rows_both : (p : Parameters) (os ps : List Operation) → state_after_all p os (
     → all_appended p (os ++ ps) (initial p) ≡ all_appended p os (initial p) ++ all_appended p ps (initial p)
 rows_both p os ps first = all_appended-append p os ps (initial p) ∙ ap (λ z. all_appended p os (initial p) ++ all_appended p ps z) first
 
-rows_are : (p : Parameters) (text : List ℕ) (os : List Operation) → Begin (operation p) os text [] → rows p text ≡ Ok (sequences (all_appended p os (initial p)))
-rows_are p text os reads = ap (λ r. r >>= λ os. Ok (sequences (all_appended p os (initial p)))) (all_is (operation p) Truncated os text (operation_local p) (operation_some p) reads)
+rows_are : (p : Parameters) (text : List ℕ) (os : List Operation) → Begin (line_operation p) os text [] → rows p text ≡ Ok (sequences (all_appended p os (initial p)))
+rows_are p text os reads = ap (λ r. r >>= λ os. Ok (sequences (all_appended p os (initial p)))) (all_is (line_operation p) Truncated os text (operation_local p) (operation_some p) reads)
 
-one_sequence : (rs : List Row) → IsClosed rs → sequences rs ≡ rs ∷ []
+one_sequence : (rs : List LineRow) → IsClosed rs → sequences rs ≡ rs ∷ []
 one_sequence rs h = ap sequences (sym (append-nil rs)) ∙ closed_first rs [] h
 
 -- the bytes of a sequence and those that follow it
-reads_sequence : (p : Parameters) (bytes : List ℕ) (s : Sequence) (b : BeginsSequence p bytes s) → Begin (operation p) b.operations bytes s.rest.now
+reads_sequence : (p : Parameters) (bytes : List ℕ) (s : Sequence) (b : BeginsSequence p bytes s) → Begin (line_operation p) b.operations bytes s.rest.now
 reads_sequence p bytes s b =
-    let t = begin_text (operation p) b.operations s.bytes.now [] (operation_local p) b.reads in
+    let t = begin_text (line_operation p) b.operations s.bytes.now [] (operation_local p) b.reads in
     let same : t.text ≡ s.bytes.now = sym (t.split ∙ append-nil t.text) in
-    subst (λ (z : List ℕ). Begin (operation p) b.operations z s.rest.now) (ap (λ (z : List ℕ). z ++ s.rest.now) same ∙ sym b.split) (t.spells s.rest.now)
+    subst (λ (z : List ℕ). Begin (line_operation p) b.operations z s.rest.now) (ap (λ (z : List ℕ). z ++ s.rest.now) same ∙ sym b.split) (t.spells s.rest.now)
 
 -- ---- one more sequence
 
@@ -190,7 +191,7 @@ module _ (bodies : List Body) (p : Parameters) (place : Moved) (program rest : L
         new_is = f;
         sequence = rs;
         source = rows_are p s.bytes.now b.operations b.reads ∙ ap (λ z. Ok z) (one_sequence rs b.is.closed);
-        written = rows_are p a.adds.text a.operations (spells_all (operation p) a.operations a.adds.text a.adds.spells) ∙ ap (λ z. Ok (sequences z)) a.rows_are
+        written = rows_are p a.adds.text a.operations (spells_all (line_operation p) a.operations a.adds.text a.adds.spells) ∙ ap (λ z. Ok (sequences z)) a.rows_are
             ∙ ap (λ z. Ok z) (one_sequence (moved_sequence bodies rs) (closed_moved bodies rs b.is.closed));
       }
 
@@ -198,7 +199,7 @@ module _ (bodies : List Body) (p : Parameters) (place : Moved) (program rest : L
       → ProgramSoFar bodies p place program s.rest.now old new old_moves new_moves
   one_more e f told = record {
     done = sofar.done ++ b.operations;
-    reads = begin-append (operation p) sofar.done b.operations program rest s.rest.now sofar.reads (reads_sequence p rest s b);
+    reads = begin-append (line_operation p) sofar.done b.operations program rest s.rest.now sofar.reads (reads_sequence p rest s b);
     done_after = after_both p sofar.done b.operations sofar.done_after (ended_after p b.operations (initial p) b.is.ended);
     done_ends = ends_both sofar.done b.operations sofar.done_ends (ends_ended b.operations b.is.ended);
     written = sofar.written ++ a.operations;
@@ -225,7 +226,7 @@ text_length bodies p place program rest old new old_moves new_moves sofar = omeg
 
 pub one_more_sequence : (bodies : List Body) (p : Parameters) (place : Moved) (program rest : List ℕ) (s : Sequence) (old between new : List ℕ) (old_moves moves_between new_moves : List Moved) (m : Moved)
     → ProgramSoFar bodies p place program rest old between old_moves moves_between → BeginsSequence p rest s
-    → ((os : List Operation) → Begin (operation p) os s.bytes.now [] → IsSequence p os s.first → AddsRows p s.bytes.now between new (moved_sequence bodies (all_appended p os (initial p))))
+    → ((os : List Operation) → Begin (line_operation p) os s.bytes.now [] → IsSequence p os s.first → AddsRows p s.bytes.now between new (moved_sequence bodies (all_appended p os (initial p))))
     → m.old ≡ place.old + (length program - length rest) → m.new ≡ place.new + (length between - length old) → new_moves ≡ moves_between ++ m ∷ []
     → ProgramSoFar bodies p place program s.rest.now old new old_moves new_moves
 one_more_sequence bodies p place program rest s old between new old_moves moves_between new_moves m sofar b adds e f told =
@@ -235,52 +236,40 @@ one_more_sequence bodies p place program rest s old between new old_moves moves_
 
 -- ---- how many bytes are left
 
-no_bytes : (p : Parameters) (o : Operation) (os : List Operation) → Begin (operation p) (o ∷ os) [] [] → ⊥
+no_bytes : (p : Parameters) (o : Operation) (os : List Operation) → Begin (line_operation p) (o ∷ os) [] [] → ⊥
 no_bytes p o os h = absurd (let e = operation_some p in let f = h.1 in cc)
 
-ended_some : (p : Parameters) (os : List Operation) → IsEnded os → Begin (operation p) os [] [] → ⊥
+ended_some : (p : Parameters) (os : List Operation) → IsEnded os → Begin (line_operation p) os [] [] → ⊥
 ended_some p [] h reads = absurd (omega (arith, ap length h.1, length-append h.0 (EndSequence ∷ [])))
 ended_some p (o ∷ os) h reads = no_bytes p o os reads
-
-shorter_after : (text rest bytes : List ℕ) → (text ≡ [] → ⊥) → bytes ≡ text ++ rest → length rest < length bytes
-shorter_after [] rest bytes some split = absurd (some refl)
-shorter_after (b ∷ text) rest bytes some split = omega (arith, ap length split, length-append text rest)
 
 -- a sequence has at least one byte
 pub sequence_shorter : (p : Parameters) (bytes : List ℕ) (s : Sequence) → BeginsSequence p bytes s → length s.rest.now < length bytes
 sequence_shorter p bytes s b =
-    shorter_after s.bytes.now s.rest.now bytes (λ e. ended_some p b.operations b.is.ended (subst (λ (z : List ℕ). Begin (operation p) b.operations z []) e b.reads)) b.split
-
-pub program_shorter : (bodies : List Body) (p : Parameters) (place : Moved) (program rest old new : List ℕ) (old_moves new_moves : List Moved)
-    → ProgramSoFar bodies p place program rest old new old_moves new_moves → length rest ≤ length program
-program_shorter bodies p place program rest old new old_moves new_moves sofar = omega (arith, ap length sofar.split, length-append sofar.front rest)
-
-pub written_longer : (bodies : List Body) (p : Parameters) (place : Moved) (program rest old new : List ℕ) (old_moves new_moves : List Moved)
-    → ProgramSoFar bodies p place program rest old new old_moves new_moves → length old ≤ length new
-written_longer bodies p place program rest old new old_moves new_moves sofar = omega (arith, ap length sofar.adds.added, length-append old sofar.adds.text)
+    shorter_by s.bytes.now s.rest.now bytes (λ e. ended_some p b.operations b.is.ended (subst (λ (z : List ℕ). Begin (line_operation p) b.operations z []) e b.reads)) b.split
 
 -- ---- a program that can't be read
 
-operation_shorter : (p : Parameters) → IsShortening (operation p)
-operation_shorter p = shorter (operation p) Truncated (operation_local p) (operation_some p)
+operation_shorter : (p : Parameters) → IsShortening (line_operation p)
+operation_shorter p = shorter (line_operation p) Truncated (operation_local p) (operation_some p)
 
-is_truncated : (p : Parameters) (f : DebugFault) → operation p [] ≡ Err f → f ≡ Truncated
+is_truncated : (p : Parameters) (f : DebugFault) → line_operation p [] ≡ Err f → f ≡ Truncated
 is_truncated p f e = let none = operation_some p in cc
 
 module _ (bodies : List Body) (p : Parameters) (place : Moved) (program rest old new : List ℕ) (old_moves new_moves : List Moved) (f : DebugFault)
     (sofar : ProgramSoFar bodies p place program rest old new old_moves new_moves) where
   -- the bytes end inside a sequence
-  cut_off : (o : Operation) (os : List Operation) → Begin (operation p) (o ∷ os) rest [] → (IsEnded (o ∷ os) → ⊥) → sound_program p program ≡ Err Truncated
+  cut_off : (o : Operation) (os : List Operation) → Begin (line_operation p) (o ∷ os) rest [] → (IsEnded (o ∷ os) → ⊥) → sound_program p program ≡ Err Truncated
   cut_off o os reads open_end =
-      let whole = all_is (operation p) Truncated (sofar.done ++ o ∷ os) program (operation_local p) (operation_some p) (begin-append (operation p) sofar.done (o ∷ os) program rest [] sofar.reads reads) in
-      let last : ends (sofar.done ++ o ∷ os) ≡ false = ends-append sofar.done o os ∙ not_ended o os open_end in
+      let whole = all_is (line_operation p) Truncated (sofar.done ++ o ∷ os) program (operation_local p) (operation_some p) (begin-append (line_operation p) sofar.done (o ∷ os) program rest [] sofar.reads reads) in
+      let last : line_ends (sofar.done ++ o ∷ os) ≡ false = ends-append sofar.done o os ∙ not_ended o os open_end in
       rw (whole, last) refl
 
-  faulty : (os : List Operation) (after : List ℕ) → Begin (operation p) os rest after → (IsEnded os → ⊥) → operation p after ≡ Err f → (rest ≡ [] → ⊥) → sound_program p program ≡ Err f
+  faulty : (os : List Operation) (after : List ℕ) → Begin (line_operation p) os rest after → (IsEnded os → ⊥) → line_operation p after ≡ Err f → (rest ≡ [] → ⊥) → sound_program p program ≡ Err f
   faulty [] [] reads open_end e some = absurd (some reads)
   faulty (o ∷ os) [] reads open_end e some = cut_off o os reads open_end ∙ ap (λ z. Err z) (sym (is_truncated p f e))
   faulty os (b ∷ after) reads open_end e some =
-      let fails = all_fails (operation p) f (sofar.done ++ os) program (b ∷ after) (operation_shorter p) (begin-append (operation p) sofar.done os program rest (b ∷ after) sofar.reads reads) (λ q. absurd cc) e in
+      let fails = all_fails (line_operation p) f (sofar.done ++ os) program (b ∷ after) (operation_shorter p) (begin-append (line_operation p) sofar.done os program rest (b ∷ after) sofar.reads reads) (λ q. absurd cc) e in
       rw fails refl
 
   pub program_fault : (rest ≡ [] → ⊥) → IsSequenceFault p rest f → sound_program p program ≡ Err f
@@ -288,8 +277,8 @@ module _ (bodies : List Body) (p : Parameters) (place : Moved) (program rest old
 
 -- ---- the whole program
 
-sound : (p : Parameters) (text : List ℕ) (os : List Operation) → Begin (operation p) os text [] → ends os ≡ true → sound_program p text ≡ Ok tt
-sound p text os reads e = rw (all_is (operation p) Truncated os text (operation_local p) (operation_some p) reads, e) refl
+sound : (p : Parameters) (text : List ℕ) (os : List Operation) → Begin (line_operation p) os text [] → line_ends os ≡ true → sound_program p text ≡ Ok tt
+sound p text os reads e = rw (all_is (line_operation p) Truncated os text (operation_local p) (operation_some p) reads, e) refl
 
 pub program_written : (bodies : List Body) (p : Parameters) (place : Moved) (program rest old new : List ℕ) (old_moves new_moves : List Moved)
     → ProgramSoFar bodies p place program rest old new old_moves new_moves → rest ≡ [] → AddsProgram bodies p place program old new old_moves new_moves
@@ -297,18 +286,18 @@ program_written bodies p place program rest old new old_moves new_moves sofar no
     let ds = all_appended p sofar.done (initial p) in
     let ws = all_appended p sofar.written (initial p) in
     let same : sequences ws ≡ map (moved_sequence bodies) (sequences ds) =
-    ap sequences (sym (append-nil ws)) ∙ sofar.group [] [] refl ∙ ap (λ (z : List Row). map (moved_sequence bodies) (sequences z)) (append-nil ds) in
+    ap sequences (sym (append-nil ws)) ∙ sofar.group [] [] refl ∙ ap (λ (z : List LineRow). map (moved_sequence bodies) (sequences z)) (append-nil ds) in
     let whole : sofar.front ≡ program = sym (sofar.split ∙ ap (λ (z : List ℕ). sofar.front ++ z) none ∙ append-nil sofar.front) in
     record {
       text = sofar.adds.text;
       added = sofar.adds.added;
       sequences = sequences ds;
-      source = rows_are p program sofar.done (subst (λ (z : List ℕ). Begin (operation p) sofar.done program z) none sofar.reads);
-      written = rows_are p sofar.adds.text sofar.written (spells_all (operation p) sofar.written sofar.adds.text sofar.adds.spells) ∙ ap (λ z. Ok z) same;
+      source = rows_are p program sofar.done (subst (λ (z : List ℕ). Begin (line_operation p) sofar.done program z) none sofar.reads);
+      written = rows_are p sofar.adds.text sofar.written (spells_all (line_operation p) sofar.written sofar.adds.text sofar.adds.spells) ∙ ap (λ z. Ok z) same;
       texts = sofar.texts;
-      source_keeps = kept_is p program sofar.texts (subst (λ (z : List ℕ). Keeps p z sofar.texts) whole sofar.source_keeps);
+      source_keeps = kept_is p program sofar.texts (subst (λ (z : List ℕ). KeepsOfLines p z sofar.texts) whole sofar.source_keeps);
       written_keeps = kept_is p sofar.adds.text sofar.texts sofar.adds.keeps;
-      sound = sound p program sofar.done (subst (λ (z : List ℕ). Begin (operation p) sofar.done program z) none sofar.reads) sofar.done_ends;
+      sound = sound p program sofar.done (subst (λ (z : List ℕ). Begin (line_operation p) sofar.done program z) none sofar.reads) sofar.done_ends;
       moves = sofar.moves;
       told = sofar.told;
       places = subst (λ (z : List ℕ). AreSequencesAt bodies p place.old place.new sofar.moves z sofar.adds.text) whole sofar.places;

@@ -1,13 +1,13 @@
 -- Values that are read one after the other.
-use Rattle.std.proofs.Common.{◌≡◌, ℕ, zero, suc, ◌-◌, ◌<◌, ◌≤◌, true, false, eqb, List, [], ◌∷◌, ◌++◌, length, Ok, Err, take, drop, refl, sym, ap, subst, ◌∙◌, append_assoc, length-append, arith}
+use Rattle.std.proofs.Common.{◌≡◌, ℕ, zero, suc, ◌-◌, ◌<◌, ◌≤◌, true, false, eqb, List, [], ◌∷◌, ◌++◌, length, Ok, Err, take, refl, sym, ap, subst, ◌∙◌, append_assoc, length-append, arith}
 use Rattle.std.proofs.Math.Seq.{take-append_seam}
 use Rattle.std.proofs.lemmas.Bool.Decides.{nat_tests}
 use Rattle.std.proofs.lemmas.List.{append-nil}
 use Rattle.wasm_numbers.proofs.ResultLemmas.{ok_same}
 use Rattle.dwarf_bytes.specs.Faults.{DebugReader}
 use Rattle.dwarf_bytes.specs.declared.fault.DebugFault.{DebugFault}
-use Rattle.dwarf_line.specs.Repeated.{at_most, all_values as all_of, Begin, ReadsAs as Spells}
-use Rattle.dwarf_line.proofs.Local.{IsLocal, shorter}
+use Rattle.dwarf_line.specs.Repeated.{at_most, all_values, Begin, ReadsAs}
+use Rattle.dwarf_bytes.proofs.Local.{IsLocal, shorter}
 
 pub begin-append : {A : Type 0} (one : DebugReader A) (xs ys : List A) (bytes middle following : List ℕ) → Begin one xs bytes middle → Begin one ys middle following → Begin one (xs ++ ys) bytes following
 begin-append one [] ys bytes middle following p q = subst (λ (z : List ℕ). Begin one ys z following) (sym p) q
@@ -16,26 +16,26 @@ begin-append one (x ∷ xs) ys bytes middle following p q = (p.0, p.1, begin-app
 pub begin_one : {A : Type 0} (one : DebugReader A) (x : A) (bytes rest : List ℕ) → one bytes ≡ Ok (x, rest) → Begin one (x ∷ []) bytes rest
 begin_one one x bytes rest e = (rest, e, refl)
 
-pub spells-append : {A : Type 0} (one : DebugReader A) (xs ys : List A) (s t : List ℕ) → Spells one xs s → Spells one ys t → Spells one (xs ++ ys) (s ++ t)
+pub spells-append : {A : Type 0} (one : DebugReader A) (xs ys : List A) (s t : List ℕ) → ReadsAs one xs s → ReadsAs one ys t → ReadsAs one (xs ++ ys) (s ++ t)
 spells-append one xs ys s t p q = λ following.
     let first : Begin one xs (s ++ (t ++ following)) (t ++ following) = p (t ++ following) in
     rw (append_assoc s t following) (begin-append one xs ys (s ++ (t ++ following)) (t ++ following) following first (q following))
 
-pub spells_nothing : {A : Type 0} (one : DebugReader A) → Spells one [] []
+pub spells_nothing : {A : Type 0} (one : DebugReader A) → ReadsAs one [] []
 spells_nothing one = λ following. refl
 
-pub spells_one : {A : Type 0} (one : DebugReader A) (x : A) (text : List ℕ) → ((following : List ℕ) → one (text ++ following) ≡ Ok (x, following)) → Spells one (x ∷ []) text
+pub spells_one : {A : Type 0} (one : DebugReader A) (x : A) (text : List ℕ) → ((following : List ℕ) → one (text ++ following) ≡ Ok (x, following)) → ReadsAs one (x ∷ []) text
 spells_one one x text h = λ following. begin_one one x (text ++ following) following (h following)
 
 -- all of a text
-pub spells_all : {A : Type 0} (one : DebugReader A) (xs : List A) (text : List ℕ) → Spells one xs text → Begin one xs text []
+pub spells_all : {A : Type 0} (one : DebugReader A) (xs : List A) (text : List ℕ) → ReadsAs one xs text → Begin one xs text []
 spells_all one xs text h = subst (λ (z : List ℕ). Begin one xs z []) (append-nil text) (h [])
 
 -- The bytes begin with a text that is these values, whatever follows it.
 pub record BeginText {A : Type 0} (one : DebugReader A) (xs : List A) (bytes following : List ℕ) : Type 0 where
   pub text : List ℕ
   pub split : bytes ≡ text ++ following
-  pub spells : Spells one xs text
+  pub spells : ReadsAs one xs text
 
 pub begin_text : {A : Type 0} (one : DebugReader A) (xs : List A) (bytes following : List ℕ) → IsLocal one → Begin one xs bytes following → BeginText one xs bytes following
 begin_text one [] bytes following h p = record { text = []; split = p; spells = spells_nothing one }
@@ -76,7 +76,7 @@ at_most_is one d (suc most) (x ∷ xs) (b ∷ bytes) h none fits p =
     rw (p.1, at_most_is one d most xs p.0 h none (omega arith) p.2) refl
 
 -- the reading of all of the bytes
-pub all_is : {A : Type 0} (one : DebugReader A) (d : DebugFault) (xs : List A) (bytes : List ℕ) → IsLocal one → one [] ≡ Err d → Begin one xs bytes [] → all_of one bytes ≡ Ok xs
+pub all_is : {A : Type 0} (one : DebugReader A) (d : DebugFault) (xs : List A) (bytes : List ℕ) → IsLocal one → one [] ≡ Err d → Begin one xs bytes [] → all_values one bytes ≡ Ok xs
 all_is one d xs bytes h none p = at_most_is one d (length bytes) xs bytes h none (omega arith) p
 
 -- a slice that is empty
@@ -114,7 +114,7 @@ at_most_fails one f (suc most) (x ∷ xs) (b ∷ bytes) rest h fits p some e =
     rw (p.1, at_most_fails one f most xs p.0 rest h (omega arith) p.2 some e) refl
 
 -- the first fault
-pub all_fails : {A : Type 0} (one : DebugReader A) (f : DebugFault) (xs : List A) (bytes rest : List ℕ) → IsShortening one → Begin one xs bytes rest → (rest ≡ [] → ⊥) → one rest ≡ Err f → all_of one bytes ≡ Err f
+pub all_fails : {A : Type 0} (one : DebugReader A) (f : DebugFault) (xs : List A) (bytes rest : List ℕ) → IsShortening one → Begin one xs bytes rest → (rest ≡ [] → ⊥) → one rest ≡ Err f → all_values one bytes ≡ Err f
 all_fails one f xs bytes rest h p some e = at_most_fails one f (length bytes) xs bytes rest h (omega arith) p some e
 
 -- a slice that isn't empty

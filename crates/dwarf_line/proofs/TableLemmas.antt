@@ -7,20 +7,21 @@ use Rattle.wasm_numbers.specs.Reading.{many}
 use Rattle.wasm_numbers.specs.Results.{◌>>=◌}
 use Rattle.code_moves.specs.declared.body.Body.{Body}
 use Rattle.dwarf_bytes.proofs.Fixed.{fixed_read}
-use Rattle.dwarf_bytes.specs.Numbers.{fixed_number as fixed, offset, offset_size, size_in_bytes as bytes_of, initial_length, length_after, part_and_rest as parts}
+use Rattle.dwarf_bytes.specs.Numbers.{fixed_number, offset, offset_size, size_in_bytes, initial_length, part_and_rest}
 use Rattle.dwarf_bytes.specs.Writing.{fixed_bytes}
 use Rattle.dwarf_bytes.specs.declared.fault.DebugError.{DebugError}
 use Rattle.dwarf_bytes.specs.declared.fault.DebugError.TheVariants as errors
 use Rattle.dwarf_bytes.specs.declared.fault.DebugFault.{DebugFault}
-use Rattle.dwarf_bytes.specs.declared.fault.DebugFault.TheVariants.{Truncated, BadLength, UnknownVersion, Unsupported}
+use Rattle.dwarf_bytes.specs.declared.fault.DebugFault.TheVariants.{Truncated, UnknownVersion, Unsupported}
 use Rattle.dwarf_bytes.specs.declared.size.Format.{Format}
 use Rattle.dwarf_bytes.specs.declared.size.Format.TheVariants.{Dwarf32, Dwarf64}
 use Rattle.dwarf_line.specs.declared.moved.Moved.{Moved}
-use Rattle.dwarf_line.specs.LineTables.{LineTable, no_segments, version, fields, header, unit, table, IsMovedTable as IsMoved, AreMovedTables as AreMoved, IsMovedSection, AreSequencesAt, program_offset, IsTableAt, AreTablesAt}
+use Rattle.dwarf_line.specs.LineTables.{LineTable, no_segments, version, fields, header, unit, table, IsMovedTable, AreMovedTables, IsMovedSection, AreSequencesAt, program_offset, IsTableAt, AreTablesAt}
 use Rattle.dwarf_line.specs.Refusals.{sound_program, sound_table, sound_section, IsRefusal, IsProgramRefusal}
-use Rattle.dwarf_line.specs.Repeated.{Begin, ReadsAs as Spells}
+use Rattle.dwarf_line.specs.Repeated.{Begin, ReadsAs}
 use Rattle.dwarf_line.specs.Written.{AddsProgram, AddsLength, AddsUnit}
-use Rattle.dwarf_line.proofs.Local.{Takes, IsLocal, then_local, just_local, fail_local, cond_local, kept_local, fixed_local, parts_local, parts_again, shorter}
+use Rattle.dwarf_bytes.proofs.Local.{Takes, IsLocal, then_local, just_local, fail_local, cond_local, kept_local, fixed_local, parts_local, parts_again, shorter}
+use Rattle.dwarf_bytes.proofs.Shorter.{initial_local}
 use Rattle.dwarf_line.proofs.RepeatedLemmas.{begin-append, begin_one, spells-append, spells_nothing, spells_one, spells_all, all_is, IsShortening, all_fails}
 use Rattle.dwarf_line.proofs.RepeatedLemmas.{taken_front}
 
@@ -55,34 +56,27 @@ adds_unit format n front program old a b new size length_added first second = re
 
 version_local : IsLocal version
 version_local =
-    then_local (fixed 2) (λ v bytes. cond (ltb v 2 || ltb 5 v) (Err UnknownVersion) (cond (ltb v 5) (Ok (v, bytes)) (no_segments v bytes))) (fixed_local 2)
+    then_local (fixed_number 2) (λ v bytes. cond (ltb v 2 || ltb 5 v) (Err UnknownVersion) (cond (ltb v 5) (Ok (v, bytes)) (no_segments v bytes))) (fixed_local 2)
     (λ v. cond_local (ltb v 2 || ltb 5 v) (λ bytes. Err UnknownVersion) _ (fail_local UnknownVersion) (cond_local (ltb v 5) (λ bytes. Ok (v, bytes)) (no_segments v) (just_local v) (segments_local v)))
   where
     segments_local : (v : ℕ) → IsLocal (no_segments v)
     segments_local v =
-        then_local (fixed 1) (λ a bytes. fixed 1 bytes >>= λ s. cond (eqb s.0 0) (Ok (v, s.1)) (Err Unsupported)) (fixed_local 1)
-        (λ a. then_local (fixed 1) (λ s bytes. cond (eqb s 0) (Ok (v, bytes)) (Err Unsupported)) (fixed_local 1)
+        then_local (fixed_number 1) (λ a bytes. fixed_number 1 bytes >>= λ s. cond (eqb s.0 0) (Ok (v, s.1)) (Err Unsupported)) (fixed_local 1)
+        (λ a. then_local (fixed_number 1) (λ s bytes. cond (eqb s 0) (Ok (v, bytes)) (Err Unsupported)) (fixed_local 1)
         (λ s. cond_local (eqb s 0) (λ bytes. Ok (v, bytes)) (λ bytes. Err Unsupported) (just_local v) (fail_local Unsupported)))
 
 pub header_local : (format : Format) → IsLocal (header format)
 unfolding header
 header_local format =
-    then_local version (λ v bytes. offset format bytes >>= λ size. parts size.0 size.1 >>= λ part. fields v part.0 >>= λ p. Ok (p, part.1)) version_local
-    (λ v. then_local (offset format) (λ size bytes. parts size bytes >>= λ part. fields v part.0 >>= λ p. Ok (p, part.1)) (fixed_local (bytes_of (offset_size format)))
-    (λ size. then_local (parts size) (λ part bytes. fields v part >>= λ p. Ok (p, bytes)) (parts_local size) (λ part. kept_local (fields v part))))
-
-length_local : IsLocal initial_length
-length_local =
-    then_local (fixed 4) (λ n rest. length_after (n, rest)) (fixed_local 4)
-    (λ n. cond_local (ltb n 0xfffffff0) (λ bytes. Ok ((Dwarf32, n), bytes)) _ (just_local (Dwarf32, n))
-    (cond_local (eqb n 0xffffffff) (λ bytes. fixed 8 bytes >>= λ long. Ok ((Dwarf64, long.0), long.1)) (λ bytes. Err BadLength)
-    (then_local (fixed 8) (λ long bytes. Ok ((Dwarf64, long), bytes)) (fixed_local 8) (λ long. just_local (Dwarf64, long))) (fail_local BadLength)))
+    then_local version (λ v bytes. offset format bytes >>= λ size. part_and_rest size.0 size.1 >>= λ part. fields v part.0 >>= λ p. Ok (p, part.1)) version_local
+    (λ v. then_local (offset format) (λ size bytes. part_and_rest size bytes >>= λ part. fields v part.0 >>= λ p. Ok (p, part.1)) (fixed_local (size_in_bytes (offset_size format)))
+    (λ size. then_local (part_and_rest size) (λ part bytes. fields v part >>= λ p. Ok (p, bytes)) (parts_local size) (λ part. kept_local (fields v part))))
 
 pub table_local : IsLocal table
 unfolding table
 table_local =
-    then_local initial_length (λ n bytes. parts n.1 bytes >>= λ part. unit n.0 part.0 >>= λ t. Ok (t, part.1)) length_local
-    (λ n. then_local (parts n.1) (λ part bytes. unit n.0 part >>= λ t. Ok (t, bytes)) (parts_local n.1) (λ part. kept_local (unit n.0 part)))
+    then_local initial_length (λ n bytes. part_and_rest n.1 bytes >>= λ part. unit n.0 part.0 >>= λ t. Ok (t, part.1)) initial_local
+    (λ n. then_local (part_and_rest n.1) (λ part bytes. unit n.0 part >>= λ t. Ok (t, bytes)) (parts_local n.1) (λ part. kept_local (unit n.0 part)))
 
 -- a table has at least one byte
 pub table_some : table [] ≡ Err Truncated
@@ -106,8 +100,8 @@ unit_front format bytes t e =
 table_front : (bytes : List ℕ) (t : LineTable) (rest : List ℕ) → table bytes ≡ Ok (t, rest) → FrontAgain t
 unfolding table
 table_front bytes t rest e =
-    let n = bind_ok (initial_length bytes) (λ n. parts n.0.1 n.1 >>= λ part. unit n.0.0 part.0 >>= λ t. Ok (t, part.1)) (t, rest) e in
-    let part = bind_ok (parts n.0.0.1 n.0.1) (λ part. unit n.0.0.0 part.0 >>= λ t. Ok (t, part.1)) (t, rest) n.2 in
+    let n = bind_ok (initial_length bytes) (λ n. part_and_rest n.0.1 n.1 >>= λ part. unit n.0.0 part.0 >>= λ t. Ok (t, part.1)) (t, rest) e in
+    let part = bind_ok (part_and_rest n.0.0.1 n.0.1) (λ part. unit n.0.0.0 part.0 >>= λ t. Ok (t, part.1)) (t, rest) n.2 in
     let u = bind_ok (unit n.0.0.0 part.0.0) (λ t. Ok (t, part.0.1)) (t, rest) part.2 in
     let same : u.0 ≡ t = ap (λ (z : LineTable × List ℕ). z.0) {x = (u.0, part.0.1)} (ok_same {E = DebugFault} (u.0, part.0.1) (t, rest) u.2) in
     subst FrontAgain {x = u.0} same (unit_front n.0.0.0 part.0.0 u.0 u.1)
@@ -124,7 +118,7 @@ unit_again t program again =
 
 -- what is written for a table is read as the table with the program that is written
 pub table_spelt : (t : LineTable) (program bytes rest old new : List ℕ) → table bytes ≡ Ok (t, rest) → (adds : AddsUnit t.format (t.front ++ program) old new)
-    → Spells table (with_program t program ∷ []) (adds.text ++ (t.front ++ program))
+    → ReadsAs table (with_program t program ∷ []) (adds.text ++ (t.front ++ program))
 unfolding table
 table_spelt t program bytes rest old new e adds = spells_one table (with_program t program) (adds.text ++ (t.front ++ program)) (λ following.
     let again = unit_again t program (table_front bytes t rest e) in
@@ -132,7 +126,7 @@ table_spelt t program bytes rest old new e adds = spells_one table (with_program
 
 -- ---- the section, while it is written
 
-moved-append : (bodies : List Body) (ts us : List LineTable) (t u : LineTable) → AreMoved bodies ts us → IsMoved bodies t u → AreMoved bodies (ts ++ t ∷ []) (us ++ u ∷ [])
+moved-append : (bodies : List Body) (ts us : List LineTable) (t u : LineTable) → AreMovedTables bodies ts us → IsMovedTable bodies t u → AreMovedTables bodies (ts ++ t ∷ []) (us ++ u ∷ [])
 moved-append bodies [] [] t u h m = (m, tt)
 moved-append bodies [] (v ∷ us) t u h m = absurd h
 moved-append bodies (s ∷ ts) [] t u h m = absurd h
@@ -184,8 +178,8 @@ pub record SectionSoFar (bodies : List Body) (section rest new : List ℕ) (tabl
   pub done : List LineTable
   pub reads : Begin table done section rest
   pub written : List LineTable
-  pub spells : Spells table written new
-  pub are : AreMoved bodies done written
+  pub spells : ReadsAs table written new
+  pub are : AreMovedTables bodies done written
   pub sound : Begin sound_table done section rest
   pub front : List ℕ
   pub split : section ≡ front ++ rest
@@ -212,7 +206,7 @@ pub record AddsTable (bodies : List Body) (t : LineTable) (place : Moved) (old n
 
 module _ (bodies : List Body) (section rest following : List ℕ) (t : LineTable) (place program_place : Moved) (old new : List ℕ) (old_tables new_tables old_sequences new_sequences : List Moved)
     (sofar : SectionSoFar bodies section rest old old_tables old_sequences) (read : table rest ≡ Ok (t, following)) (adds : AddsTable bodies t program_place old new old_sequences new_sequences) where
-  one_moved : IsMoved bodies t (with_program t adds.program)
+  one_moved : IsMovedTable bodies t (with_program t adds.program)
   one_moved = record {
     same_format = refl;
     same_front = refl;
@@ -232,7 +226,7 @@ module _ (bodies : List Body) (section rest following : List ℕ) (t : LineTable
   new_text : List ℕ
   new_text = adds.unit.text ++ (t.front ++ adds.program)
 
-  new_spelt : Spells table (with_program t adds.program ∷ []) new_text
+  new_spelt : ReadsAs table (with_program t adds.program ∷ []) new_text
   unfolding new_text
   new_spelt = table_spelt t adds.program rest following old new read adds.unit
 
@@ -265,7 +259,7 @@ module _ (bodies : List Body) (section rest following : List ℕ) (t : LineTable
     done = sofar.done ++ t ∷ [];
     reads = begin-append table sofar.done (t ∷ []) section rest following sofar.reads (begin_one table t rest following read);
     written = sofar.written ++ with_program t adds.program ∷ [];
-    spells = subst (Spells table (sofar.written ++ with_program t adds.program ∷ [])) (sym adds.unit.added)
+    spells = subst (ReadsAs table (sofar.written ++ with_program t adds.program ∷ [])) (sym adds.unit.added)
         (spells-append table sofar.written (with_program t adds.program ∷ []) old new_text sofar.spells new_spelt);
     are = moved-append bodies sofar.done sofar.written t (with_program t adds.program) sofar.are one_moved;
     sound = begin-append sound_table sofar.done (t ∷ []) section rest following sofar.sound (begin_one sound_table t rest following (sound_table_is rest t following read adds.moves.sound));
@@ -312,8 +306,8 @@ section_places bodies section rest new table_moves sequences sofar none =
 
 -- ---- a section that can't be read
 
-table_is_shorter : IsShortening table
-table_is_shorter = shorter table Truncated table_local table_some
+pub table_shorter : IsShortening table
+table_shorter = shorter table Truncated table_local table_some
 
 sound_table_shorter : IsShortening sound_table
 unfolding sound_table
@@ -321,7 +315,7 @@ sound_table_shorter bytes t rest e =
     let x = bind_ok (table bytes) (λ t. sound_program t.0.parameters t.0.program >>= λ u. Ok t) (t, rest) e in
     let u = bind_ok (sound_program x.0.0.parameters x.0.0.program) (λ u. Ok x.0) (t, rest) x.2 in
     let same : x.0.1 ≡ rest = ap (λ (z : LineTable × List ℕ). z.1) {x = x.0} (ok_same {E = DebugFault} x.0 (t, rest) u.2) in
-    subst (λ (z : List ℕ). length z < length bytes) {x = x.0.1} same (table_is_shorter bytes x.0.0 x.0.1 x.1)
+    subst (λ (z : List ℕ). length z < length bytes) {x = x.0.1} same (table_shorter bytes x.0.0 x.0.1 x.1)
 
 module _ (bodies : List Body) (section rest new : List ℕ) (table_moves sequences : List Moved) (sofar : SectionSoFar bodies section rest new table_moves sequences) (some : rest ≡ [] → ⊥) where
   section_fault : (f : DebugFault) → sound_table rest ≡ Err f → sound_section section ≡ Err f
@@ -342,6 +336,3 @@ module _ (bodies : List Body) (section rest new : List ℕ) (table_moves sequenc
 
 pub section_shorter : (bodies : List Body) (section rest new : List ℕ) (table_moves sequences : List Moved) → SectionSoFar bodies section rest new table_moves sequences → length rest ≤ length section
 section_shorter bodies section rest new table_moves sequences sofar = omega (arith, ap length sofar.split, length-append sofar.front rest)
-
-pub table_shorter : (bytes : List ℕ) (t : LineTable) (rest : List ℕ) → table bytes ≡ Ok (t, rest) → length rest < length bytes
-table_shorter = table_is_shorter

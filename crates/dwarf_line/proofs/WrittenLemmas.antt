@@ -4,40 +4,36 @@ use Rattle.dwarf_bytes.specs.Writing.{padded}
 use Rattle.dwarf_line.specs.declared.operation.AddressSize.{AddressSize}
 use Rattle.dwarf_line.specs.declared.operation.Operation.{Operation}
 use Rattle.dwarf_line.specs.declared.operation.Operation.TheVariants.{Advance, SetAddress, Special}
-use Rattle.dwarf_line.specs.Kept.{KeepsOfLines as Keeps}
+use Rattle.dwarf_line.specs.Kept.{KeepsOfLines}
 use Rattle.dwarf_line.specs.LineProgram.{Parameters}
-use Rattle.dwarf_line.specs.Operations.{widest_advance, address_bytes, line_operation as operation}
-use Rattle.dwarf_line.specs.Repeated.{ReadsAs as Spells}
-use Rattle.dwarf_line.specs.Written.{AddsOfLines as Adds, line_state as state, AdvancesOfLines as Advances, AddsAdvance, Is, AddsSpecial}
+use Rattle.dwarf_line.specs.Operations.{widest_advance, address_bytes, line_operation}
+use Rattle.dwarf_line.specs.Repeated.{ReadsAs}
+use Rattle.dwarf_line.specs.Written.{AddsOfLines, line_state, AdvancesOfLines, AddsAdvance, Is, AddsSpecial}
 use Rattle.dwarf_line.proofs.KeptLemmas.{keeps_nothing, keeps-append, keeps_one}
 use Rattle.dwarf_line.proofs.RepeatedLemmas.{spells-append}
-use Rattle.dwarf_line.proofs.MachineLemmas.{adds_nothing}
 use Rattle.dwarf_line.proofs.Spelled.{special_spelt, widest_spelt, advance_spelt, set_address_spelt, set_address_text}
 
-pub advances_none : (p : Parameters) → Advances p [] 0
+pub advances_none : (p : Parameters) → AdvancesOfLines p [] 0
 advances_none p = λ from fits. let k : from + 0 ≡ from = omega arith in record {
   rows = λ x. refl;
-  after = λ x. ap (λ n. state n x) (sym k);
+  after = λ x. ap (λ n. line_state n x) (sym k);
 }
 
-pub advances_one : (p : Parameters) (distance : ℕ) → Advances p (Advance distance ∷ []) distance
+pub advances_one : (p : Parameters) (distance : ℕ) → AdvancesOfLines p (Advance distance ∷ []) distance
 advances_one p distance = λ from fits. let k : (from + distance) % 2 ^ 64 ≡ from + distance = omega arith in record {
   rows = λ x. refl;
-  after = λ x. ap (λ n. state n x) k;
+  after = λ x. ap (λ n. line_state n x) k;
 }
 
 pub adds_set_address : (p : Parameters) (size : AddressSize) (address : ℕ) (old new : List ℕ) → address < 256 ^ address_bytes size → new ≡ old ++ set_address_text size address
-    → Adds p old new (SetAddress size address ∷ []) []
+    → AddsOfLines p old new (SetAddress size address ∷ []) []
 adds_set_address p size address old new fits added =
     let spells = set_address_spelt p size address fits in
     record { text = set_address_text size address; added = added; spells = spells; keeps = keeps_one p (SetAddress size address) (set_address_text size address) spells }
 
-pub adds_no_advance : (p : Parameters) (old : List ℕ) → AddsAdvance p old old 0
-adds_no_advance p old = record { operations = []; adds = adds_nothing p old; advances = advances_none p }
-
 pub adds_widest : (p : Parameters) (distance : ℕ) (old new : List ℕ) → 8 < p.opcode_base → distance ≡ widest_advance p → new ≡ old ++ 8 ∷ [] → AddsAdvance p old new distance
 adds_widest p distance old new below e added =
-    let spells : Spells (operation p) (Advance distance ∷ []) (8 ∷ []) = subst (λ n. Spells (operation p) (Advance n ∷ []) (8 ∷ [])) (sym e) (widest_spelt p below) in
+    let spells : ReadsAs (line_operation p) (Advance distance ∷ []) (8 ∷ []) = subst (λ n. ReadsAs (line_operation p) (Advance n ∷ []) (8 ∷ [])) (sym e) (widest_spelt p below) in
     record {
       operations = Advance distance ∷ [];
       adds = record { text = 8 ∷ []; added = added; spells = spells; keeps = keeps_one p (Advance distance) (8 ∷ []) spells };
@@ -54,16 +50,16 @@ adds_advance p distance old new below fits added =
     }
 
 -- a special opcode after these operations
-adds_special : (p : Parameters) (line by_front by_opcode distance opcode : ℕ) (front : List Operation) (text old new : List ℕ) → 0 < p.opcode_base → Spells (operation p) front text → Keeps p text []
-    → Advances p front by_front → by_front + by_opcode ≡ distance → Is p line by_opcode opcode → new ≡ old ++ (text ++ opcode ∷ []) → AddsSpecial p old new line distance
+adds_special : (p : Parameters) (line by_front by_opcode distance opcode : ℕ) (front : List Operation) (text old new : List ℕ) → 0 < p.opcode_base → ReadsAs (line_operation p) front text → KeepsOfLines p text []
+    → AdvancesOfLines p front by_front → by_front + by_opcode ≡ distance → Is p line by_opcode opcode → new ≡ old ++ (text ++ opcode ∷ []) → AddsSpecial p old new line distance
 adds_special p line by_front by_opcode distance opcode front text old new some spells keeps advances whole is added = record {
   front = front;
   opcode = opcode;
   adds = record {
     text = text ++ opcode ∷ [];
     added = added;
-    spells = spells-append (operation p) front (Special opcode ∷ []) text (opcode ∷ []) spells (special_spelt p opcode some is.sound);
-    keeps = subst (λ n. Keeps p (text ++ opcode ∷ []) (((p.opcode_base + n) ∷ []) ∷ [])) is.line_is
+    spells = spells-append (line_operation p) front (Special opcode ∷ []) text (opcode ∷ []) spells (special_spelt p opcode some is.sound);
+    keeps = subst (λ n. KeepsOfLines p (text ++ opcode ∷ []) (((p.opcode_base + n) ∷ []) ∷ [])) is.line_is
         (keeps-append p text (opcode ∷ []) [] _ keeps (keeps_one p (Special opcode) (opcode ∷ []) (special_spelt p opcode some is.sound)));
   };
   by_front = by_front;

@@ -9,12 +9,12 @@ use Rattle.dwarf_bytes.specs.declared.size.Format.{Format}
 use Rattle.dwarf_bytes.specs.declared.size.Format.TheVariants.{Dwarf32, Dwarf64}
 use Rattle.dwarf_line.specs.declared.moved.Moved.{Moved}
 use Rattle.dwarf_bytes.specs.Faults.{DebugReader}
-use Rattle.dwarf_bytes.specs.Numbers.{fixed_number as fixed, offset, initial_length, part_and_rest as parts}
+use Rattle.dwarf_bytes.specs.Numbers.{fixed_number, offset, initial_length, part_and_rest}
 use Rattle.dwarf_line.specs.Kept.{kept_of}
-use Rattle.dwarf_line.specs.LineProgram.{Parameters, LineRow as Row}
+use Rattle.dwarf_line.specs.LineProgram.{Parameters, LineRow}
 use Rattle.dwarf_line.specs.MovedRows.{moved_sequence}
 use Rattle.dwarf_line.specs.Operations.{rows}
-use Rattle.dwarf_line.specs.Repeated.{all_values as all_of}
+use Rattle.dwarf_line.specs.Repeated.{all_values}
 
 -- A table: the format that its length shows, the bytes between the length and the program, what they say to the machine, and the
 -- program.
@@ -27,21 +27,21 @@ pub record LineTable : Type 0 where
 -- The version: 2 to 5. From 5 on the sizes of an address and of a segment selector follow; there are no segments.
 abbrev pub no_segments : (version : ℕ) → DebugReader ℕ
 no_segments version bytes = do
-  address_size ← fixed 1 bytes
-  selector_size ← fixed 1 address_size.1
+  address_size ← fixed_number 1 bytes
+  selector_size ← fixed_number 1 address_size.1
   (if selector_size.0 == 0 then Ok (version, selector_size.1) else Err Unsupported)
 
 abbrev pub version : DebugReader ℕ
-version bytes = fixed 2 bytes >>= λ v.
+version bytes = fixed_number 2 bytes >>= λ v.
     if nat_lt v.0 2 || nat_lt 5 v.0 then Err UnknownVersion else if nat_lt v.0 5 then Ok v else no_segments v.0 v.1
 
 -- minimum_instruction_length and, from version 4 on, maximum_operations_per_instruction
 abbrev pub operations_per_instruction : (version : ℕ) → DebugReader ℕ
-operations_per_instruction version bytes = if nat_lt version 4 then Ok (1, bytes) else fixed 1 bytes
+operations_per_instruction version bytes = if nat_lt version 4 then Ok (1, bytes) else fixed_number 1 bytes
 
 abbrev pub instruction_sizes : (version : ℕ) → DebugReader (Unit {0})
 instruction_sizes version bytes = do
-  size ← fixed 1 bytes
+  size ← fixed_number 1 bytes
   operations ← operations_per_instruction version size.1
   (if size.0 == 1 && operations.0 == 1 then Ok (tt, operations.1) else Err Unsupported)
 
@@ -62,7 +62,7 @@ signed_byte b = if nat_lt b 128 then pos b else pos b -ℤ pos 256
 abbrev pub opcodes : (default_is_stmt line_base line_range opcode_base : ℕ) → List ℕ → Result Parameters DebugFault
 opcodes default_is_stmt line_base line_range opcode_base bytes =
     if line_range == 0 || nat_lt opcode_base 10 then Err Unsupported
-    else (parts (opcode_base - 1) bytes >>= λ counts.
+    else (part_and_rest (opcode_base - 1) bytes >>= λ counts.
     if agree counts.0 known_counts then Ok (record {
       default_is_stmt = not (default_is_stmt == 0);
       line_base = signed_byte line_base;
@@ -74,10 +74,10 @@ opcodes default_is_stmt line_base line_range opcode_base bytes =
 abbrev pub fields : (version : ℕ) → List ℕ → Result Parameters DebugFault
 fields version bytes = do
   sizes ← instruction_sizes version bytes
-  default_is_stmt ← fixed 1 sizes.1
-  line_base ← fixed 1 default_is_stmt.1
-  line_range ← fixed 1 line_base.1
-  opcode_base ← fixed 1 line_range.1
+  default_is_stmt ← fixed_number 1 sizes.1
+  line_base ← fixed_number 1 default_is_stmt.1
+  line_range ← fixed_number 1 line_base.1
+  opcode_base ← fixed_number 1 line_range.1
   opcodes default_is_stmt.0 line_base.0 line_range.0 opcode_base.0 opcode_base.1
 
 -- the header after the length of the table, which ends where the program begins
@@ -85,7 +85,7 @@ unfoldable pub header : Format → DebugReader Parameters
 header format bytes = do
   v ← version bytes
   size ← offset format v.1
-  part ← parts size.0 size.1
+  part ← part_and_rest size.0 size.1
   p ← fields v.0 part.0
   Ok (p, part.1)
 
@@ -94,11 +94,11 @@ unit format bytes = header format bytes >>= λ h.
     Ok (record { format = format; front = take (length bytes - length h.1) bytes; parameters = h.0; program = h.1 })
 
 unfoldable pub table : DebugReader LineTable
-table bytes = initial_length bytes >>= λ n. parts n.0.1 n.1 >>= λ part. unit n.0.0 part.0 >>= λ t. Ok (t, part.1)
+table bytes = initial_length bytes >>= λ n. part_and_rest n.0.1 n.1 >>= λ part. unit n.0.0 part.0 >>= λ t. Ok (t, part.1)
 
 -- the tables of a section
 abbrev pub tables : List ℕ → Result (List LineTable) DebugFault
-tables section = all_of table section
+tables section = all_values table section
 
 -- ---- moved
 
@@ -107,7 +107,7 @@ pub record IsMovedTable (bodies : List Body) (old new : LineTable) : Type 0 wher
   pub same_format : new.format ≡ old.format
   pub same_front : new.front ≡ old.front
   pub same_parameters : new.parameters ≡ old.parameters
-  pub sequences : List (List Row)
+  pub sequences : List (List LineRow)
   pub source : rows old.parameters old.program ≡ Ok sequences
   pub written : rows new.parameters new.program ≡ Ok (map (moved_sequence bodies) sequences)
   pub texts : List (List ℕ)
@@ -134,7 +134,7 @@ pub record IsMovedSection (bodies : List Body) (old new : List ℕ) : Type 0 whe
 pub record IsSequenceAt (bodies : List Body) (p : Parameters) (at new_at : ℕ) (m : Moved) (text new_text : List ℕ) : Type 0 where
   pub old_is : m.old ≡ at
   pub new_is : m.new ≡ new_at
-  pub sequence : List Row
+  pub sequence : List LineRow
   pub source : rows p text ≡ Ok (sequence ∷ [])
   pub written : rows p new_text ≡ Ok (moved_sequence bodies sequence ∷ [])
 
@@ -150,7 +150,7 @@ abbrev pub length_size : Format → ℕ
 length_size Dwarf32 = 4
 length_size Dwarf64 = 12
 
--- how far behind its first byte the program of a table begins
+-- how far after its first byte the program of a table begins
 abbrev pub program_offset : LineTable → ℕ
 program_offset t = length_size t.format + length t.front
 

@@ -10,8 +10,8 @@ use Rattle.dwarf_line.specs.declared.operation.Operation.{Operation}
 use Rattle.dwarf_line.specs.declared.operation.Operation.TheVariants.{EndSequence}
 use Rattle.dwarf_line.specs.LineProgram.{Parameters}
 use Rattle.dwarf_line.specs.LineTables.{LineTable, table}
-use Rattle.dwarf_line.specs.Operations.{line_operation as operation}
-use Rattle.dwarf_line.specs.Repeated.{all_values as all_of}
+use Rattle.dwarf_line.specs.Operations.{line_operation}
+use Rattle.dwarf_line.specs.Repeated.{all_values}
 
 -- every sequence ends with an operation that says so (DWARF 5, section 6.2.5.3)
 abbrev pub line_is_end : Operation → Bool
@@ -25,7 +25,7 @@ line_ends (o ∷ q ∷ os) = line_ends (q ∷ os)
 
 -- what is wrong with a program, if anything is
 abbrev pub sound_program : Parameters → (program : List ℕ) → Result (Unit {0}) DebugFault
-sound_program p program = all_of (operation p) program >>= λ os. unless (line_ends os) Truncated
+sound_program p program = all_values (line_operation p) program >>= λ os. unless (line_ends os) Truncated
 
 -- a table with its program
 unfoldable pub sound_table : DebugReader LineTable
@@ -33,7 +33,7 @@ sound_table bytes = table bytes >>= λ t. sound_program t.0.parameters t.0.progr
 
 -- what is wrong with a section: the first fault, from the first byte on
 abbrev pub sound_section : List ℕ → Result (List LineTable) DebugFault
-sound_section section = all_of sound_table section
+sound_section section = all_values sound_table section
 
 -- ---- errors
 

@@ -10,24 +10,24 @@ use Rattle.dwarf_line.specs.declared.operation.Operation.{Operation}
 use Rattle.dwarf_line.specs.declared.operation.Operation.TheVariants.{Advance, SetAddress, Special, EndSequence}
 use Rattle.dwarf_line.specs.declared.place.Place.{Place}
 use Rattle.dwarf_line.specs.declared.sequence.Sequence.{Sequence}
-use Rattle.dwarf_line.specs.Kept.{kept_of, KeepsOfLines as Keeps}
-use Rattle.dwarf_line.specs.LineProgram.{Parameters, Registers, LineState as State, LineRow as Row, initial, address_advance, state_after_all, all_appended}
+use Rattle.dwarf_line.specs.Kept.{kept_of, KeepsOfLines}
+use Rattle.dwarf_line.specs.LineProgram.{Parameters, Registers, LineState, LineRow, initial, address_advance, state_after_all, all_appended}
 use Rattle.dwarf_line.specs.LineTables.{AreSequencesAt}
 use Rattle.dwarf_line.specs.MovedRows.{moved_row, moved_sequence}
-use Rattle.dwarf_line.specs.Operations.{line_operation as operation, rows}
+use Rattle.dwarf_line.specs.Operations.{line_operation, rows}
 use Rattle.dwarf_line.specs.Refusals.{sound_program}
-use Rattle.dwarf_line.specs.Repeated.{Begin, ReadsAs as Spells}
+use Rattle.dwarf_line.specs.Repeated.{Begin, ReadsAs}
 
 -- The new bytes are the old ones and these operations, of which this is kept.
 pub record AddsOfLines (p : Parameters) (old new : List ℕ) (os : List Operation) (texts : List (List ℕ)) : Type 0 where
   pub text : List ℕ
   pub added : new ≡ old ++ text
-  pub spells : Spells (operation p) os text
-  pub keeps : Keeps p text texts
+  pub spells : ReadsAs (line_operation p) os text
+  pub keeps : KeepsOfLines p text texts
 
 -- ---- moves of the address
 
-abbrev pub line_state : (address : ℕ) → Registers → State
+abbrev pub line_state : (address : ℕ) → Registers → LineState
 line_state a x = record { address = a; registers = x }
 
 -- The operations lead from one address to the other and do nothing else.
@@ -98,12 +98,12 @@ IsEnded os = (front : List Operation) × (os ≡ front ++ EndSequence ∷ [])
 -- ---- sequences
 
 -- the last row of these ends a sequence, and no other one
-abbrev pub IsClosed : List Row → Type 0
+abbrev pub IsClosed : List LineRow → Type 0
 IsClosed [] = ⊥
 IsClosed (r ∷ []) = r.end_sequence ≡ true
 IsClosed (r ∷ s ∷ rs) = (r.end_sequence ≡ false) × IsClosed (s ∷ rs)
 
-abbrev pub first_address : List Row → Option ℕ
+abbrev pub first_address : List LineRow → Option ℕ
 first_address [] = None
 first_address (r ∷ rs) = Some r.address
 
@@ -117,22 +117,22 @@ pub record IsSequence (p : Parameters) (os : List Operation) (first : ℕ) : Typ
 pub record BeginsSequence (p : Parameters) (bytes : List ℕ) (s : Sequence) : Type 0 where
   pub operations : List Operation
   pub split : bytes ≡ s.bytes.now ++ s.rest.now
-  pub reads : Begin (operation p) operations s.bytes.now []
+  pub reads : Begin (line_operation p) operations s.bytes.now []
   pub is : IsSequence p operations s.first
 
 -- These bytes can't be read as a sequence: after some operations, of which none ends it, this is wrong.
 pub record IsSequenceFault (p : Parameters) (bytes : List ℕ) (f : DebugFault) : Type 0 where
   pub operations : List Operation
   pub rest : List ℕ
-  pub reads : Begin (operation p) operations bytes rest
+  pub reads : Begin (line_operation p) operations bytes rest
   pub not_ended : IsEnded operations → ⊥
-  pub fault : operation p rest ≡ Err f
+  pub fault : line_operation p rest ≡ Err f
 
 -- What is added for the bytes of a sequence leads to these rows, and to its end, and all else is kept.
-pub record AddsRows (p : Parameters) (bytes old new : List ℕ) (rs : List Row) : Type 0 where
+pub record AddsRows (p : Parameters) (bytes old new : List ℕ) (rs : List LineRow) : Type 0 where
   pub operations : List Operation
   pub texts : List (List ℕ)
-  pub source_keeps : Keeps p bytes texts
+  pub source_keeps : KeepsOfLines p bytes texts
   pub adds : AddsOfLines p old new operations texts
   pub rows_are : all_appended p operations (initial p) ≡ rs
   pub after : state_after_all p operations (initial p) ≡ initial p
@@ -144,7 +144,7 @@ pub record AddsRows (p : Parameters) (bytes old new : List ℕ) (rs : List Row) 
 pub record AddsProgram (bodies : List Body) (p : Parameters) (place : Moved) (program old new : List ℕ) (old_moves new_moves : List Moved) : Type 0 where
   pub text : List ℕ
   pub added : new ≡ old ++ text
-  pub sequences : List (List Row)
+  pub sequences : List (List LineRow)
   pub source : rows p program ≡ Ok sequences
   pub written : rows p text ≡ Ok (map (moved_sequence bodies) sequences)
   pub texts : List (List ℕ)

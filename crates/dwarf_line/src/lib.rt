@@ -14,8 +14,6 @@ mod sequence;
 mod sequences;
 mod table;
 mod tables;
-#[cfg(test)]
-mod tests;
 mod writing;
 
 pub use moved::Moved;

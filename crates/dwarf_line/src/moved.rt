@@ -15,12 +15,12 @@ impl Moved {
     ghost use Rattle.std.specs.Prelude.{◌≡◌, ◌+◌, ◌^◌, ◌≤◌, ◌⊎◌, IfOk, IfErr};
     ghost use Rattle.dwarf_bytes.specs.declared.fault.DebugFault.TheVariants.{DoesNotFit};
 
-    /// The place that is this far behind this one.
+    /// The place that is this far after this one.
     ///
     /// # Errors
     ///
     /// `DoesNotFit` if it is beyond 64 bits.
-    pub(crate) fn behind(self, old: usize, new: usize) -> Result<Moved, DebugFault>
+    pub(crate) fn further(self, old: usize, new: usize) -> Result<Moved, DebugFault>
         ensures old { IfOk result (λ m. m.old ≡ self.old + old) }
         ensures new { IfOk result (λ m. m.new ≡ self.new + new) }
         ensures errors { IfErr result (λ f. (f ≡ DoesNotFit)

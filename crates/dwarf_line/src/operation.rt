@@ -13,7 +13,7 @@ pub(crate) enum AddressSize {
 
 impl AddressSize {
     ghost use Rattle.std.specs.Prelude.{◌≡◌, ◌≤◌};
-    ghost use Rattle.dwarf_bytes.specs.Numbers.{size_in_bytes as bytes_of};
+    ghost use Rattle.dwarf_bytes.specs.Numbers.{size_in_bytes};
     ghost use Rattle.dwarf_line.specs.Operations.{address_bytes};
 
     /// The number of bytes.
@@ -29,7 +29,7 @@ impl AddressSize {
 
     /// The size as one of a number.
     pub(crate) fn size(self) -> Size
-        ensures { bytes_of result ≡ address_bytes self }
+        ensures { size_in_bytes result ≡ address_bytes self }
     {
         match self {
             AddressSize::Four => Size::Four,

@@ -18,11 +18,11 @@ pub(crate) struct Place {
 }
 
 impl Place {
-    ghost use Rattle.dwarf_line.specs.Written.{line_start as start};
+    ghost use Rattle.dwarf_line.specs.Written.{line_start};
 
     /// The beginning of a sequence.
     pub(crate) fn start() -> Place
-        ensures { result ≡ start }
+        ensures { result ≡ line_start }
     {
         Place {
             old: 0,

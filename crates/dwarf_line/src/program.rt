@@ -1,14 +1,14 @@
 //! Line number programs, written anew.
 
 ghost use Rattle.std.specs.Prelude.{◌≡◌, ◌≤◌, List, ◌∷◌, [], OnOk, IfOk, IfErr, map};
-ghost use Rattle.dwarf_line.specs.Kept.{line_kept as kept};
+ghost use Rattle.dwarf_line.specs.Kept.{line_kept};
 ghost use Rattle.dwarf_line.specs.LineProgram.{Parameters, initial, all_appended};
 ghost use Rattle.dwarf_line.specs.MovedRows.{moved_row, moved_sequence};
-ghost use Rattle.dwarf_line.specs.Operations.{line_operation as an_operation};
-ghost use Rattle.dwarf_line.specs.Refusals.{IsOfWritingOfLines as IsOfWriting, IsProgramRefusal};
-ghost use Rattle.dwarf_line.specs.Repeated.{Begin, ReadsAs as Spells};
+ghost use Rattle.dwarf_line.specs.Operations.{line_operation};
+ghost use Rattle.dwarf_line.specs.Refusals.{IsOfWritingOfLines, IsProgramRefusal};
+ghost use Rattle.dwarf_line.specs.Repeated.{Begin, ReadsAs};
 ghost use Rattle.dwarf_line.specs.Views.{parameters};
-ghost use Rattle.dwarf_line.specs.Written.{AddsLead, IsSound, FollowsOfLines as Follows, line_start as start, IsEnded, IsSequence, AddsRows, AddsProgram};
+ghost use Rattle.dwarf_line.specs.Written.{AddsLead, IsSound, FollowsOfLines, line_start, IsEnded, IsSequence, AddsRows, AddsProgram};
 ghost use Rattle.dwarf_line.specs.declared.operation.Operation.{Operation as AnOperation};
 ghost use Rattle.dwarf_line.specs.declared.operation.Operation.TheVariants.{SetAddress, Special, EndSequence};
 ghost use Rattle.dwarf_line.specs.declared.place.Place.{Place as APlace};
@@ -30,7 +30,7 @@ fn set_back(out: &mut Vec<u8>, place: Place, target: u64) -> Result<u64, DebugEr
         → AddsLead p out.old.items out.new.items place.new from) }
     ensures below { IfOk result (λ from. from ≤ target) }
     ensures stays { place.new ≤ target → IfOk result (λ from. from ≡ place.new) }
-    ensures errors { IfErr result IsOfWriting }
+    ensures errors { IfErr result IsOfWritingOfLines }
 {
     if place.new <= target {
         return Ok(place.new);
@@ -43,7 +43,7 @@ fn set_back(out: &mut Vec<u8>, place: Place, target: u64) -> Result<u64, DebugEr
 fn lead(out: &mut Vec<u8>, header: &Header<'_>, place: Place, target: u64) -> Result<(), DebugError>
     ensures leads { OnOk result
         (AddsLead (parameters header.now) out.old.items out.new.items place.new target) }
-    ensures errors { IfErr result IsOfWriting }
+    ensures errors { IfErr result IsOfWritingOfLines }
 {
     let from = set_back(out, place, target)?;
     write_advance(out, header, target - from)?;
@@ -58,10 +58,10 @@ fn move_address(
     address: u64,
     bytes: &[u8],
 ) -> Result<Place, DebugError>
-    ensures errors { IfErr result IsOfWriting }
+    ensures errors { IfErr result IsOfWritingOfLines }
     ensures follows { (p : Parameters) (from : APlace)
-        → Spells (an_operation p) (SetAddress size address ∷ []) bytes.now
-        → IfOk result (λ to. Follows moves.now.bodies.items p (SetAddress size address ∷ []) from to
+        → ReadsAs (line_operation p) (SetAddress size address ∷ []) bytes.now
+        → IfOk result (λ to. FollowsOfLines moves.now.bodies.items p (SetAddress size address ∷ []) from to
         out.old.items out.new.items []) }
 {
     match moves.address(address) {
@@ -93,10 +93,10 @@ fn move_special(
     opcode: u8,
 ) -> Result<Place, DebugError>
     requires { header.now.opcode_base ≤ opcode }
-    ensures errors { IfErr result IsOfWriting }
-    ensures follows { IfOk result (λ to. Follows moves.now.bodies.items (parameters header.now)
+    ensures errors { IfErr result IsOfWritingOfLines }
+    ensures follows { IfOk result (λ to. FollowsOfLines moves.now.bodies.items (parameters header.now)
         (Special opcode ∷ []) place to out.old.items out.new.items
-        (kept (parameters header.now) (Special opcode) [])) }
+        (line_kept (parameters header.now) (Special opcode) [])) }
 {
     let old = place.old.wrapping_add(header.address_advance(opcode));
     let new = moved(moves, old);
@@ -119,11 +119,11 @@ fn move_operation(
     bytes: &[u8],
 ) -> Result<Place, DebugError>
     requires { IsSound (parameters header.now) operation }
-    ensures follows { Spells (an_operation (parameters header.now)) (operation ∷ []) bytes.now
-        → IfOk result (λ to. Follows moves.now.bodies.items (parameters header.now) (operation ∷ [])
-        place to out.old.items out.new.items (kept (parameters header.now) operation bytes.now)) }
-    ensures ended { operation ≡ EndSequence → IfOk result (λ to. to ≡ start) }
-    ensures errors { IfErr result IsOfWriting }
+    ensures follows { ReadsAs (line_operation (parameters header.now)) (operation ∷ []) bytes.now
+        → IfOk result (λ to. FollowsOfLines moves.now.bodies.items (parameters header.now) (operation ∷ [])
+        place to out.old.items out.new.items (line_kept (parameters header.now) operation bytes.now)) }
+    ensures ended { operation ≡ EndSequence → IfOk result (λ to. to ≡ line_start) }
+    ensures errors { IfErr result IsOfWritingOfLines }
 {
     match operation {
         Operation::Advance(distance) => Ok(Place {
@@ -163,9 +163,9 @@ fn move_operations(
     bytes: &[u8],
 ) -> Result<(), DebugError>
     ensures errors { (os : List AnOperation)
-        → Begin (an_operation (parameters header.now)) os bytes.now [] → IfErr result IsOfWriting }
+        → Begin (line_operation (parameters header.now)) os bytes.now [] → IfErr result IsOfWritingOfLines }
     ensures adds { OnOk result ((os : List AnOperation)
-        → Begin (an_operation (parameters header.now)) os bytes.now [] → IsEnded os
+        → Begin (line_operation (parameters header.now)) os bytes.now [] → IsEnded os
         → AddsRows (parameters header.now) bytes.now out.old.items out.new.items
         (map (moved_row moves.now.bodies.items) (all_appended (parameters header.now) os
         (initial (parameters header.now))))) }
@@ -189,10 +189,10 @@ fn move_sequence(
     sequence: Sequence<'_>,
 ) -> Result<(), DebugError>
     ensures errors { (os : List AnOperation)
-        → Begin (an_operation (parameters header.now)) os sequence.entry.bytes.now []
-        → IfErr result IsOfWriting }
+        → Begin (line_operation (parameters header.now)) os sequence.entry.bytes.now []
+        → IfErr result IsOfWritingOfLines }
     ensures adds { OnOk result ((os : List AnOperation)
-        → Begin (an_operation (parameters header.now)) os sequence.entry.bytes.now []
+        → Begin (line_operation (parameters header.now)) os sequence.entry.bytes.now []
         → IsSequence (parameters header.now) os sequence.entry.first
         → AddsRows (parameters header.now) sequence.entry.bytes.now out.old.items out.new.items
         (moved_sequence moves.now.bodies.items (all_appended (parameters header.now) os
@@ -222,7 +222,7 @@ pub(crate) fn move_program(
     let mut rest = program;
     'sequences: while !rest.is_empty() {
         let sequence = read_sequence(header, rest)?;
-        let moved = place.behind(program.len() - rest.len(), out.len() - start)?;
+        let moved = place.further(program.len() - rest.len(), out.len() - start)?;
         sequences.push(moved)?;
         move_sequence(out, header, moves, sequence)?;
         rest = sequence.rest;

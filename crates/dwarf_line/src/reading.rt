@@ -2,7 +2,7 @@
 
 ghost use Rattle.std.specs.Prelude.{◌≡◌, ◌<◌, ◌≤◌, length, IfOk};
 ghost use Rattle.wasm_numbers.specs.Results.{Gives};
-ghost use Rattle.dwarf_line.specs.Operations.{numbers, standard, is_all as no_more, set_address, extended, extended_operation, line_operation as an_operation};
+ghost use Rattle.dwarf_line.specs.Operations.{numbers, standard, is_all, set_address, extended, extended_operation, line_operation as an_operation};
 ghost use Rattle.dwarf_line.specs.Views.{parameters};
 ghost use Rattle.dwarf_line.specs.Written.{IsSound};
 
@@ -82,7 +82,7 @@ fn read_standard<'a>(
 
 /// The operation, if no bytes follow it.
 fn whole(operation: Operation, rest: &[u8]) -> Result<Operation, DebugFault>
-    ensures { Gives (λ x. x) result (no_more (operation, rest.now)) }
+    ensures { Gives (λ x. x) result (is_all (operation, rest.now)) }
 {
     match rest {
         [] => Ok(operation),

@@ -38,7 +38,7 @@ fn program_place(place: Moved, table: &Table<'_>) -> Result<Moved, DebugFault>
         Format::Dwarf64 => 12,
     };
     match table.front.len().checked_add(size) {
-        Some(distance) => place.behind(distance, distance),
+        Some(distance) => place.further(distance, distance),
         None => Err(DebugFault::DoesNotFit),
     }
 }

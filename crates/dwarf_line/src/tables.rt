@@ -6,7 +6,7 @@ ghost use Rattle.dwarf_bytes.specs.declared.fault.DebugFault.TheVariants.{DoesNo
 ghost use Rattle.dwarf_bytes.specs.declared.size.Format.TheVariants.{Dwarf32};
 ghost use Rattle.wasm_numbers.specs.Results.{Gives};
 ghost use Rattle.dwarf_line.specs.LineTables.{no_segments, version as a_version, operations_per_instruction, instruction_sizes, agree, known_counts, signed_byte, opcodes, fields, header as a_header, unit, table as a_table};
-ghost use Rattle.dwarf_line.specs.Refusals.{IsOfWritingOfLines as IsOfWriting};
+ghost use Rattle.dwarf_line.specs.Refusals.{IsOfWritingOfLines};
 ghost use Rattle.dwarf_line.specs.Views.{parameters, line_table};
 ghost use Rattle.dwarf_line.specs.Written.{AddsLength, AddsUnit};
 
@@ -173,7 +173,7 @@ pub(crate) fn read_table(bytes: &[u8]) -> Result<(Table<'_>, &[u8]), DebugFault>
 /// Appends a length in this format.
 fn write_length(out: &mut Vec<u8>, format: Format, length: u64) -> Result<(), DebugError>
     ensures adds { OnOk result (AddsLength format length out.old.items out.new.items) }
-    ensures errors { IfErr result IsOfWriting }
+    ensures errors { IfErr result IsOfWritingOfLines }
     ensures unfit { result ≡ Err (Fault DoesNotFit) → (format ≡ Dwarf32) × (0xffff_fff0 ≤ length) }
 {
     match format {
@@ -205,7 +205,7 @@ pub(crate) fn write_table(
 ) -> Result<(), DebugError>
     ensures adds { OnOk result
         (AddsUnit format (front.now ++ program.now) out.old.items out.new.items) }
-    ensures errors { IfErr result IsOfWriting }
+    ensures errors { IfErr result IsOfWritingOfLines }
     ensures unfit { result ≡ Err (Fault DoesNotFit)
         → 0xffff_fff0 ≤ (length front.now + length program.now) }
 {

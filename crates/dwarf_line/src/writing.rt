@@ -3,12 +3,12 @@
 ghost use Rattle.std.specs.Prelude.{◌≡◌, ◌+◌, ◌*◌, ◌^◌, ◌<◌, ◌≤◌, ◌∷◌, ◌++◌, [], OnOk, IfErr, IfSome, IfNone, Err};
 ghost use Rattle.dwarf_bytes.specs.declared.fault.DebugError.TheVariants.{Fault};
 ghost use Rattle.dwarf_bytes.specs.declared.fault.DebugFault.TheVariants.{DoesNotFit};
-ghost use Rattle.dwarf_bytes.specs.Numbers.{size_in_bytes as bytes_of};
+ghost use Rattle.dwarf_bytes.specs.Numbers.{size_in_bytes};
 ghost use Rattle.dwarf_bytes.specs.Writing.{fixed_bytes};
 ghost use Rattle.dwarf_line.specs.LineProgram.{Parameters};
-ghost use Rattle.dwarf_line.specs.Refusals.{IsOfWritingOfLines as IsOfWriting};
+ghost use Rattle.dwarf_line.specs.Refusals.{IsOfWritingOfLines};
 ghost use Rattle.dwarf_line.specs.Views.{parameters};
-ghost use Rattle.dwarf_line.specs.Written.{AddsOfLines as Adds, AddsAdvance, Is, AddsSpecial};
+ghost use Rattle.dwarf_line.specs.Written.{AddsOfLines, AddsAdvance, Is, AddsSpecial};
 ghost use Rattle.dwarf_line.specs.declared.operation.Operation.TheVariants.{SetAddress};
 
 use crate::header::Header;
@@ -24,10 +24,10 @@ use std::alloc::AllocError;
 /// `DoesNotFit` if it is too great; or out of memory.
 pub(crate) fn write_fixed(out: &mut Vec<u8>, size: Size, number: u64) -> Result<(), DebugError>
     ensures written { OnOk result (out.new.items
-        ≡ out.old.items ++ fixed_bytes (bytes_of size) number) }
-    ensures fits { OnOk result (number < 256 ^ bytes_of size) }
-    ensures errors { IfErr result IsOfWriting }
-    ensures unfit { result ≡ Err (Fault DoesNotFit) → 256 ^ bytes_of size ≤ number }
+        ≡ out.old.items ++ fixed_bytes (size_in_bytes size) number) }
+    ensures fits { OnOk result (number < 256 ^ size_in_bytes size) }
+    ensures errors { IfErr result IsOfWritingOfLines }
+    ensures unfit { result ≡ Err (Fault DoesNotFit) → 256 ^ size_in_bytes size ≤ number }
 {
     match write_sized(out, size, number) {
         Ok(()) => Ok(()),
@@ -45,8 +45,8 @@ pub(crate) fn write_set_address(
     address: u64,
 ) -> Result<(), DebugError>
     ensures adds { OnOk result ((p : Parameters)
-        → Adds p out.old.items out.new.items (SetAddress size address ∷ []) []) }
-    ensures errors { IfErr result IsOfWriting }
+        → AddsOfLines p out.old.items out.new.items (SetAddress size address ∷ []) []) }
+    ensures errors { IfErr result IsOfWritingOfLines }
 {
     out.extend_from_slice(&[EXTENDED, size.bytes() + 1, DW_LNE_SET_ADDRESS])?;
     write_fixed(out, size.size(), address)?;

@@ -3,7 +3,7 @@ use Rattle.std.specs.Prelude.{◌≡◌, ℕ, ◌-◌, ◌^◌, ◌&&◌, ◌==�
 use Rattle.wasm_numbers.specs.Results.{◌>>=◌}
 use Rattle.dwarf_bytes.specs.declared.size.Size.{Size}
 use Rattle.dwarf_bytes.specs.Faults.{DebugReader}
-use Rattle.dwarf_bytes.specs.Numbers.{size_in_bytes as bytes_of, fixed_number as fixed}
+use Rattle.dwarf_bytes.specs.Numbers.{size_in_bytes, fixed_number}
 use Rattle.dwarf_expressions.specs.Expressions.{BeginWith, sized}
 use Rattle.dwarf_lists.specs.declared.entry.Kind.{Kind}
 use Rattle.dwarf_lists.specs.declared.entry.Kind.TheVariants.{Ranges, Locations}
@@ -16,12 +16,12 @@ pub data Entry : Type 0 where
   range : (low high : ℕ) (expression : List ℕ) → Entry
 
 abbrev pub greatest : Size → ℕ
-greatest size = 256 ^ bytes_of size - 1
+greatest size = 256 ^ size_in_bytes size - 1
 
--- the expression of a location is behind its length in two bytes
+-- the expression of a location follows its length in two bytes
 abbrev pub expression_of : Kind → DebugReader (List ℕ)
 expression_of Ranges bytes = Ok ([], bytes)
-expression_of Locations bytes = sized (fixed 2) bytes
+expression_of Locations bytes = sized (fixed_number 2) bytes
 
 -- An entry is a pair of addresses. If the first is the greatest one, the second is the base; two zeros are the end.
 abbrev pub of_pair : Kind → (greatest low high : ℕ) → DebugReader Entry
@@ -32,8 +32,8 @@ of_pair kind most low high bytes =
 
 unfoldable pub list_entry : Kind → Size → DebugReader Entry
 list_entry kind size bytes =
-    fixed (bytes_of size) bytes >>= λ low.
-    fixed (bytes_of size) low.1 >>= λ high.
+    fixed_number (size_in_bytes size) bytes >>= λ low.
+    fixed_number (size_in_bytes size) low.1 >>= λ high.
     of_pair kind (greatest size) low.0 high.0 high.1
 
 -- ---- lists

@@ -4,7 +4,7 @@ ghost use Rattle.std.specs.Prelude.{◌≡◌, IfOk};
 ghost use Rattle.wasm_numbers.specs.Results.{Gives};
 ghost use Rattle.dwarf_lists.specs.Entries.{expression_of, list_entry as entry};
 ghost use Rattle.dwarf_lists.specs.Moving.{HasExpression, HasItsExpression};
-ghost use Rattle.dwarf_lists.specs.Reading.{list_entry_of as entry_of};
+ghost use Rattle.dwarf_lists.specs.Reading.{list_entry_of};
 
 use dwarf_bytes::{DebugFault, Size, read_sized, read_u16, split};
 
@@ -22,13 +22,13 @@ pub(crate) enum Kind {
 pub(crate) enum Entry<'a> {
     /// Its end.
     End,
-    /// The address that the entries behind it are counted from.
+    /// The address that the entries after it are counted from.
     Base(u64),
     /// A range.
     Range {
         /// Where it begins.
         low: u64,
-        /// The address behind its end.
+        /// The address after its end.
         high: u64,
         /// Where a value is there.
         expression: &'a [u8],
@@ -38,12 +38,12 @@ pub(crate) enum Entry<'a> {
 impl Entry<'_> {
     ghost use Rattle.std.specs.Prelude.{◌≡◌, MatchBool};
     ghost use Rattle.dwarf_lists.specs.Entries.{end, IsItem};
-    ghost use Rattle.dwarf_lists.specs.Moving.{from_behind};
-    ghost use Rattle.dwarf_lists.specs.Reading.{list_entry_of as entry_of};
+    ghost use Rattle.dwarf_lists.specs.Moving.{from_after};
+    ghost use Rattle.dwarf_lists.specs.Reading.{list_entry_of};
 
     /// Whether it is the end of a list.
     pub fn is_end(self) -> bool
-        ensures { MatchBool result (entry_of self.entry ≡ end) (IsItem (entry_of self.entry)) }
+        ensures { MatchBool result (list_entry_of self.entry ≡ end) (IsItem (list_entry_of self.entry)) }
     {
         match self {
             Entry::End => true,
@@ -51,9 +51,9 @@ impl Entry<'_> {
         }
     }
 
-    /// The address from which entries are counted behind it, of which it is counted from this one.
-    pub fn from_behind(self, from: u64) -> u64
-        ensures { result ≡ from_behind from (entry_of self.entry) }
+    /// The address from which entries are counted after it, of which it is counted from this one.
+    pub fn from_after(self, from: u64) -> u64
+        ensures { result ≡ from_after from (list_entry_of self.entry) }
     {
         match self {
             Entry::Base(address) => address,
@@ -87,8 +87,8 @@ pub(crate) fn read_entry(
     size: Size,
     bytes: &[u8],
 ) -> Result<(Entry<'_>, &[u8]), DebugFault>
-    ensures gives { Gives (λ x. (entry_of x.0, x.1.now)) result (entry kind size bytes.now) }
-    ensures expression { IfOk result (λ x. HasItsExpression kind (entry_of x.0)) }
+    ensures gives { Gives (λ x. (list_entry_of x.0, x.1.now)) result (entry kind size bytes.now) }
+    ensures expression { IfOk result (λ x. HasItsExpression kind (list_entry_of x.0)) }
 {
     let (low, rest) = read_sized(size, bytes)?;
     let (high, rest) = read_sized(size, rest)?;

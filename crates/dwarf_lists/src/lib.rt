@@ -4,8 +4,6 @@
 mod entry;
 mod list;
 mod moving;
-#[cfg(test)]
-mod tests;
 mod writing;
 
 pub use list::{List, move_locations, move_ranges};

@@ -4,7 +4,7 @@ ghost use Rattle.std.specs.Prelude.{◌≡◌, ◌⊎◌, IfOk, IfErr};
 ghost use Rattle.dwarf_bytes.specs.declared.fault.DebugError.TheVariants.{Memory, Fault};
 ghost use Rattle.dwarf_bytes.specs.declared.fault.DebugFault.{DebugFault as AFault};
 ghost use Rattle.dwarf_bytes.specs.Patches.{changes};
-ghost use Rattle.dwarf_lists.specs.Lists.{IsMovedListOfList as IsMovedList, IsRefusedList};
+ghost use Rattle.dwarf_lists.specs.Lists.{IsMovedListOfList, IsRefusedList};
 ghost use Rattle.dwarf_lists.specs.declared.entry.Kind.TheVariants.{Ranges, Locations};
 
 use crate::entry::{Kind, read_entry};
@@ -32,7 +32,7 @@ fn move_list(
     moves: &Moves,
     patches: &mut Patches,
 ) -> Result<usize, DebugError>
-    ensures moved { IfOk result (λ end. IsMovedList kind list.now.encoding moves.now.bodies.items
+    ensures moved { IfOk result (λ end. IsMovedListOfList kind list.now.encoding moves.now.bodies.items
         section.now list.now.offset list.now.base end (changes patches.old) (changes patches.new)) }
     ensures refused { IfErr result (λ e. (e ≡ Memory) ⊎ ((fault : AFault) × (e ≡ Fault fault)
         × IsRefusedList kind list.now.encoding moves.now.bodies.items section.now list.now.offset
@@ -57,7 +57,7 @@ fn move_list(
             let at = section.len() - rest.len();
             patches.push(at, rest.len() - after.len(), &scratch.entry)?;
         }
-        base = entry.from_behind(base);
+        base = entry.from_after(base);
         rest = after;
     }
 }
@@ -77,7 +77,7 @@ pub fn move_ranges(
     moves: &Moves,
     patches: &mut Patches,
 ) -> Result<usize, DebugError>
-    ensures moved { IfOk result (λ end. IsMovedList Ranges list.now.encoding moves.now.bodies.items
+    ensures moved { IfOk result (λ end. IsMovedListOfList Ranges list.now.encoding moves.now.bodies.items
         section.now list.now.offset list.now.base end (changes patches.old) (changes patches.new)) }
     ensures refused { IfErr result (λ e. (e ≡ Memory) ⊎ ((fault : AFault) × (e ≡ Fault fault)
         × IsRefusedList Ranges list.now.encoding moves.now.bodies.items section.now list.now.offset
@@ -98,7 +98,7 @@ pub fn move_locations(
     moves: &Moves,
     patches: &mut Patches,
 ) -> Result<usize, DebugError>
-    ensures moved { IfOk result (λ end. IsMovedList Locations list.now.encoding moves.now.bodies.items
+    ensures moved { IfOk result (λ end. IsMovedListOfList Locations list.now.encoding moves.now.bodies.items
         section.now list.now.offset list.now.base end (changes patches.old) (changes patches.new)) }
     ensures refused { IfErr result (λ e. (e ≡ Memory) ⊎ ((fault : AFault) × (e ≡ Fault fault)
         × IsRefusedList Locations list.now.encoding moves.now.bodies.items section.now list.now.offset

@@ -6,12 +6,12 @@ ghost use Rattle.code_moves.specs.Moves.{new_address};
 ghost use Rattle.dwarf_bytes.specs.declared.fault.DebugError.TheVariants.{Memory, Fault};
 ghost use Rattle.dwarf_bytes.specs.declared.fault.DebugFault.{DebugFault as AFault};
 ghost use Rattle.dwarf_bytes.specs.declared.fault.DebugFault.TheVariants.{DoesNotFit};
-ghost use Rattle.dwarf_expressions.specs.Expressions.{ExpressionOperation as Operation, IsExpression};
-ghost use Rattle.dwarf_expressions.specs.Moving.{IsAppendedOfExpression as IsAppended, IsRefusedOfExpression as IsRefused};
+ghost use Rattle.dwarf_expressions.specs.Expressions.{ExpressionOperation, IsExpression};
+ghost use Rattle.dwarf_expressions.specs.Moving.{IsAppendedOfExpression, IsRefusedOfExpression};
 ghost use Rattle.dwarf_lists.specs.Entries.{base, range, greatest};
-ghost use Rattle.dwarf_lists.specs.Moving.{list_body_of as body_of, IsWrittenIf, IsRefusedEntry, HasExpression, HasItsExpression};
+ghost use Rattle.dwarf_lists.specs.Moving.{list_body_of, IsWrittenIf, IsRefusedEntry, HasExpression, HasItsExpression};
 ghost use Rattle.dwarf_lists.specs.declared.entry.Kind.TheVariants.{Locations};
-ghost use Rattle.dwarf_lists.specs.Reading.{list_entry_of as entry_of};
+ghost use Rattle.dwarf_lists.specs.Reading.{list_entry_of};
 
 use crate::entry::{Entry, Kind};
 use crate::writing::{write_base, write_range};
@@ -56,9 +56,9 @@ fn new_distance(moves: &Moves, from: u64, address: u64) -> Result<u64, DebugFaul
 
 // the body that a range begins in, and the addresses of the range
 fn body_of<'a>(context: &Context<'a>, from: u64, pair: (u64, u64)) -> Option<(&'a Body, u64, u64)>
-    ensures none { result ≡ None → body_of context.now.moves.now.bodies.items
+    ensures none { result ≡ None → list_body_of context.now.moves.now.bodies.items
         (greatest context.now.encoding.address_size) from pair.0 pair.1 ≡ None }
-    ensures some { IfSome result (λ x. (body_of context.now.moves.now.bodies.items
+    ensures some { IfSome result (λ x. (list_body_of context.now.moves.now.bodies.items
         (greatest context.now.encoding.address_size) from pair.0 pair.1 ≡ Some x.0.now)
         × (x.1 ≡ from + pair.0) × (x.2 ≡ from + pair.1)) }
 {
@@ -81,13 +81,13 @@ fn move_expression(
     out: &mut Vec<u8>,
 ) -> Result<(), DebugError>
     requires { HasExpression context.now.kind expression.now }
-    ensures moved { OnOk result ((os : List Operation) × (names : Bool)
+    ensures moved { OnOk result ((os : List ExpressionOperation) × (names : Bool)
         × IsExpression context.now.encoding expression.now os
-        × IsAppended context.now.encoding (Some body.now) expression.now os out.new.items names) }
+        × IsAppendedOfExpression context.now.encoding (Some body.now) expression.now os out.new.items names) }
     ensures expression { OnOk result (HasExpression context.now.kind out.new.items) }
     ensures refused { IfErr result (λ e. (e ≡ Memory) ⊎ ((fault : AFault) × (e ≡ Fault fault)
         × (context.now.kind ≡ Locations)
-        × IsRefused context.now.encoding (Some body.now) expression.now fault)) }
+        × IsRefusedOfExpression context.now.encoding (Some body.now) expression.now fault)) }
 {
     out.clear();
     match context.kind {
@@ -186,13 +186,13 @@ pub(crate) fn move_entry(
     entry: Entry<'_>,
     scratch: &mut Scratch,
 ) -> Result<bool, DebugError>
-    requires { HasItsExpression context.now.kind (entry_of entry) }
+    requires { HasItsExpression context.now.kind (list_entry_of entry) }
     ensures moved { IfOk result (λ changes. IsWrittenIf context.now.kind context.now.encoding
-        context.now.moves.now.bodies.items from (entry_of entry.entry) scratch.new.entry.items
+        context.now.moves.now.bodies.items from (list_entry_of entry.entry) scratch.new.entry.items
         changes) }
     ensures refused { IfErr result (λ e. (e ≡ Memory) ⊎ ((fault : AFault) × (e ≡ Fault fault)
         × IsRefusedEntry context.now.kind context.now.encoding context.now.moves.now.bodies.items
-        from (entry_of entry.entry) fault)) }
+        from (list_entry_of entry.entry) fault)) }
 {
     match entry {
         Entry::End => Ok(false),

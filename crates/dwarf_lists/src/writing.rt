@@ -3,10 +3,10 @@
 ghost use Rattle.std.specs.Prelude.{◌≡◌, ◌<◌, ◌≤◌, ◌⊎◌, ◌^◌, ◌++◌, ℕ, List, length, OnOk, IfErr, Ok};
 ghost use Rattle.dwarf_bytes.specs.declared.fault.DebugError.TheVariants.{Memory, Fault};
 ghost use Rattle.dwarf_bytes.specs.declared.fault.DebugFault.TheVariants.{DoesNotFit};
-ghost use Rattle.dwarf_bytes.specs.Numbers.{size_in_bytes as bytes_of};
+ghost use Rattle.dwarf_bytes.specs.Numbers.{size_in_bytes};
 ghost use Rattle.dwarf_bytes.specs.Writing.{fixed_bytes};
 ghost use Rattle.dwarf_lists.specs.Entries.{base, range, expression_of, greatest};
-ghost use Rattle.dwarf_lists.specs.Moving.{WritesOfList as Writes, HasExpression, non_zero};
+ghost use Rattle.dwarf_lists.specs.Moving.{WritesOfList, HasExpression, non_zero};
 
 use crate::entry::Kind;
 use dwarf_bytes::{DebugError, DebugFault, Size, write_sized};
@@ -14,11 +14,11 @@ use dwarf_bytes::{DebugError, DebugFault, Size, write_sized};
 // Appends a pair of addresses.
 fn write_pair(out: &mut Vec<u8>, size: Size, one: u64, other: u64) -> Result<(), DebugError>
     ensures written { OnOk result (out.new.items ≡ out.old.items
-        ++ (fixed_bytes (bytes_of size) one ++ fixed_bytes (bytes_of size) other)) }
-    ensures one { OnOk result (one < 256 ^ bytes_of size) }
-    ensures other { OnOk result (other < 256 ^ bytes_of size) }
+        ++ (fixed_bytes (size_in_bytes size) one ++ fixed_bytes (size_in_bytes size) other)) }
+    ensures one { OnOk result (one < 256 ^ size_in_bytes size) }
+    ensures other { OnOk result (other < 256 ^ size_in_bytes size) }
     ensures refused { IfErr result (λ e. (e ≡ Memory) ⊎ ((e ≡ Fault DoesNotFit)
-        × ((256 ^ bytes_of size ≤ one) ⊎ (256 ^ bytes_of size ≤ other)))) }
+        × ((256 ^ size_in_bytes size ≤ one) ⊎ (256 ^ size_in_bytes size ≤ other)))) }
 {
     write_sized(out, size, one)?;
     write_sized(out, size, other)
@@ -36,9 +36,9 @@ pub(crate) fn write_base(
     address: u64,
 ) -> Result<(), DebugError>
     ensures written { OnOk result ((text : List ℕ) × (out.new.items ≡ out.old.items ++ text)
-        × Writes kind size text (base address)) }
+        × WritesOfList kind size text (base address)) }
     ensures refused { IfErr result (λ e. (e ≡ Memory)
-        ⊎ ((e ≡ Fault DoesNotFit) × (256 ^ bytes_of size ≤ address))) }
+        ⊎ ((e ≡ Fault DoesNotFit) × (256 ^ size_in_bytes size ≤ address))) }
 {
     write_pair(out, size, size.greatest(), address)?;
     Ok(())
@@ -73,7 +73,7 @@ fn non_zero(pair: (u64, u64)) -> (u64, u64)
     }
 }
 
-/// Appends a range. One without bytes at the base is written as one without bytes at the address behind it, since two zeros
+/// Appends a range. One without bytes at the base is written as one without bytes at the address after it, since two zeros
 /// would be the end of the list.
 ///
 /// # Errors
@@ -89,9 +89,9 @@ pub(crate) fn write_range(
 ) -> Result<(), DebugError>
     requires { HasExpression kind expression.now }
     ensures written { OnOk result ((text : List ℕ) × (out.new.items ≡ out.old.items ++ text)
-        × Writes kind size text (let (low, high) = non_zero pair in range low high expression.now)) }
+        × WritesOfList kind size text (let (low, high) = non_zero pair in range low high expression.now)) }
     ensures refused { IfErr result (λ e. (e ≡ Memory) ⊎ ((e ≡ Fault DoesNotFit)
-        × ((greatest size ≤ pair.0) ⊎ ((256 ^ bytes_of size ≤ pair.1)
+        × ((greatest size ≤ pair.0) ⊎ ((256 ^ size_in_bytes size ≤ pair.1)
         ⊎ (65536 ≤ length expression.now))))) }
 {
     let (low, high) = non_zero(pair);

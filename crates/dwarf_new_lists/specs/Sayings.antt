@@ -1,7 +1,7 @@
 -- What entries say of addresses (DWARF 5, sections 2.17.3 and 2.6.2), and what they say where the code has moved.
 use Rattle.std.specs.Prelude.{◌≡◌, ℕ, ◌+◌, ◌^◌, List, [], ◌∷◌, ◌&&◌, nat_lt, if◌then◌else◌, Option, Some, None, option_map, MatchOption, ⊤}
 use Rattle.code_moves.specs.declared.body.Body.{Body}
-use Rattle.code_moves.specs.Moves.{body_with_address as body_at, new_address}
+use Rattle.code_moves.specs.Moves.{body_with_address, new_address}
 use Rattle.dwarf_expressions.specs.declared.encoding.Encoding.{Encoding}
 use Rattle.dwarf_new_lists.specs.declared.kind.Kind.{Kind}
 use Rattle.dwarf_new_lists.specs.declared.kind.Kind.TheVariants.{End, BaseIndex, IndexPair, IndexLength, OffsetPair, Default, Base, Pair, Length, Views}
@@ -50,10 +50,10 @@ moved_addresses bs at index = option_map (new_address bs) (at index)
 abbrev pub moved_saying : List Body → Saying → Option Saying
 moved_saying bs saying.Nothing = None
 moved_saying bs (saying.Base address) = Some (saying.Base (new_address bs address))
-moved_saying bs (saying.Range low high) = option_map (λ b. saying.Range (new_address bs low) (new_address bs high)) (body_at bs low)
+moved_saying bs (saying.Range low high) = option_map (λ b. saying.Range (new_address bs low) (new_address bs high)) (body_with_address bs low)
 
 abbrev pub new_list_body_of : List Body → Saying → Option Body
-new_list_body_of bs (saying.Range low high) = body_at bs low
+new_list_body_of bs (saying.Range low high) = body_with_address bs low
 new_list_body_of bs _ = None
 
 -- The new operands of an entry say what the old ones do, where the code has moved; or they are the old ones, if these say nothing

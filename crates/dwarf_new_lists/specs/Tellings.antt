@@ -2,10 +2,10 @@
 use Rattle.std.specs.Prelude.{◌≡◌, ℕ, List, [], ◌∷◌, ◌++◌, Option, Some, is_some, if◌then◌else◌}
 use Rattle.std.specs.List.{AllByRecursion}
 use Rattle.code_moves.specs.declared.body.Body.{Body}
-use Rattle.code_moves.specs.Moves.{address_moved as moved}
+use Rattle.code_moves.specs.Moves.{address_moved}
 use Rattle.dwarf_bytes.specs.declared.addresses.Address.{Address}
 use Rattle.dwarf_bytes.specs.declared.addresses.AddressTable.{AddressTable}
-use Rattle.dwarf_bytes.specs.Addresses.{place_of_address as place_of, address_at}
+use Rattle.dwarf_bytes.specs.Addresses.{place_of_address, address_at}
 use Rattle.dwarf_new_lists.specs.declared.kind.Kind.{Kind}
 use Rattle.dwarf_new_lists.specs.declared.kind.Kind.TheVariants.{BaseIndex, IndexPair, IndexLength}
 use Rattle.dwarf_new_lists.specs.declared.saying.Saying.{Saying}
@@ -14,10 +14,10 @@ use Rattle.dwarf_new_lists.specs.Sayings.{says_entry, next_base, moved_saying}
 
 -- the address of this index, and where it goes
 pub record IsUse (bs : List Body) (t : AddressTable) (index : ℕ) (use_is : Address × ℕ) : Type 0 where
-  pub place : use_is.0.at ≡ place_of t index
+  pub place : use_is.0.at ≡ place_of_address t index
   pub size : use_is.0.size ≡ t.size
   pub value : address_at t index ≡ Some use_is.0.value
-  pub moves : moved bs use_is.0.value ≡ Some use_is.1
+  pub moves : address_moved bs use_is.0.value ≡ Some use_is.1
 
 abbrev pub IsSomeUse : List Body → AddressTable → Address × ℕ → Type 0
 IsSomeUse bs t u = (index : ℕ) × IsUse bs t index u
@@ -25,7 +25,7 @@ IsSomeUse bs t u = (index : ℕ) × IsUse bs t index u
 -- if the address of this index is of a body, it is told where it goes
 abbrev pub IsToldOfNewList : List Body → AddressTable → List (Address × ℕ) → (index : ℕ) → Type 0
 IsToldOfNewList bs t uses index =
-    (value new : ℕ) → address_at t index ≡ Some value → moved bs value ≡ Some new
+    (value new : ℕ) → address_at t index ≡ Some value → address_moved bs value ≡ Some new
     → (front back : List (Address × ℕ)) × (u : Address × ℕ) × (uses ≡ front ++ u ∷ back) × IsUse bs t index u
 
 -- Only uses are told, of addresses of the table; among them those of these indices.

@@ -3,7 +3,7 @@
 ghost use Rattle.std.specs.Prelude.{◌≡◌, Some, IfOk};
 ghost use Rattle.wasm_numbers.specs.Results.{Gives};
 ghost use Rattle.dwarf_new_lists.specs.Entries.{new_list_operand as operand, an_expression, an_entry};
-ghost use Rattle.dwarf_new_lists.specs.Reading.{new_list_entry_of as entry_of};
+ghost use Rattle.dwarf_new_lists.specs.Reading.{new_list_entry_of};
 ghost use Rattle.dwarf_new_lists.specs.Writing.{as_operand, IsOf, HasOperands};
 
 use crate::kind::{Kind, Lists, Operand};
@@ -74,7 +74,7 @@ pub(crate) fn read_entry(
     size: Size,
     bytes: &[u8],
 ) -> Result<(Entry<'_>, &[u8]), DebugFault>
-    ensures gives { Gives (λ x. (entry_of x.0, x.1.now)) result
+    ensures gives { Gives (λ x. (new_list_entry_of x.0, x.1.now)) result
         (an_entry lists size bytes.now) }
     ensures code { IfOk result (λ x. IsOf lists x.0) }
     ensures operands { IfOk result (λ x. HasOperands x.0) }

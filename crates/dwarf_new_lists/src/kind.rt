@@ -119,18 +119,18 @@ impl Lists {
 
 impl Kind {
     ghost use Rattle.std.specs.Prelude.{◌≡◌};
-    ghost use Rattle.dwarf_new_lists.specs.Kinds.{new_list_is_end as is_end, new_list_operands as operands};
+    ghost use Rattle.dwarf_new_lists.specs.Kinds.{new_list_is_end, new_list_operands};
 
     /// Whether the entry ends its list.
     pub(crate) fn is_end(self) -> bool
-        ensures { result ≡ is_end self }
+        ensures { result ≡ new_list_is_end self }
     {
         matches!(self, Kind::End)
     }
 
     /// The operands of an entry.
     pub(crate) fn operands(self) -> (Operand, Operand)
-        ensures { result ≡ operands self }
+        ensures { result ≡ new_list_operands self }
     {
         match self {
             Kind::End | Kind::Default => (Operand::Nothing, Operand::Nothing),

@@ -8,8 +8,6 @@ mod law;
 mod list;
 mod moving;
 mod saying;
-#[cfg(test)]
-mod tests;
 mod writing;
 
 pub use law::law_moved_list;

@@ -4,7 +4,7 @@ ghost use Rattle.std.specs.Prelude.{◌≡◌, ◌≤◌, length, drop, IfOk, On
 ghost use Rattle.dwarf_bytes.specs.Uses.{told};
 ghost use Rattle.dwarf_bytes.specs.Patches.{changes};
 ghost use Rattle.dwarf_new_lists.specs.declared.kind.Lists.TheVariants as lists;
-ghost use Rattle.dwarf_new_lists.specs.NewLists.{IsMovedListOfNewList as IsMovedList};
+ghost use Rattle.dwarf_new_lists.specs.NewLists.{IsMovedListOfNewList};
 
 use crate::entry::read_entry;
 use crate::kind::{Kind, Lists};
@@ -35,7 +35,7 @@ fn bytes_from(section: &[u8], offset: usize) -> Result<&[u8], DebugFault>
     section.get(offset..).ok_or(DebugFault::BadOffset)
 }
 
-// what is behind an entry
+// what follows an entry
 #[derive(Clone, Copy)]
 struct Step<'a> {
     /// The bytes that follow.
@@ -50,11 +50,11 @@ impl Context<'_> {
     ghost use Rattle.std.specs.Prelude.{◌≡◌, ◌++◌, ℕ, List, IfOk};
     ghost use Rattle.code_moves.specs.Moves.{new_address};
     ghost use Rattle.dwarf_new_lists.specs.Entries.{AnEntry, an_entry};
-    ghost use Rattle.dwarf_new_lists.specs.Kinds.{new_list_is_end as is_end};
-    ghost use Rattle.dwarf_new_lists.specs.Writing.{AppendsOfNewList as Appends};
-    ghost use Rattle.dwarf_new_lists.specs.Sayings.{says_entry, next_base, IsMovedOfNewList as IsMoved, AreMovedOfNewList as AreMoved};
+    ghost use Rattle.dwarf_new_lists.specs.Kinds.{new_list_is_end};
+    ghost use Rattle.dwarf_new_lists.specs.Writing.{AppendsOfNewList};
+    ghost use Rattle.dwarf_new_lists.specs.Sayings.{says_entry, next_base, IsMovedOfNewList, AreMovedOfNewList};
     ghost use Rattle.dwarf_new_lists.specs.Contexts.{bodies, addresses};
-    ghost use Rattle.dwarf_new_lists.specs.NewLists.{BeginsEntry, IsList, IsListText, IsMovedListOfNewList as IsMovedList};
+    ghost use Rattle.dwarf_new_lists.specs.NewLists.{BeginsEntry, IsList, IsListText, IsMovedListOfNewList};
     ghost use Rattle.dwarf_bytes.specs.Patches.{changes};
     ghost use Rattle.dwarf_bytes.specs.Uses.{told};
     ghost use Rattle.dwarf_new_lists.specs.Tellings.{Tells, indices_of_code, code_indices};
@@ -70,12 +70,12 @@ impl Context<'_> {
     ) -> Result<Step<'b>, DebugError>
         ensures moved { IfOk result (λ step. (old new : AnEntry)
             × BeginsEntry self.now.lists self.now.encoding.address_size bytes.now old step.rest.now
-            × Appends (an_entry self.now.lists self.now.encoding.address_size) out.old.items
+            × AppendsOfNewList (an_entry self.now.lists self.now.encoding.address_size) out.old.items
             out.new.items new
-            × IsMoved self.now.encoding (bodies self.now) (addresses self.now) base.old base.new
+            × IsMovedOfNewList self.now.encoding (bodies self.now) (addresses self.now) base.old base.new
             old new
             × (step.base.old ≡ next_base base.old (says_entry (addresses self.now) base.old old))
-            × (step.is_end ≡ is_end old.kind)
+            × (step.is_end ≡ new_list_is_end old.kind)
             × Tells (bodies self.now) self.now.addresses.now (told uses.old) (told uses.new)
             (indices_of_code (bodies self.now) (says_entry (addresses self.now) base.old old)
             old.kind old.one old.two)) }
@@ -110,7 +110,7 @@ impl Context<'_> {
             × IsList self.now.lists self.now.encoding.address_size bytes.now olds rest.now
             × (out.new.items ≡ out.old.items ++ text)
             × IsListText self.now.lists self.now.encoding.address_size text news
-            × AreMoved self.now.encoding (bodies self.now) (addresses self.now) base
+            × AreMovedOfNewList self.now.encoding (bodies self.now) (addresses self.now) base
             (new_address (bodies self.now) base) olds news
             × Tells (bodies self.now) self.now.addresses.now (told uses.old) (told uses.new)
             (code_indices (bodies self.now) (addresses self.now) base olds)) }
@@ -135,7 +135,7 @@ impl Context<'_> {
         uses: &mut AddressUses,
         patches: &mut Patches,
     ) -> Result<usize, DebugError>
-        ensures { IfOk result (λ end. IsMovedList self.now.lists self.now.encoding
+        ensures { IfOk result (λ end. IsMovedListOfNewList self.now.lists self.now.encoding
             (bodies self.now) self.now.addresses.now list.now.base section.now list.now.offset end
             (changes patches.old) (changes patches.new) (told uses.old) (told uses.new)) }
     {
@@ -166,7 +166,7 @@ pub fn move_range_list(
     uses: &mut AddressUses,
     patches: &mut Patches,
 ) -> Result<usize, DebugError>
-    ensures { IfOk result (λ end. IsMovedList lists.Ranges list.now.encoding moves.now.bodies.items
+    ensures { IfOk result (λ end. IsMovedListOfNewList lists.Ranges list.now.encoding moves.now.bodies.items
         addresses.now list.now.base section.now list.now.offset end
         (changes patches.old) (changes patches.new) (told uses.old) (told uses.new)) }
 {
@@ -193,7 +193,7 @@ pub fn move_location_list(
     uses: &mut AddressUses,
     patches: &mut Patches,
 ) -> Result<usize, DebugError>
-    ensures { IfOk result (λ end. IsMovedList lists.Locations list.now.encoding moves.now.bodies.items
+    ensures { IfOk result (λ end. IsMovedListOfNewList lists.Locations list.now.encoding moves.now.bodies.items
         addresses.now list.now.base section.now list.now.offset end
         (changes patches.old) (changes patches.new) (told uses.old) (told uses.new)) }
 {

@@ -59,7 +59,7 @@ impl<'a> Context<'a> {
     ghost use Rattle.dwarf_new_lists.specs.Tellings.{Tells, indices, indices_of_code};
     ghost use Rattle.code_moves.specs.Moves.{new_address};
     ghost use Rattle.dwarf_new_lists.specs.declared.saying.Saying.TheVariants as saying;
-    ghost use Rattle.dwarf_new_lists.specs.Sayings.{new_list_body_of as body_of, next_base};
+    ghost use Rattle.dwarf_new_lists.specs.Sayings.{new_list_body_of, next_base};
     ghost use Rattle.dwarf_new_lists.specs.Contexts.{bodies, addresses, says_old, says_new, EntrySaysMoved, IsSameEntry};
 
     // where an address goes; one that is of no body stays
@@ -187,7 +187,7 @@ impl<'a> Context<'a> {
         ensures says { says_old self.now base.old entry.now ≡ said
             → IfOk result (λ x. EntrySaysMoved self.now base.old base.new entry.now x.0) }
         ensures body { IfOk result (λ x. option_map (λ b. b.now) x.1
-            ≡ body_of (bodies self.now) said) }
+            ≡ new_list_body_of (bodies self.now) said) }
         ensures told { OnOk result (Tells (bodies self.now) self.now.addresses.now
             (told uses.old) (told uses.new) (indices_of_code (bodies self.now) said
             entry.now.kind entry.now.one.value entry.now.two.value)) }

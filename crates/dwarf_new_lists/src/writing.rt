@@ -1,9 +1,9 @@
 //! Writing entries.
 
 ghost use Rattle.std.specs.Prelude.{◌≡◌, ◌++◌, List, ℕ, Some, OnOk, option_map};
-ghost use Rattle.dwarf_new_lists.specs.declared.kind.Lists.{Lists as SomeLists};
+ghost use Rattle.dwarf_new_lists.specs.declared.kind.Lists.{Lists};
 ghost use Rattle.dwarf_new_lists.specs.Entries.{AnEntry, an_expression, an_entry};
-ghost use Rattle.dwarf_new_lists.specs.Writing.{written_operand, FitsOperand, AppendsOfNewList as Appends, IsOf, IsMovedExpression, IsWrittenOf};
+ghost use Rattle.dwarf_new_lists.specs.Writing.{written_operand, FitsOperand, AppendsOfNewList, IsOf, IsMovedExpression, IsWrittenOf};
 
 use crate::entry::{Entry, Expression, Number};
 use crate::kind::Operand;
@@ -42,7 +42,7 @@ fn write_expression(
     body: Option<&Body>,
 ) -> Result<(), DebugError>
     ensures { OnOk result ((new : List ℕ)
-        × Appends an_expression out.old.items out.new.items (Some new)
+        × AppendsOfNewList an_expression out.old.items out.new.items (Some new)
         × IsMovedExpression encoding (option_map (λ b. b.now) body.entry)
         (Some expression.now.bytes.now) (Some new)) }
 {
@@ -65,8 +65,8 @@ pub(crate) fn write_entry(
     encoding: Encoding,
     body: Option<&Body>,
 ) -> Result<(), DebugError>
-    ensures { (lists : SomeLists) → IsOf lists entry.now → OnOk result ((new : AnEntry)
-        × Appends (an_entry lists encoding.address_size) out.old.items out.new.items new
+    ensures { (lists : Lists) → IsOf lists entry.now → OnOk result ((new : AnEntry)
+        × AppendsOfNewList (an_entry lists encoding.address_size) out.old.items out.new.items new
         × IsWrittenOf encoding (option_map (λ b. b.now) body.entry) entry.now new) }
 {
     let (first, second) = entry.kind.operands();

@@ -2,7 +2,7 @@ use Rattle.std.proofs.Common.{◌≡◌, ℕ, ◌-◌, List, [], ◌∷◌, ◌+
 use Rattle.std.proofs.lemmas.List.{append-nil}
 use Rattle.std.proofs.lemmas.Bool.{MatchBool-at_true}
 use Rattle.dwarf_expressions.specs.Expressions.{BeginWith, BeginsSimple}
-use Rattle.dwarf_expressions.specs.Moving.{expression_all_of as all_of, moved_simple, expression_written as written}
+use Rattle.dwarf_expressions.specs.Moving.{expression_all_of, moved_simple, expression_written}
 use Rattle.dwarf_expressions.specs.Reading.{simple_of}
 use Rattle.dwarf_expressions.proofs.Again.{shorter}
 use Rattle.dwarf_expressions.proofs.Loops.{begin_more, next_of_all, all_more, all_none, writes_none, writes_more, is_empty}
@@ -27,7 +27,7 @@ returns-then-not-branch-clause-moved c = λ ss all.
     let so_far = c.loop-rest.invariant in
     let lost : moved_simple c.args.body.now s ≡ None = search rules in
     let is = next_of_all B (one_way_simple c.args.encoding) c.args.expression.now c.loop-rest.rest.now c.in_ok-operation.after.now so_far.0 ss s so_far.3 c.in_ok-operation.ensures.gives all in
-    ap (all_of (moved_simple c.args.body.now)) is.1 ∙ all_none (moved_simple c.args.body.now) so_far.0 is.0 s lost
+    ap (expression_all_of (moved_simple c.args.body.now)) is.1 ∙ all_none (moved_simple c.args.body.now) so_far.0 is.0 s lost
 
 pub loop-rest-preserved : goal.loop-rest-preserved
 loop-rest-preserved c =
@@ -39,11 +39,11 @@ loop-rest-preserved c =
     let read = written_read c.args.encoding c.args.body.now c.loop-rest.rest.now s kept.0 c.in_ok-operation.after.now width c.in_ok-operation.ensures.gives kept.1 kept.2 in (
       so_far.0 ++ s ∷ [],
       so_far.1 ++ kept.0 ∷ [],
-      so_far.2 ++ written width kept.0,
+      so_far.2 ++ expression_written width kept.0,
       begin_more B c.args.expression.now c.loop-rest.rest.now c.in_ok-operation.after.now so_far.0 s so_far.3 c.in_ok-operation.ensures.gives,
       all_more (moved_simple c.args.body.now) so_far.0 so_far.1 s kept.0 so_far.4 kept.1,
-      kept.3 ∙ (ap (λ (l : List ℕ). l ++ written width kept.0) so_far.5 ∙ append_assoc c.args.out.now.items so_far.2 (written width kept.0)),
-      writes_more B so_far.2 (written width kept.0) so_far.1 kept.0 so_far.6 read,
+      kept.3 ∙ (ap (λ (l : List ℕ). l ++ expression_written width kept.0) so_far.5 ∙ append_assoc c.args.out.now.items so_far.2 (expression_written width kept.0)),
+      writes_more B so_far.2 (expression_written width kept.0) so_far.1 kept.0 so_far.6 read,
     )
 
 pub returns-clause-moved : goal.returns-clause-moved

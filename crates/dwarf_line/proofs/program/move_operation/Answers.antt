@@ -1,4 +1,4 @@
-use Rattle.std.proofs.Common.{[], ◌∷◌, refl}
+use Rattle.std.proofs.Common.{refl}
 use Rattle.dwarf_line.specs.declared.operation.Operation.TheVariants.{AppendRow, EndSequence, Changes}
 use Rattle.dwarf_line.specs.Views.{parameters}
 use Rattle.dwarf_line.proofs.Following.{adds_copied, follows_row, follows_end, follows_change}

@@ -7,7 +7,7 @@ use Rattle.dwarf_bytes.specs.declared.fault.DebugFault.TheVariants as faults
 use Rattle.dwarf_expressions.specs.declared.encoding.Encoding.{Encoding}
 use Rattle.dwarf_lists.specs.declared.entry.Kind.{Kind}
 use Rattle.dwarf_lists.specs.Entries.{Entry, range, greatest}
-use Rattle.dwarf_lists.specs.Moving.{list_body_of as body_of, non_zero, list_range_at as range_at, IsMovedRange, WritesOfList as Writes, IsRefusedRange, IsRefusedEntry, HasNoPlace}
+use Rattle.dwarf_lists.specs.Moving.{list_body_of, non_zero, list_range_at, IsMovedRange, WritesOfList, IsRefusedRange, IsRefusedEntry, HasNoPlace}
 use Rattle.dwarf_lists.proofs.moving.move_range.Goals as goal
 
 pub returns-clause-moved : goal.returns-clause-moved
@@ -22,18 +22,18 @@ returns-clause-moved c =
     let moved = c.in_ok-move_expression.ensures.moved in
     let added = c.move_expression.new.out.items in
     let pair : ℕ × ℕ = (c.in_ok-low.low, c.in_ok-high.high) in
-    let new : Entry = range_at (non_zero pair) added in
+    let new : Entry = list_range_at (non_zero pair) added in
     let begins = c.in_ok-low.ensures.ok ∙ ap (new_address bodies) found.1 in
     let ends = c.in_ok-high.ensures.ok ∙ ap (new_address bodies) found.2 in
     let is : IsMovedRange e bodies c.in-Some.body.now from low high old new = (pair.0, pair.1, moved.0, added, moved.1, begins, ends, moved.2, moved.3, refl) in
     let P = λ (b : Option Body). MatchOption b (new ≡ range low high old) (λ body. IsMovedRange e bodies body from low high old new) in
     let written = c.in_ok-write_range.ensures.written in
     let text : c.write_range.new.out.items ≡ written.0 = written.1 ∙ ap (λ (l : List ℕ). l ++ written.0) c.clear.ensures.items in
-    let same = ap (λ (l : List ℕ). range_at (non_zero pair) l) c.deref.ensures.value in
-    (new, subst P (sym found.0) is, subst (λ (x : Entry). Writes context.kind e.address_size c.write_range.new.out.items x) same (subst (λ (l : List ℕ). Writes context.kind e.address_size l (range_at (non_zero pair) c.deref.result.now)) (sym text) written.2))
+    let same = ap (λ (l : List ℕ). list_range_at (non_zero pair) l) c.deref.ensures.value in
+    (new, subst P (sym found.0) is, subst (λ (x : Entry). WritesOfList context.kind e.address_size c.write_range.new.out.items x) same (subst (λ (l : List ℕ). WritesOfList context.kind e.address_size l (list_range_at (non_zero pair) c.deref.result.now)) (sym text) written.2))
 
 -- why a range of this body isn't moved
-refused_range : (kind : Kind) (e : Encoding) (bodies : List Body) (b : Body) (from low high : ℕ) (expression : List ℕ) (fault : DebugFault) → body_of bodies (greatest e.address_size) from low high ≡ Some b
+refused_range : (kind : Kind) (e : Encoding) (bodies : List Body) (b : Body) (from low high : ℕ) (expression : List ℕ) (fault : DebugFault) → list_body_of bodies (greatest e.address_size) from low high ≡ Some b
     → IsRefusedRange kind e bodies b from low high expression fault → IsRefusedEntry kind e bodies from (range low high expression) fault
 refused_range kind e bodies b from low high expression fault found refused =
     subst (λ (x : Option Body). MatchOption x ⊥ (λ body. IsRefusedRange kind e bodies body from low high expression fault)) (sym found) refused

@@ -1,6 +1,6 @@
 use Rattle.std.proofs.Common.{◌≡◌, ℕ, ◌<◌, ◌^◌, List, ◌++◌, length, option_map, sym, ap, ◌∙◌, subst, append_assoc, rules, arith}
 use Rattle.dwarf_bytes.specs.Writing.{padded}
-use Rattle.dwarf_expressions.specs.Moving.{IsAppendedOfExpression as IsAppended}
+use Rattle.dwarf_expressions.specs.Moving.{IsAppendedOfExpression}
 use Rattle.dwarf_new_lists.proofs.Texts.{expression_text}
 use Rattle.dwarf_new_lists.proofs.writing.write_expression.Goals as goal
 
@@ -21,5 +21,5 @@ returns c =
     ∙ (ap (λ (l : List ℕ). l ++ c.deref.result.now) counted ∙ (append_assoc front text c.deref.result.now ∙ ap (λ (l : List ℕ). front ++ (text ++ l)) tail)) in (
       added,
       (text ++ added, all, expression_text width added few),
-      (m.0, c.in_ok-moved_expression.field-0, m.2, subst (λ (l : List ℕ). IsAppended c.args.encoding (option_map (λ b. b.now) c.args.body) c.args.expression.now.bytes.now m.0 l c.in_ok-moved_expression.field-0) (sym is) m.4),
+      (m.0, c.in_ok-moved_expression.field-0, m.2, subst (λ (l : List ℕ). IsAppendedOfExpression c.args.encoding (option_map (λ b. b.now) c.args.body) c.args.expression.now.bytes.now m.0 l c.in_ok-moved_expression.field-0) (sym is) m.4),
     )

@@ -3,7 +3,7 @@ use Rattle.std.specs.List.Sorted.{IsPartitionPoint}
 use Rattle.std.proofs.lemmas.List.{drop_all}
 use Rattle.std.proofs.lemmas.Bool.{le-ltb, ltb-false}
 use Rattle.code_moves.specs.declared.body.LocalMove.{LocalMove}
-use Rattle.code_moves.specs.Moves.{new_index, new_local_in as local_in}
+use Rattle.code_moves.specs.Moves.{new_index, new_local_in}
 use Rattle.code_moves.proofs.Bisection.{point_before, others_from, fails_at}
 use Rattle.code_moves.proofs.LocalSearch.{indices_rise, index_of, index_passes, no_index_from}
 use Rattle.code_moves.proofs.body.Body.local.Goals as goal
@@ -17,7 +17,7 @@ point c =
     (indices_rise b.parameters b.locals.items b.are_locals) c.partition_point-index.ensures.partitioned (λ a r f k. search rules)
 
 -- they don't matter, and it is no parameter
-passed : (c : After-partition_point-index) → local_in c.args.self.now c.args.local ≡ new_index (drop c.partition_point-index.result c.args.self.now.locals.items) c.args.local
+passed : (c : After-partition_point-index) → new_local_in c.args.self.now c.args.local ≡ new_index (drop c.partition_point-index.result c.args.self.now.locals.items) c.args.local
 passed c =
     let b = c.args.self.now in
     rw (le-ltb c.args.local b.parameters (omega arith)) (index_passes b.locals.items c.args.local c.partition_point-index.result (point c).0)

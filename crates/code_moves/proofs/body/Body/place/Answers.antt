@@ -5,7 +5,7 @@ use Rattle.std.proofs.lemmas.List.{drop_all}
 use Rattle.std.proofs.lemmas.Bool.{leb-false}
 use lib.Dec.{leb}
 use Rattle.code_moves.specs.declared.run.Run.{Run}
-use Rattle.code_moves.specs.Moves.{new_place as place}
+use Rattle.code_moves.specs.Moves.{new_place}
 use Rattle.code_moves.proofs.Bisection.{point_until, others_from, fails_at}
 use Rattle.code_moves.proofs.RunSearch.{ends_rise, place_passes, place_before, place_in}
 use Rattle.code_moves.proofs.body.Body.place.Goals as goal
@@ -19,18 +19,18 @@ point c =
     (ends_rise (suc b.begin) (suc b.new_begin) b.runs.items b.end b.new_end b.are_runs) c.partition_point-index.ensures.partitioned (λ a r f k. search rules)
 
 -- they don't matter
-passed : (c : After-partition_point-index) → place c.args.self.now.runs.items c.args.self.now.new_end c.args.address
-    ≡ place (drop c.partition_point-index.result c.args.self.now.runs.items) c.args.self.now.new_end c.args.address
+passed : (c : After-partition_point-index) → new_place c.args.self.now.runs.items c.args.self.now.new_end c.args.address
+    ≡ new_place (drop c.partition_point-index.result c.args.self.now.runs.items) c.args.self.now.new_end c.args.address
 passed c =
     let b = c.args.self.now in
     place_passes (suc b.begin) (suc b.new_begin) b.runs.items b.end b.new_end b.are_runs c.args.address c.partition_point-index.result (point c).0
 
 -- the run at the index is the first of the others
-at_run : (c : In-Some) → place c.args.self.now.runs.items c.args.self.now.new_end c.args.address
-    ≡ place (c.in-Some.run'.now ∷ drop (c.partition_point-index.result + 1) c.args.self.now.runs.items) c.args.self.now.new_end c.args.address
+at_run : (c : In-Some) → new_place c.args.self.now.runs.items c.args.self.now.new_end c.args.address
+    ≡ new_place (c.in-Some.run'.now ∷ drop (c.partition_point-index.result + 1) c.args.self.now.runs.items) c.args.self.now.new_end c.args.address
 at_run c =
     let found = c.in-Some.ensures.lookup in
-    passed (goal.at.In-Some c).After-partition_point-index ∙ ap (λ rs. place rs c.args.self.now.new_end c.args.address)
+    passed (goal.at.In-Some c).After-partition_point-index ∙ ap (λ rs. new_place rs c.args.self.now.new_end c.args.address)
     (others_from c.deref-2.result.now c.args.self.now.runs.items c.partition_point-index.result c.in-Some.run'.now c.deref-2.ensures.value found.3.0 found.1)
 
 -- and ends after the address
@@ -45,7 +45,7 @@ returns-in_default c =
     let rs = c.args.self.now.runs.items in
     let few : length rs ≤ c.partition_point-index.result = search (arith, rules) in
     c.from.ensures ∙ sym (passed (goal.at.returns-in_default c).After-partition_point-index
-    ∙ ap (λ ts. place ts c.args.self.now.new_end c.args.address) (drop_all c.partition_point-index.result rs few))
+    ∙ ap (λ ts. new_place ts c.args.self.now.new_end c.args.address) (drop_all c.partition_point-index.result rs few))
 
 pub returns-then-address-run : goal.returns-then-address-run
 returns-then-address-run c =

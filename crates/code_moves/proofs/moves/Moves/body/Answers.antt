@@ -3,7 +3,7 @@ use Rattle.std.specs.List.Sorted.{IsPartitionPoint}
 use Rattle.std.proofs.lemmas.List.{drop_all}
 use Rattle.std.proofs.lemmas.Bool.{ltb-false}
 use Rattle.code_moves.specs.declared.body.Body.{Body}
-use Rattle.code_moves.specs.Moves.{body_with_address as body_at}
+use Rattle.code_moves.specs.Moves.{body_with_address}
 use Rattle.code_moves.proofs.Bisection.{point_before, others_from, fails_at}
 use Rattle.code_moves.proofs.BodySearch.{ends_rise, body_at_passes, body_at_first, no_body_from}
 use Rattle.code_moves.proofs.moves.Moves.body.Goals as goal
@@ -17,7 +17,7 @@ point c =
     (ends_rise 0 0 bs c.args.self.now.ordered) c.partition_point-index.ensures.partitioned (λ a r f k. search rules)
 
 -- they don't matter
-passed : (c : After-partition_point-index) → body_at c.args.self.now.bodies.items c.args.address ≡ body_at (drop c.partition_point-index.result c.args.self.now.bodies.items) c.args.address
+passed : (c : After-partition_point-index) → body_with_address c.args.self.now.bodies.items c.args.address ≡ body_with_address (drop c.partition_point-index.result c.args.self.now.bodies.items) c.args.address
 passed c = body_at_passes c.args.self.now.bodies.items c.args.address c.partition_point-index.result (point c).0
 
 -- the body at the index is the first of the others
@@ -34,7 +34,7 @@ returns-in-Some c =
     let found = c.in-Some.ensures.lookup in
     let at = (goal.at.returns-in-Some c).After-partition_point-index in
     let within = ltb-false b.end c.args.address (fails_at (λ (e : Body). ltb e.end c.args.address ≡ false) c.deref-2.result.now bs index b c.deref-2.ensures.value found.3.0 found.1 (point at).1) in
-    sym (passed at ∙ ap (λ es. body_at es c.args.address) (others (goal.at.returns-in-Some c).In-Some)
+    sym (passed at ∙ ap (λ es. body_with_address es c.args.address) (others (goal.at.returns-in-Some c).In-Some)
     ∙ body_at_first b (drop (index + 1) bs) c.args.address (omega arith) within)
 
 pub returns-in_default : goal.returns-in_default
@@ -47,8 +47,8 @@ returns-in_default c =
           let found = w.in-Some.ensures.lookup in
           let b = w.in-Some.body.now in
           let left = others_from c.deref-2.result.now bs index b c.deref-2.ensures.value found.3.0 found.1 in
-          ap (λ es. body_at es c.args.address) left ∙ no_body_from 0 0 bs c.args.self.now.ordered index b (drop (index + 1) bs) left c.args.address (omega arith)
+          ap (λ es. body_with_address es c.args.address) left ∙ no_body_from 0 0 bs c.args.self.now.ordered index b (drop (index + 1) bs) left c.args.address (omega arith)
       | in_default-via-in_default w ↦
           let few : length bs ≤ index = search (arith, rules) in
-          ap (λ es. body_at es c.args.address) (drop_all index bs few)
+          ap (λ es. body_with_address es c.args.address) (drop_all index bs few)
     ])

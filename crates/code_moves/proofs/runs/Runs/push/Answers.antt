@@ -1,5 +1,5 @@
 use Rattle.std.proofs.Common.{◌≡◌, suc, ◌-◌, ◌∷◌, ◌++◌, [], length, set, rules, refl, sym, ap, subst, ◌∙◌, arith}
-use Rattle.code_moves.specs.Order.{AreRunsOfCode as AreRuns}
+use Rattle.code_moves.specs.Order.{AreRunsOfCode}
 use Rattle.code_moves.specs.declared.run.Run.{Run}
 use Rattle.code_moves.proofs.NextRuns.{NextRuns, next_run, next_longer}
 use Rattle.code_moves.proofs.runs.Runs.push.Goals as goal
@@ -28,7 +28,7 @@ invariant_of-self-2 c =
     let runs = (next c).are_runs in
     let end_is : c.args.end ≡ suc (c.args.end - 1) = omega arith in
     record {
-      are_runs = subst (λ e. AreRuns (suc built.begin) (suc built.new_begin) c.match-longer.self.1.0.items e (suc c.args.own)) end_is runs;
+      are_runs = subst (λ e. AreRunsOfCode (suc built.begin) (suc built.new_begin) c.match-longer.self.1.0.items e (suc c.args.own)) end_is runs;
       added_by_last = omega arith;
     }
 

@@ -1,6 +1,6 @@
 use Rattle.std.proofs.Common.{◌≡◌, ℕ, ◌+◌, ◌-◌, ◌<◌, List, [], ◌∷◌, ◌++◌, length, inl, inr, refl, sym, ap, ◌∙◌, subst, rules, arith, length-append}
 use Rattle.dwarf_bytes.specs.declared.patches.Patch.{Patch}
-use Rattle.dwarf_bytes.specs.Changes.{SectionChange as Change, end_from}
+use Rattle.dwarf_bytes.specs.Changes.{SectionChange, end_from}
 use Rattle.dwarf_bytes.specs.Order.{IsPatchFrom, ArePatches, no_patch}
 use Rattle.dwarf_bytes.specs.Patches.{changes, changes_from}
 use Rattle.std.proofs.lemmas.Grind.{common_steps}
@@ -60,7 +60,7 @@ returns-clause-pushed c =
     ap (λ (l : List Patch). changes_from 0 l c.extend_from_slice.new.self.items) patches
     ∙ (ap (λ (l : List ℕ). changes_from 0 (ps ++ added ∷ []) l) bytes
     ∙ (changes_more no_patch ps added s.bytes.items new s.are_patches (ends ∙ ap length bytes)
-    ∙ ap (λ (n : ℕ). changes s ++ (let one : Change = record { at = c.args.at; old = n; new = new } in one) ∷ []) old))
+    ∙ ap (λ (n : ℕ). changes s ++ (let one : SectionChange = record { at = c.args.at; old = n; new = new } in one) ∷ []) old))
 
 pub returns-clause-after : goal.returns-clause-after
 returns-clause-after c =

@@ -3,7 +3,7 @@ use Rattle.dwarf_bytes.specs.Uses.{told}
 use Rattle.dwarf_new_lists.specs.declared.saying.Saying.{Saying}
 use Rattle.dwarf_new_lists.specs.Tellings.{Tells, indices_of_code}
 use Rattle.dwarf_new_lists.specs.Contexts.{bodies, addresses}
-use Rattle.dwarf_new_lists.specs.Reading.{new_list_entry_of as entry_of}
+use Rattle.dwarf_new_lists.specs.Reading.{new_list_entry_of}
 use Rattle.dwarf_new_lists.specs.Sayings.{next_base}
 use Rattle.dwarf_new_lists.proofs.Steps.{still_of, step_moved}
 use Rattle.dwarf_new_lists.proofs.moving.Context.append_entry.Goals as goal
@@ -16,7 +16,7 @@ returns-clause-moved c =
     let same = c.in_ok-moved.ensures.same in
     let w = c.in_ok-write_entry.ensures self.lists (still_of self.lists entry moved same c.in_ok-entry.ensures.code) in
     let said = c.in_ok-said.ensures in (
-      entry_of entry,
+      new_list_entry_of entry,
       w.0,
       c.in_ok-entry.ensures.gives,
       w.1,

@@ -1,5 +1,5 @@
 use Rattle.std.proofs.Common.{◌≡◌, ℕ, ◌+◌, ◌-◌, List, [], ◌∷◌, ◌++◌, length, drop, sym, ap, ◌∙◌, subst, rules, arith}
-use Rattle.dwarf_bytes.specs.Changes.{SectionChange as Change}
+use Rattle.dwarf_bytes.specs.Changes.{SectionChange}
 use Rattle.dwarf_bytes.specs.Patches.{changes}
 use Rattle.std.proofs.lemmas.List.{length-drop}
 use Rattle.dwarf_expressions.specs.Expressions.{BeginWith}
@@ -46,7 +46,7 @@ returns c =
       within = omega (arith, ap length is, length-drop offset section, size_is);
       changed =
           pushed
-          ∙ (ap (λ (n : ℕ). before ++ (let one : Change = record { at = offset; old = n; new = c.deref.result.now } in one) ∷ []) ends
-          ∙ ap (λ (l : List ℕ). before ++ (let one : Change = record { at = offset; old = offset + size - offset; new = l } in one) ∷ []) (new ∙ text_is));
+          ∙ (ap (λ (n : ℕ). before ++ (let one : SectionChange = record { at = offset; old = n; new = c.deref.result.now } in one) ∷ []) ends
+          ∙ ap (λ (l : List ℕ). before ++ (let one : SectionChange = record { at = offset; old = offset + size - offset; new = l } in one) ∷ []) (new ∙ text_is));
       tells = m.7;
     }

@@ -1,9 +1,9 @@
 //! Tests of lists. The bytes are written by hand, from DWARF 4, sections 2.17.3 and 2.6.2, and moved by hand.
 
-use crate::{List, move_locations, move_ranges};
 use code_moves::{Body, LocalMove, MoveError, Moves, Runs};
 use dwarf_bytes::{DebugError, DebugFault, Format, Patches, Size};
 use dwarf_expressions::Encoding;
+use dwarf_lists::{List, move_locations, move_ranges};
 use std::alloc::Global;
 use std::test::Fail;
 

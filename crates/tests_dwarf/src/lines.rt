@@ -1,9 +1,8 @@
 //! Line tables in bytes, and what is written for them, worked out by hand.
 
-use crate::moved::Moved;
-use crate::section::move_lines;
 use code_moves::{Body, Moves, Run};
 use dwarf_bytes::{DebugError, DebugFault};
+use dwarf_line::{Moved, move_lines};
 use std::alloc::Global;
 use std::test::Fail;
 

@@ -1,7 +1,7 @@
 //! Tests of numbers and patches. Expected bytes are worked out by hand, from the examples of DWARF 5, section 7.6, and its
 //! section 7.4.
 
-use crate::{
+use dwarf_bytes::{
     DebugError, DebugFault, Format, Patches, Size, read_initial_length, read_sized, read_unsigned,
     write_padded, write_sized,
 };

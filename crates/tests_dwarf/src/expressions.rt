@@ -1,8 +1,8 @@
 //! Tests of expressions. The bytes are written by hand, from the tables of DWARF 5, section 7.7.1, and of DWARF for WebAssembly.
 
-use crate::{Encoding, moved_expression};
 use code_moves::{Body, LocalMove, MoveError, Runs};
 use dwarf_bytes::{DebugError, DebugFault, Format, Size};
+use dwarf_expressions::{Encoding, moved_expression};
 use std::alloc::Global;
 use std::test::Fail;
 

@@ -1,9 +1,9 @@
 //! Tests of lists. The bytes are written by hand, from the tables of DWARF 5, sections 7.25 and 7.7.3.
 
-use crate::{NewList, move_location_list, move_range_list};
 use code_moves::{Body, LocalMove, MoveError, Moves, Runs};
 use dwarf_bytes::{AddressTable, AddressUses, DebugError, DebugFault, Format, Patches, Size};
 use dwarf_expressions::Encoding;
+use dwarf_new_lists::{NewList, move_location_list, move_range_list};
 use std::alloc::Global;
 use std::test::Fail;
 
@@ -34,7 +34,7 @@ fn module(alloc: Global) -> Result<Moves, MoveError> {
     Ok(moves)
 }
 
-// 10, 21, 25 and 0, behind a header
+// 10, 21, 25 and 0, after a header
 const ADDRESSES: [u8; 24] = [
     20, 0, 0, 0, 5, 0, 4, 0, 10, 0, 0, 0, 21, 0, 0, 0, 25, 0, 0, 0, 0, 0, 0, 0,
 ];

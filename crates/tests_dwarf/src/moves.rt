@@ -1,6 +1,6 @@
 //! A module of two bodies with operators that are dropped, added, shorter and longer, and where its addresses go, worked
 //! out by hand.
-use crate::{Body, LocalMove, MoveError, Moves, Runs};
+use code_moves::{Body, LocalMove, MoveError, Moves, Runs};
 use std::alloc::Global;
 use std::test::Fail;
 
