@@ -3,6 +3,7 @@
 
 ghost use Rattle.std.specs.Prelude.{◌<◌, length, OnOk};
 
+use crate::replacing::replace_number;
 use code_moves::Moves;
 use dwarf_bytes::{Cursor, DebugError, DebugFault, Format, Patches, Size, write_sized};
 use dwarf_info::{CodeRange, moved_offset};
@@ -82,13 +83,10 @@ fn move_table(
         return Err(DebugError::Fault(DebugFault::UnknownVersion));
     }
     let at = table.at();
-    let unit = table.sized(format.offset_size())?;
+    let offset_size = format.offset_size();
+    let unit = table.sized(offset_size)?;
     let new = moved_offset(info, unit)?;
-    if new != unit {
-        scratch.clear();
-        write_sized(scratch, format.offset_size(), new)?;
-        patches.push(at, format.offset_size().bytes(), scratch)?;
-    }
+    replace_number(at, offset_size, unit, new, scratch, patches)?;
     let size = match table.sized(Size::One)? {
         4 => Size::Four,
         8 => Size::Eight,

@@ -1,13 +1,17 @@
-//! The debug information of a WebAssembly module whose function bodies are written anew: sections of DWARF 2 to 4 follow the
+//! The debug information of a WebAssembly module whose function bodies are written anew: sections of DWARF 2 to 5 follow the
 //! code, all of them or none (DWARF for WebAssembly).
 #![tactic(auto)]
 
 mod address_ranges;
 mod failure;
+mod index_abbreviations;
 mod list_tables;
 mod lists;
+mod macros;
 mod moving;
+mod name_index;
 mod names;
+mod replacing;
 mod sections;
 
 pub use failure::DebugFailure;

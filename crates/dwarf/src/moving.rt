@@ -3,6 +3,8 @@
 use crate::address_ranges::move_address_ranges;
 use crate::failure::{DebugFailure, within};
 use crate::lists::{ListKind, ListSection};
+use crate::macros::follow_macros;
+use crate::name_index::follow_name_index;
 use crate::names::follow_names;
 use crate::sections::{DebugSections, SectionName};
 use code_moves::Moves;
@@ -118,7 +120,7 @@ impl<'t> AllEntries<'t> {
     }
 }
 
-/// What is replaced in the sections of lists.
+/// What is replaced in those sections of lists where something changes its size.
 #[derive(Drop)]
 struct MovedLists {
     ranges: Patches,
@@ -127,37 +129,48 @@ struct MovedLists {
     location_lists: Patches,
 }
 
-/// What is replaced in the lists of a section.
-fn move_lists(
+/// Adds a section of lists, as its lists become. Returns what is replaced in it if something changes its size, and nothing otherwise: no
+/// offset into it changes then, so what is replaced needn't be in memory any longer.
+fn add_lists(
     alloc: Global,
     sections: &DebugSections<'_>,
     kind: ListKind,
     entries: &AllEntries<'_>,
     moves: &Moves,
     addresses: &mut AddressUses,
+    out: &mut MovedSections,
 ) -> Result<Patches, DebugFailure> {
     let section = ListSection::of(sections, kind);
     let uses = entries.lists(kind);
-    within(
+    let patches = within(
         kind.section(),
         section.patches(alloc, uses, moves, addresses),
-    )
+    )?;
+    out.add(kind.section(), section.applied(alloc, &patches))?;
+    match patches.resizes() {
+        true => Ok(patches),
+        false => Ok(Patches::new(alloc)),
+    }
 }
 
 impl MovedLists {
-    /// Moves all lists.
+    /// Moves all lists, and adds their sections.
     fn moved(
         alloc: Global,
         sections: &DebugSections<'_>,
         entries: &AllEntries<'_>,
         moves: &Moves,
         uses: &mut AddressUses,
+        out: &mut MovedSections,
     ) -> Result<MovedLists, DebugFailure> {
-        let ranges = move_lists(alloc, sections, ListKind::Ranges, entries, moves, uses)?;
-        let locations = move_lists(alloc, sections, ListKind::Locations, entries, moves, uses)?;
-        let range_lists = move_lists(alloc, sections, ListKind::RangeLists, entries, moves, uses)?;
+        let kind = ListKind::Ranges;
+        let ranges = add_lists(alloc, sections, kind, entries, moves, uses, out)?;
+        let kind = ListKind::Locations;
+        let locations = add_lists(alloc, sections, kind, entries, moves, uses, out)?;
+        let kind = ListKind::RangeLists;
+        let range_lists = add_lists(alloc, sections, kind, entries, moves, uses, out)?;
         let kind = ListKind::LocationLists;
-        let location_lists = move_lists(alloc, sections, kind, entries, moves, uses)?;
+        let location_lists = add_lists(alloc, sections, kind, entries, moves, uses, out)?;
         Ok(MovedLists {
             ranges,
             locations,
@@ -172,32 +185,6 @@ impl MovedLists {
             || self.locations.resizes()
             || self.range_lists.resizes()
             || self.location_lists.resizes()
-    }
-
-    /// Adds the sections of lists.
-    fn add_to(
-        &self,
-        alloc: Global,
-        sections: &DebugSections<'_>,
-        out: &mut MovedSections,
-    ) -> Result<(), DebugFailure> {
-        let section = ListSection::of(sections, ListKind::Ranges);
-        out.add(SectionName::Ranges, section.applied(alloc, &self.ranges))?;
-        let section = ListSection::of(sections, ListKind::Locations);
-        out.add(
-            SectionName::Locations,
-            section.applied(alloc, &self.locations),
-        )?;
-        let section = ListSection::of(sections, ListKind::RangeLists);
-        out.add(
-            SectionName::RangeLists,
-            section.applied(alloc, &self.range_lists),
-        )?;
-        let section = ListSection::of(sections, ListKind::LocationLists);
-        out.add(
-            SectionName::LocationLists,
-            section.applied(alloc, &self.location_lists),
-        )
     }
 }
 
@@ -269,10 +256,8 @@ fn add_names(
     if !info.resizes() {
         return Ok(());
     }
-    let index = SectionName::NameIndex;
-    if !sections.get(index).is_empty() {
-        return Err(DebugFailure::fault(index, DebugFault::Unsupported));
-    }
+    let name = SectionName::NameIndex;
+    out.add(name, follow_name_index(alloc, sections.get(name), info))?;
     let name = SectionName::PublicNames;
     out.add(name, follow_names(alloc, sections.get(name), false, info))?;
     let name = SectionName::PublicTypes;
@@ -314,13 +299,12 @@ fn move_others(
 ) -> Result<(), DebugFailure> {
     let entries = AllEntries::moved(alloc, sections, moves, tables)?;
     let mut uses = AddressUses::new(alloc);
-    let lists = MovedLists::moved(alloc, sections, &entries, moves, &mut uses)?;
+    let lists = MovedLists::moved(alloc, sections, &entries, moves, &mut uses, out)?;
     check_names_in_expressions(&entries)?;
     let name = SectionName::Addresses;
     let addresses = within(name, move_addresses(alloc, uses, &entries))?;
     add_units(alloc, sections, &entries, &lists, &addresses, out)?;
     out.add(name, addresses.apply(alloc, sections.get(name)))?;
-    lists.add_to(alloc, sections, out)?;
     add_names(alloc, sections, &entries, out)?;
     let name = SectionName::AddressRanges;
     let (code, info) = (entries.info.code(), entries.info.patches());
@@ -347,6 +331,8 @@ pub fn move_sections(
     let lines = within(name, move_lines(alloc, sections.get(name), moves))?;
     let MovedLines { bytes, tables, .. } = lines;
     out.add(name, Ok(bytes))?;
+    let name = SectionName::Macros;
+    out.add(name, follow_macros(alloc, sections.get(name), &tables))?;
     move_others(alloc, sections, moves, &tables, &mut out)?;
     Ok(out)
 }

@@ -2,26 +2,10 @@
 
 ghost use Rattle.std.specs.Prelude.{◌<◌, length, OnOk};
 
-use dwarf_bytes::{Cursor, DebugError, DebugFault, Patches, Size, write_sized};
+use crate::replacing::replace_number;
+use dwarf_bytes::{Cursor, DebugError, DebugFault, Patches, Size};
 use dwarf_info::{moved_distance, moved_offset};
 use std::alloc::Global;
-
-/// Replaces a number of this size at this place, if it changes.
-fn set(
-    at: usize,
-    size: Size,
-    old: u64,
-    new: u64,
-    scratch: &mut Vec<u8>,
-    out: &mut Patches,
-) -> Result<(), DebugError> {
-    if old == new {
-        return Ok(());
-    }
-    scratch.clear();
-    write_sized(scratch, size, new)?;
-    out.push(at, size.bytes(), scratch)
-}
 
 /// The names of a unit.
 #[derive(Clone, Copy)]
@@ -51,7 +35,7 @@ impl Names<'_> {
                 return Ok(());
             }
             let new = moved_distance(info, self.unit, offset)?;
-            set(at, self.size, offset, new, scratch, out)?;
+            replace_number(at, self.size, offset, new, scratch, out)?;
             if self.is_gnu {
                 self.left.byte()?;
             }
@@ -79,12 +63,12 @@ fn follow_table(
     let size = format.offset_size();
     let at = left.at();
     let unit = left.sized(size)?;
-    set(at, size, unit, moved_offset(info, unit)?, scratch, out)?;
+    replace_number(at, size, unit, moved_offset(info, unit)?, scratch, out)?;
     let unit = usize::try_from(unit).map_err(|_| DebugFault::BadOffset)?;
     let at = left.at();
     let length = left.sized(size)?;
     let new = moved_distance(info, unit, length)?;
-    set(at, size, length, new, scratch, out)?;
+    replace_number(at, size, length, new, scratch, out)?;
     let mut names = Names {
         unit,
         size,

@@ -37,6 +37,8 @@ pub enum SectionName {
     GnuPublicTypes,
     /// `.debug_names`: where the entries of names are, from DWARF 5 on.
     NameIndex,
+    /// `.debug_macro`: macros, from DWARF 5 on, and those of GNU.
+    Macros,
     /// A section that leads to no code, entry or list: strings, and macros of DWARF 4.
     Unmoved,
     /// A section that isn't read.
@@ -63,6 +65,7 @@ impl SectionName {
             "gnu_pubnames" => SectionName::GnuPublicNames,
             "gnu_pubtypes" => SectionName::GnuPublicTypes,
             "names" => SectionName::NameIndex,
+            "macro" => SectionName::Macros,
             "str" | "line_str" | "str_offsets" | "macinfo" => SectionName::Unmoved,
             _ => SectionName::Unknown,
         })
@@ -86,6 +89,7 @@ impl SectionName {
             SectionName::GnuPublicNames => ".debug_gnu_pubnames",
             SectionName::GnuPublicTypes => ".debug_gnu_pubtypes",
             SectionName::NameIndex => ".debug_names",
+            SectionName::Macros => ".debug_macro",
             SectionName::Unmoved => "strings or macros",
             SectionName::Unknown => "a section that isn't known",
         }

@@ -3,9 +3,9 @@ import re
 
 from tables import range_tables
 
-UNIT_INDEX = re.compile(r"^ *DW_IDX_compile_unit: 0x([0-9a-f]+)$")
+UNIT_INDEX = re.compile(r"^ *DW_IDX_(compile|type)_unit: 0x([0-9a-f]+)$")
 DIE_OFFSET = re.compile(r"^( *DW_IDX_die_offset: )0x([0-9a-f]+)$")
-UNIT_OF_NAMES = re.compile(r"^( *[CL][UT]\w*\[\d+\]: )0x([0-9a-f]+)$")
+UNIT_OF_NAMES = re.compile(r"^( *(C|LocalT)U\[\d+\]: )0x([0-9a-f]+)$")
 UNIT_OF_PUBLIC = re.compile(r"^length = 0x[0-9a-f]+, (.*)unit_offset = 0x([0-9a-f]+), unit_size = 0x([0-9a-f]+)$")
 PUBLIC = re.compile(r"^0x([0-9a-f]+) (.*)$")
 LINE_OFFSET = re.compile(r"debug_line_offset = 0x([0-9a-f]+)")
@@ -103,21 +103,36 @@ def public_names(lines, info):
     return found
 
 
+def unit_of_entry(entry, units):
+    """The offset of the unit that an entry of an index is in, or None if that is in another file. entry: the numbers of its units."""
+    types, compiled = units["LocalT"], units["C"]
+    if "type" in entry:
+        return types[entry["type"]] if entry["type"] < len(types) else None
+    number = entry.get("compile", 0)
+    return compiled[number] if number < len(compiled) else 0
+
+
 def names(lines, info):
-    """The lines of `.debug_names`, with numbers of units and entries for offsets. An entry's offset is counted from its unit."""
-    found, units, at = [], [], 0
+    """The lines of `.debug_names`, with numbers of units and entries for offsets. An entry's offset is counted from its unit, which may be named
+    after it."""
+    found, units, entry = [], {"C": [], "LocalT": []}, {}
     for line in lines:
-        unit, index, entry = UNIT_OF_NAMES.match(line), UNIT_INDEX.match(line), DIE_OFFSET.match(line)
+        unit, index, offset = UNIT_OF_NAMES.match(line), UNIT_INDEX.match(line), DIE_OFFSET.match(line)
         if line.startswith("Name Index"):
-            units, at = [], 0
+            units = {"C": [], "LocalT": []}
         if unit:
-            units.append(int(unit[2], 16))
-            line = f"{unit[1]}unit {info.unit_at(units[-1])}"
+            units[unit[2]].append(int(unit[3], 16))
+            line = f"{unit[1]}unit {info.unit_at(int(unit[3], 16))}"
         elif index:
-            at = int(index[1], 16)
-        elif entry:
-            line = f"{entry[1]}{named(info, (units[at] if at < len(units) else 0) + int(entry[2], 16))}"
-            at = 0
+            entry[index[1]] = int(index[2], 16)
+        elif offset:
+            entry["offset"] = len(found), offset[1], int(offset[2], 16)
+        elif line.strip() in ("{", "}") and "offset" in entry:
+            at, text, number = entry["offset"]
+            start = unit_of_entry(entry, units)
+            found[at] = text + (f"{number:#x}" if start is None else named(info, start + number))
+        if line.strip().startswith("Entry @"):
+            entry = {}
         found.append(line)
     return found
 

@@ -4,7 +4,8 @@ import os
 import shutil
 import subprocess
 
-from corners import CORNERS
+import corner_tables
+import corners as corner_forms
 
 HERE = os.path.dirname(os.path.dirname(os.path.realpath(__file__)))
 SOURCES, STORED = f"{HERE}/sources", f"{HERE}/modules"
@@ -12,8 +13,10 @@ SOURCES, STORED = f"{HERE}/sources", f"{HERE}/modules"
 FOLDER = "/sources"
 
 EXPORTED = ["--export=start", "--export=start_of_templates", "--export=start_of_arguments", "--export=caught", "--export=many", "--export=gone"]
-SHAPES, TEMPLATES, LOCALS = ["shapes.c", "second.c"], ["templates.cpp", "tag.s"], ["locals.c"]
-NAMES = ["-gdwarf-aranges", "-ggnu-pubnames", "-fdebug-macro", "-undef"]
+EXPORTED += ["--export=divides", "--export=stops", "--export=inlines"]
+SHAPES, TEMPLATES, LOCALS, TRAPS = ["shapes.c", "second.c"], ["templates.cpp", "tag.s"], ["locals.c"], ["traps.c"]
+MACROS = ["-fdebug-macro", "-undef"]
+NAMES = ["-gdwarf-aranges", "-ggnu-pubnames", *MACROS]
 PUBLIC = ["-gdwarf-aranges", "-gpubnames"]
 ACCELERATED = ["-gpubnames", "-mllvm", "-accel-tables=Dwarf"]
 WIDE = ["--target=wasm64"]
@@ -32,8 +35,16 @@ def ways():
                 made[f"arguments-{version}-O{level}"] = TEMPLATES, [*how, "-DARGUMENTS"]
                 made[f"wide-{version}-O{level}"] = SHAPES, [*WIDE, *how]
                 made[f"locals-{version}-O{level}"] = LOCALS, how
+                made[f"traps-{version}-O{level}"] = TRAPS, how
         made[f"names-{version}-O1"] = SHAPES, [f"-gdwarf-{version}", "-O1", *NAMES]
-    made["accelerated-5-O2"] = SHAPES, ["-gdwarf-5", "-O2", *ACCELERATED]
+    for version, level in (("4", "2"), ("5", "0"), ("5", "2")):
+        made[f"accelerated-{version}-O{level}"] = SHAPES, [f"-gdwarf-{version}", f"-O{level}", *ACCELERATED]
+    made["accelerated-mixed-O1"] = SHAPES, [["-gdwarf-5", "-gdwarf-4"], "-O1", *ACCELERATED]
+    made["accelerated-templates-5-O2"] = TEMPLATES, ["-gdwarf-5", "-O2", *ACCELERATED]
+    made["accelerated-locals-5-O2"] = LOCALS, ["-gdwarf-5", "-O2", *ACCELERATED]
+    made["macros-4-O2"] = SHAPES, ["-gdwarf-4", "-O2", *MACROS, "-mllvm", "-use-gnu-debug-macro"]
+    made["macros-5-O2"] = SHAPES, ["-gdwarf-5", "-O2", *MACROS]
+    made["macros-mixed-O0"] = SHAPES, [["-gdwarf-5", "-gdwarf-4"], "-O0", *MACROS, "-mllvm", "-use-gnu-debug-macro"]
     made["public-3-O2"] = SHAPES, ["-gdwarf-3", "-O2", *PUBLIC]
     made["public-4-O0"] = SHAPES, ["-gdwarf-4", "-O0", *PUBLIC]
     made["plain-4-Os"] = SHAPES, ["-gdwarf-4", "-Os", "-gno-column-info"]
@@ -43,7 +54,8 @@ def ways():
 
 
 # those that are stored, each of some KB: one for each kind
-KEPT = ["shapes-4-O2", "shapes-5-O2", "shapes-2-O0", "templates-3-O2", "types-4-O2", "types-5-O0", "names-4-O1", "accelerated-5-O2", "mixed-45-O2"]
+KEPT = ["shapes-4-O2", "shapes-5-O2", "shapes-2-O0", "templates-3-O2", "types-4-O2", "types-5-O0", "names-4-O1", "accelerated-5-O2", "mixed-45-O2", "traps-4-O0",
+    "traps-5-O2"]
 
 
 def tool(name):
@@ -112,7 +124,7 @@ def made(folder):
 def corners(folder):
     """The paths of the modules by hand, which are made in the folder."""
     paths = {}
-    for name, make_corner in CORNERS.items():
+    for name, make_corner in {**corner_forms.CORNERS, **corner_tables.CORNERS}.items():
         paths[f"corner-{name}"] = path = f"{folder}/corner-{name}.wasm"
         with open(path, "wb") as file:
             file.write(make_corner())

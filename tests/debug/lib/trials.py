@@ -10,9 +10,9 @@ from wasm import debug_sections, with_debug
 
 OUT_OF_DATE = "debug information is out of date"
 # Modules with what needn't be moved, as the manual says: their debug information may also be carried over as it is.
-MAY_BE_CARRIED_OVER = ("corner-odd-", "arguments-", "names-5-", "accelerated-5-")
+MAY_BE_CARRIED_OVER = ("corner-odd-", "arguments-")
 # The same of what `wsnip` writes: expressions name entries, of which some change their sizes.
-MAY_BE_CARRIED_OVER_BY_WSNIP = ("templates-5-", "types-5-")
+MAY_BE_CARRIED_OVER_BY_WSNIP = ("templates-5-", "accelerated-templates-5-", "types-5-")
 
 
 @dataclass
