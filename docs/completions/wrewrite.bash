@@ -6,7 +6,7 @@ _wrewrite() {
     --source-map-url|--remove-section|--keep-section) return ;;
     *)
         if [[ $current == -* ]]; then
-            mapfile -t COMPREPLY < <(compgen -W '--check --validate -o --output --force --map --source-map --output-source-map --source-map-url --strip --strip-debug --keep-debug --strip-names --strip-producers --remove-section --keep-section -q --quiet -v --verbose -h --help -V --version' -- "$current")
+            mapfile -t COMPREPLY < <(compgen -W '--check --validate --engine-limits -o --output --force --map --source-map --output-source-map --source-map-url --strip --strip-debug --keep-debug --strip-names --strip-producers --remove-section --keep-section -q --quiet -v --verbose -h --help -V --version' -- "$current")
             return
         fi
         ;;

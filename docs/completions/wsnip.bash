@@ -6,7 +6,7 @@ _wsnip() {
     --pattern|--source-map-url|--remove-section|--keep-section) return ;;
     *)
         if [[ $current == -* ]]; then
-            mapfile -t COMPREPLY < <(compgen -W '--validate --pattern --names-from --rust-panicking-code --rust-fmt-code --list -o --output --force --map --source-map --output-source-map --source-map-url --strip --strip-debug --keep-debug --strip-names --strip-producers --remove-section --keep-section -q --quiet -v --verbose -h --help -V --version' -- "$current")
+            mapfile -t COMPREPLY < <(compgen -W '--validate --engine-limits --pattern --names-from --rust-panicking-code --rust-fmt-code --list -o --output --force --map --source-map --output-source-map --source-map-url --strip --strip-debug --keep-debug --strip-names --strip-producers --remove-section --keep-section -q --quiet -v --verbose -h --help -V --version' -- "$current")
             return
         fi
         ;;

@@ -1,5 +1,5 @@
 """Modules that are valid and that aren't, by the standard's rules: with `--validate` the first fault is named, and nothing is written."""
-from modules import BAD_LABEL, GOOD, GOOD_WRITTEN, PREAMBLE, REFUSED, module, section, sized, vector
+from modules import BAD_LABEL, GOOD, GOOD_WRITTEN, PREAMBLE, REFUSED, module, number, section, sized, vector
 from runs import PROGRAMS, case, same
 
 # Types: of functions from nothing to nothing, from an i32 to nothing, and from nothing to an i32; a struct that is open, with a subtype.
@@ -8,6 +8,14 @@ ALL_TYPES = section(1, vector([b"\x60\0\0", b"\x60\1\x7f\0", b"\x60\0\1\x7f", OP
 FUNCTION = section(3, vector([b"\0"]))
 FUNCREF, NO_NULL = b"\x70", b"\x64\x70"
 BODY = "the operator is not valid here (InvalidOperator)"
+
+
+def takes(operand):
+    """What is said of an operator that takes this operand."""
+    return f"the operator is not valid here: expected {operand} (InvalidOperator)"
+
+
+EMPTY = takes("i32, found nothing")
 TYPE = "a type is not valid (InvalidType)"
 LIMITS = "the limits are not valid (InvalidLimits)"
 CONSTANT = "this operator is not allowed in a constant expression (BadConstant)"
@@ -45,7 +53,14 @@ ROWS = [
     ("an active data segment without a memory", [section(11, vector([b"\0\x41\0\x0b\0"]))], 12, "index `0` is out of bounds for memories (IndexOutOfRange)"),
     ("an offset of the wrong type", [section(5, vector([b"\4\1"])), section(11, vector([b"\0\x41\0\x0b\0"]))], 19, BODY),
     ("a local of a type that isn't there", [ALL_TYPES, FUNCTION, section(10, vector([sized(b"\1\1\x64\x09\x0b")]))], at([ALL_TYPES, FUNCTION], b"\x0a\7\1\5\1\1"), 'function 0: ' + TYPE),
-    ("a sum of a number and nothing", [ALL_TYPES, FUNCTION, code(b"\x41\1\x6a\x1a")], at([ALL_TYPES, FUNCTION], b"\x0a\7\1\6\0\x41\1"), "function 0: " + BODY),
+    ("a sum of a number and nothing", [ALL_TYPES, FUNCTION, code(b"\x41\1\x6a\x1a")], at([ALL_TYPES, FUNCTION], b"\x0a\7\1\6\0\x41\1"), "function 0: " + EMPTY),
+    ("a sum of two kinds", [ALL_TYPES, FUNCTION, code(b"\x41\1\x42\1\x6a\x1a")], at([ALL_TYPES, FUNCTION], b"\x0a\x09\1\7\0\x41\1\x42\1"), "function 0: " + takes("i32, found i64")),
+    ("a sum of two kinds, the other way round", [ALL_TYPES, FUNCTION, code(b"\x42\1\x41\1\x6a\x1a")], at([ALL_TYPES, FUNCTION], b"\x0a\x09\1\7\0\x42\1\x41\1"), "function 0: " + takes("i32, found i64")),
+    ("a sum of a number and a reference", [ALL_TYPES, FUNCTION, code(b"\x41\1\xd0\x70\x6a\x1a")], at([ALL_TYPES, FUNCTION], b"\x0a\x09\1\7\0\x41\1\xd0\x70"), "function 0: " + takes("i32, found a reference")),
+    ("a call of a reference to something else", [ALL_TYPES, FUNCTION, code(b"\xd0\x6f\x14\0")], at([ALL_TYPES, FUNCTION], b"\x0a\x08\1\6\0\xd0\x6f"), "function 0: " + takes("a reference of another type")),
+    ("a number that is called", [ALL_TYPES, FUNCTION, code(b"\x41\1\x14\0")], at([ALL_TYPES, FUNCTION], b"\x0a\x08\1\6\0\x41\1"), "function 0: " + takes("a reference, found i32")),
+    ("a value that isn't there", [ALL_TYPES, FUNCTION, code(b"\x1a")], at([ALL_TYPES, FUNCTION], b"\x0a\5\1\3\0"), "function 0: " + takes("a value, found nothing")),
+    ("a block that takes no operand of those around it", [ALL_TYPES, FUNCTION, code(b"\x41\1\x02\x40\x1a\x0b\x1a")], at([ALL_TYPES, FUNCTION], b"\x0a\x0a\1\x08\0\x41\1\x02\x40"), "function 0: " + takes("a value, found nothing")),
     ("a value that is left", [ALL_TYPES, FUNCTION, code(b"\x41\1")], at([ALL_TYPES, FUNCTION], b"\x0a\6\1\4\0\x41\1"), "function 0: " + BODY),
     ("a function that isn't declared", [ALL_TYPES, FUNCTION, code(b"\xd2\0\x1a")], at([ALL_TYPES, FUNCTION], b"\x0a\7\1\5\0"), "function 0: " + BODY),
     ("a segment that is used without a data count", [ALL_TYPES, FUNCTION, code(b"\xfc\x09\0"), section(11, vector([b"\1\0"]))], at([ALL_TYPES, FUNCTION], b"\x0a\7\1\5\0"), "function 0: " + BODY),
@@ -84,7 +99,7 @@ def _(room):
     room.put("in", module([b"\x6a"]))
     for program in PROGRAMS:
         more = ["0"] if program == "wsnip" else []
-        room.refuses(program, "--validate", "in", "out", *more, says=f"in: 0x17: function 0: {BODY}")
+        room.refuses(program, "--validate", "in", "out", *more, says=f"in: 0x17: function 0: {EMPTY}")
     same(["in"], room.files())
 
 
@@ -96,3 +111,31 @@ def _(room):
     room.refuses("wrewrite", "--validate", "in", "out", says="in: 0x8: no section has this id (UnknownSection)")
     room.put("in", module([BAD_LABEL]))
     room.refuses("wrewrite", "--check", "--validate", "in", says=f"in: 0x17: function 0: {BODY}")
+
+
+def limited(kind, count, item):
+    """A module of one section with so many items."""
+    return [section(kind, number(count) + item * count)]
+
+
+# A name, the sections, the place of the limit, and what is said of it. One item less is within it.
+LIMITS_ROWS = [
+    ("parameters", lambda n: [section(1, b"\1\x60" + number(1000 + n) + b"\x7f" * (1000 + n) + b"\0")], 11, "the type has more parameters, results or fields than engines accept"),
+    ("results", lambda n: [section(1, b"\1\x60\0" + number(1000 + n) + b"\x7f" * (1000 + n))], 11, "the type has more parameters, results or fields than engines accept"),
+    ("fields", lambda n: [section(1, b"\1\x5f" + number(10_000 + n) + b"\x7f\0" * (10_000 + n))], 12, "the type has more parameters, results or fields than engines accept"),
+    ("supertypes", lambda n: [section(1, vector([OPEN] + [b"\x50\1" + number(at) + b"\x5f\0" for at in range(63 + n)]))], 11, "the type has more than 63 supertypes"),
+    ("memories", lambda n: limited(5, 100 + n, b"\0\0"), 11, "the section has more items than engines accept"),
+]
+
+
+@case("--engine-limits refuses what is above a limit of engines, and --validate doesn't")
+def _(room):
+    for name, sections, place, said in LIMITS_ROWS:
+        room.put("in", PREAMBLE + b"".join(sections(0)))
+        room.works("wrewrite", "--check", "--engine-limits", "in")
+        room.put("in", PREAMBLE + b"".join(sections(1)))
+        room.works("wrewrite", "--check", "--validate", "in")
+        room.refuses("wrewrite", "--check", "--engine-limits", "in", says=f"in: 0x{place:x}: {said} (EngineLimit)")
+    room.put("in", module([b"\x6a"]))
+    room.refuses("wrewrite", "--engine-limits", "in", "out", says=f"in: 0x17: function 0: {EMPTY}")
+    same(["in"], room.files())

@@ -20,6 +20,24 @@ pub const SEGMENT_TYPE: ModuleFault = ModuleFault::Parse(ParseError::Checked(6))
 /// The validation algorithm refuses an operator.
 pub const INVALID_OPERATOR: ModuleFault = ModuleFault::Parse(ParseError::Checked(7));
 
+// Limits that engines have, and the standard doesn't (WebAssembly JavaScript interface, implementation-defined limits).
+
+/// There are more than 1,000,000 types.
+pub const TOO_MANY_TYPES: ModuleFault = ModuleFault::Parse(ParseError::Checked(8));
+/// A section has more items than engines accept: 1,000,000 imports, functions, globals, tags or exports, 100,000 tables or
+/// data segments, or 100 memories.
+pub const TOO_MANY_ITEMS: ModuleFault = ModuleFault::Parse(ParseError::Checked(9));
+/// A function type has more than 1,000 parameters or results, or a struct type more than 10,000 fields.
+pub const LONG_TYPE: ModuleFault = ModuleFault::Parse(ParseError::Checked(10));
+/// A type has more than 63 supertypes.
+pub const DEEP_TYPE: ModuleFault = ModuleFault::Parse(ParseError::Checked(11));
+/// A body has more than 7,654,321 bytes.
+pub const LARGE_BODY: ModuleFault = ModuleFault::Parse(ParseError::Checked(12));
+/// A function has more than 50,000 locals, its parameters among them.
+pub const MANY_LOCALS: ModuleFault = ModuleFault::Parse(ParseError::Checked(13));
+/// The module has more than 1,073,741,824 bytes.
+pub const LARGE_MODULE: ModuleFault = ModuleFault::Parse(ParseError::Checked(14));
+
 /// The text of one of these faults, and its name; `None` of any other fault, which has both itself. This allocates
 /// nothing.
 pub fn validity_words(fault: ModuleFault) -> Option<(&'static str, &'static str)> {
@@ -40,6 +58,22 @@ pub fn validity_words(fault: ModuleFault) -> Option<(&'static str, &'static str)
             "SegmentType",
         )),
         7 => Some(("the operator is not valid here", "InvalidOperator")),
+        8 => Some(("there are more than 1,000,000 types", "EngineLimit")),
+        9 => Some((
+            "the section has more items than engines accept",
+            "EngineLimit",
+        )),
+        10 => Some((
+            "the type has more parameters, results or fields than engines accept",
+            "EngineLimit",
+        )),
+        11 => Some(("the type has more than 63 supertypes", "EngineLimit")),
+        12 => Some(("the body has more than 7,654,321 bytes", "EngineLimit")),
+        13 => Some(("the function has more than 50,000 locals", "EngineLimit")),
+        14 => Some((
+            "the module has more than 1,073,741,824 bytes",
+            "EngineLimit",
+        )),
         _ => None,
     }
 }

@@ -14,6 +14,7 @@ mod filtering;
 mod in_place;
 mod listing;
 mod locks;
+mod mismatches;
 mod names;
 mod not_a_module;
 mod omitting;

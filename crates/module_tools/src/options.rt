@@ -16,6 +16,7 @@ pub(crate) enum Page {
 pub(crate) enum Switch {
     Check,
     Validate,
+    EngineLimits,
     List,
     RustPanickingCode,
     RustFmtCode,
@@ -87,7 +88,7 @@ struct Row {
 }
 
 /// How many options there are.
-const COUNT: usize = 25;
+const COUNT: usize = 26;
 
 /// The options, in the order of the page of help.
 const ROWS: [Row; COUNT] = [
@@ -108,6 +109,15 @@ const ROWS: [Row; COUNT] = [
         help: "
       --validate       refuse a module that is not valid, before anything else
                        is done with it",
+    },
+    Row {
+        letter: None,
+        name: "--engine-limits",
+        choice: Choice::Switch(Switch::EngineLimits),
+        takers: Takers::All,
+        help: "
+      --engine-limits  as --validate; and refuse a module that is above a limit
+                       of engines, such as 1,000 parameters of a function",
     },
     Row {
         letter: None,

@@ -127,6 +127,8 @@ pub struct Task<'w> {
     pub sections: Vec<SectionChoice<'w>>,
     /// Whether a module that isn't valid is refused.
     pub validates: bool,
+    /// Whether a module that is above a limit of engines is refused, too.
+    pub has_limits: bool,
     /// Whether the functions are listed, and no module is written.
     pub lists: bool,
     /// Whether a file that is write-protected is replaced.
@@ -189,6 +191,8 @@ struct Options<'w> {
     is_forced: bool,
     /// Whether a module that isn't valid is refused.
     validates: bool,
+    /// Whether a module that is above a limit of engines is refused, too.
+    has_limits: bool,
     /// Whether no module is written, since its bodies are only checked or listed.
     reads_alone: bool,
     /// Whether they are listed then.
@@ -210,6 +214,7 @@ impl<'w> Options<'w> {
             is_quiet: false,
             is_forced: false,
             validates: false,
+            has_limits: false,
             reads_alone: false,
             lists: false,
             output: None,
@@ -301,6 +306,10 @@ impl<'w> Words<'w> {
                 self.options.lists = true;
             }
             Switch::Validate => self.options.validates = true,
+            Switch::EngineLimits => {
+                self.options.validates = true;
+                self.options.has_limits = true;
+            }
             Switch::Force => self.options.is_forced = true,
             Switch::Quiet => self.options.is_quiet = true,
             Switch::Verbose => self.options.is_verbose = true,
@@ -592,6 +601,7 @@ impl<'w> Words<'w> {
             source_map_url,
             export,
             validates,
+            has_limits,
             is_forced,
             is_quiet,
             is_verbose,
@@ -611,6 +621,7 @@ impl<'w> Words<'w> {
             export,
             sections: self.sections,
             validates,
+            has_limits,
             lists,
             is_forced,
             is_quiet,

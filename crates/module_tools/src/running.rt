@@ -10,6 +10,7 @@ use crate::ending::{ProgramFailure, exit_code, page_code, words};
 use crate::files::read_file;
 use crate::listing::list_functions;
 use crate::locks::LockFiles;
+use crate::mismatches::not_valid;
 use crate::omitting::{following_debug, omit};
 use crate::places::check_files;
 use crate::program::{Program, Request, Task, read_arguments};
@@ -22,7 +23,7 @@ use crate::version::{BUILD, VERSION};
 use crate::warnings::{DebugOutcome, warn};
 use crate::writing::write_module;
 use module_debug::DebugSection;
-use module_validator::validate;
+use module_validator::{check_engine_limits, validate};
 use source_map::SourceMap;
 use std::alloc::Global;
 use std::io;
@@ -340,6 +341,22 @@ where
     }
 }
 
+/// Refuses a valid module that was read from these bytes and is above a limit of engines, where that is asked for.
+fn check_limits<'w>(
+    alloc: Global,
+    task: &Task<'w>,
+    bytes: &[u8],
+    parsed: &ParsedModule<'_>,
+) -> Result<(), ProgramFailure<'w>> {
+    if !task.has_limits {
+        return Ok(());
+    }
+    match check_engine_limits(alloc, bytes) {
+        Ok(()) => Ok(()),
+        Err(error) => Err(refused(alloc, parsed, task.input, &error)),
+    }
+}
+
 /// Refuses a module that was read from these bytes and isn't valid, where that is asked for.
 fn check_validity<'w>(
     alloc: Global,
@@ -353,8 +370,8 @@ fn check_validity<'w>(
         return Ok(());
     }
     match validate(alloc, bytes) {
-        Ok(()) => Ok(()),
-        Err(error) => Err(refused(alloc, parsed, task.input, &error)),
+        Ok(()) => check_limits(alloc, task, bytes, parsed),
+        Err(error) => Err(not_valid(alloc, parsed, task.input, bytes, &error)),
     }
 }
 

@@ -80,7 +80,7 @@ fn check_function(
 }
 
 /// A body: its size, and so many bytes.
-fn body<'a>(input: &mut Input<'a>) -> Result<Input<'a>, ModuleError>
+pub(crate) fn body<'a>(input: &mut Input<'a>) -> Result<Input<'a>, ModuleError>
     ensures same_end { input.new.end ≡ input.old.end }
     ensures ends { IfOk result (λ body. body.end ≡ input.old.end - length input.new.rest.now) }
     ensures is { Gives (λ body. (body.rest.now, input.new.rest.now)) result

@@ -6,12 +6,14 @@
 mod bodies;
 mod code;
 mod constant;
+mod engine_limits;
 mod exports;
 mod faults;
 mod globals;
 mod laws;
 mod limits;
 mod locals;
+mod refused_operand;
 mod scratch;
 mod sections;
 mod segments;
@@ -20,6 +22,9 @@ mod tables;
 mod types;
 mod validation;
 
+pub use engine_limits::check_engine_limits;
 pub use laws::law_code_validity;
 pub use module_context::validity_words;
+pub use refused_operand::mismatch;
 pub use validation::validate;
+pub use wasm_validation::{Mismatch, OperandKind};

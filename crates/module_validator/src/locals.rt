@@ -56,7 +56,7 @@ impl CountedLocals {
     }
 
     /// Their number.
-    fn count(&self) -> u64
+    pub(crate) fn count(&self) -> u64
         ensures { result ≡ length self.now }
     {
         self.count

@@ -10,8 +10,8 @@ use wasm_locals::DeclaredLocals;
 use wasm_operators::{Operator, RawValType};
 use wasm_types::{BinaryOp, ValType};
 use wasm_validation::{
-    BodyValidator, ValidationFailure, ValidationScratch, law_one_verdict, law_same_steps,
-    validate_code,
+    BodyValidator, Mismatch, OperandKind, RefusedCode, ValidationFailure, ValidationScratch,
+    law_one_verdict, law_same_steps, validate_code,
 };
 
 // The types of the parameters.
@@ -61,6 +61,36 @@ fn module_with(types: Vec<DefinedType>, alloc: Global) -> Context {
     }
 }
 
+// Bodies of such a function, and the operand that the operator at a place of them refuses: what it takes, and what it finds.
+const MISMATCHES: [(&[u8], usize, Option<Mismatch>); 5] = [
+    (
+        &[0x20, 0, 0x42, 1, 0x6a, 0x0b],
+        14,
+        Some(Mismatch {
+            expected: OperandKind::I32,
+            found: Some(OperandKind::I64),
+        }),
+    ),
+    (
+        &[0x20, 0, 0x6a, 0x0b],
+        12,
+        Some(Mismatch {
+            expected: OperandKind::I32,
+            found: None,
+        }),
+    ),
+    (
+        &[0x02, 0x40, 0x1a, 0x0b, 0x0b],
+        12,
+        Some(Mismatch {
+            expected: OperandKind::Value,
+            found: None,
+        }),
+    ),
+    (&[0x20, 2, 0x0b], 10, None),
+    (&[0x20, 0, 0x20, 1, 0x0b], 14, None),
+];
+
 fn push_verdict(text: &mut String, verdict: Result<(), ValidationFailure>) -> Result<(), Fail> {
     match verdict {
         Ok(()) => text.push_str("valid")?,
@@ -96,6 +126,26 @@ fn validates_bodies(rt: HostRuntime) -> Result<(), Fail> {
     types.push(function_type(rt.alloc())?)?;
     let context = module_with(types, rt.alloc());
     check_bodies(&rt, rt.alloc(), &context)
+}
+
+#[test]
+fn names_the_operand(rt: HostRuntime) -> Result<(), Fail> {
+    let mut types = Vec::new(rt.alloc());
+    types.push(function_type(rt.alloc())?)?;
+    let context = module_with(types, rt.alloc());
+    let declared = DeclaredLocals::new(rt.alloc());
+    for (code, at, expected) in &MISMATCHES {
+        let refused = RefusedCode {
+            context: &context,
+            locals: declared.after(&PARAMS),
+            results: TypeList::Results(0),
+            code,
+            start: 10,
+            at: *at,
+        };
+        assert_eq!(rt; refused.mismatch(rt.alloc())?, *expected);
+    }
+    Ok(())
 }
 
 #[test]

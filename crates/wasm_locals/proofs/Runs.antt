@@ -1,6 +1,6 @@
 -- Runs of locals: one more run, and the run of a local.
 use Rattle.std.proofs.Common.{◌≡◌, ℕ, zero, suc, ◌+◌, ◌-◌, ◌≤◌, ◌<◌, List, [], ◌∷◌, ◌++◌, length, get_or, replicate, Some, true, false, refl, sym, ap, ◌∙◌, arith, length-append, append-nil, append_assoc}
-use Rattle.std.specs.Prelude.{slice_get}
+use Rattle.std.specs.Prelude.{slice_get, slice_index_or}
 use Rattle.std.specs.List.{AllWithin}
 use Rattle.std.specs.List.Sorted.{IsNonDecreasingBy, IsPartitionPoint}
 use Rattle.std.specs.Option.{option_map}
@@ -86,3 +86,8 @@ run_of before (r ∷ rs) h id (suc i) k is by after =
 pub type_of_local : (rs : List LocalRun) → IsNonDecreasingBy end_of_runs rs → (id i : ℕ) → IsPartitionPoint (EndsBy id) (EndsAfter id) rs i
     → slice_get (types_of_runs 0 rs) id ≡ option_map (λ (r : LocalRun). r.ty) (slice_get rs i)
 type_of_local rs sorted id i at = run_of 0 rs (ascend 0 rs (λ j d within. omega arith) sorted) id i id (omega arith) at.0 at.1
+
+pub type_in_first : (rs : List LocalRun) (d : LocalRun) (id : ℕ) → 1 ≤ length rs → id < (slice_index_or rs 0 d).end
+    → Some (slice_index_or rs 0 d).ty ≡ slice_get (types_of_runs 0 rs) id
+type_in_first [] d id some within = absurd (omega arith)
+type_in_first (r ∷ rs) d id some within = sym (inside_run (r.end - 0) r.ty (types_of_runs r.end rs) id (omega arith))

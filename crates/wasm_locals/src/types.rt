@@ -24,11 +24,18 @@ fn declared_type(runs: &[LocalRun], number: usize) -> Option<RawValType>
     requires { IsNonDecreasingBy end_of_runs runs.now }
     ensures { result ≡ slice_get (types_of_runs 0 runs.now) number }
 {
+    // most functions declare locals of few types
+    if let [first, ..] = runs {
+        if number < first.end as usize {
+            return Some(first.ty);
+        }
+    }
     let place = runs.partition_point(|run| run.end as usize <= number);
     type_at(runs, place)
 }
 
 /// Whether a local of this type is set where the function begins.
+#[inline(always)]
 fn has_default(ty: RawValType) -> bool
     ensures { result ≡ has_default ty }
 {
@@ -53,6 +60,7 @@ impl LocalTypes<'_> {
 
     /// The type of the local with this number, if there is one. This takes time logarithmic in the
     /// number of runs.
+    #[inline(always)]
     pub fn get(&self, number: u32) -> Option<RawValType>
         ensures { result ≡ slice_get (types_of_locals self.now) number }
     {
@@ -65,6 +73,7 @@ impl LocalTypes<'_> {
 
     /// Whether the local with this number and type is set where the function begins: it is a
     /// parameter, or its type has a default.
+    #[inline(always)]
     pub fn starts_set(&self, number: u32, ty: RawValType) -> bool
         requires { slice_get (types_of_locals self.now) number ≡ Some ty }
         ensures { IsInitial self.now number result }

@@ -6,5 +6,7 @@ pub mod TakenFronts
 pub mod OneVerdict
 -- the validator of a body, operator by operator
 pub mod CheckedSteps
+-- other operands in a well-formed state
+pub mod OtherOperands
 -- examples that pin the definitions
 pub mod Examples

@@ -12,7 +12,7 @@ use walrus_validators::{CheckError, OpCheck};
 use wasm_context::{Context, TypeList};
 use wasm_locals::LocalTypes;
 use wasm_ops::Operator;
-use wasm_validator::{Fault, Validator};
+use wasm_validator::{Fault, Operand, Validator};
 
 /// The number of a refusal, which has no other reason than that the algorithm refuses the operator.
 const REFUSAL: u32 = 0;
@@ -57,6 +57,23 @@ impl<'a> BodyValidator<'a> {
         BodyValidator {
             validator,
             refused: false,
+        }
+    }
+
+    /// The operands, the topmost last.
+    pub(crate) fn operands(&self) -> &[Operand] {
+        &self.validator.operands
+    }
+
+    /// The number of operands below the innermost sequence.
+    pub(crate) fn height(&self) -> usize {
+        self.validator.inner.height
+    }
+
+    /// Puts these operands in the place of its own, if they are no fewer.
+    pub(crate) fn set_operands(&mut self, operands: Vec<Operand>) {
+        if operands.len() >= self.validator.operands.len() {
+            self.validator.operands = operands;
         }
     }
 }

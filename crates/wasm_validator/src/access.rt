@@ -46,6 +46,7 @@ impl Validator<'_> {
     ghost use Rattle.wasm_validator.specs.Plain.{plain_in};
 
     /// An access to memory.
+    #[inline(always)]
     fn access(&mut self, ty: AccessType, memarg: RawMemArg) -> Result<(), Fault>
         ensures plain { ResultsIn (plain_in self.old
             (type_of_access ty (setting_of self.old).operands (access_of memarg))) result (open_state self.new) }
@@ -70,6 +71,7 @@ impl Validator<'_> {
     }
 
     /// Pops operands of these types, and pushes one of another, if there is one.
+    #[inline(always)]
     fn gives(&mut self, takes: &[RawValType], gives: Option<RawValType>) -> Result<(), Fault>
         ensures plain { ResultsIn (plain_in self.old (Ok (takes.now ⟶ given_by gives))) result
             (open_state self.new) }

@@ -1,6 +1,6 @@
 //! The validation algorithm (WebAssembly core specification 3.0, appendix, validation algorithm, whose
 //! names are in quotes): operands and frames.
-ghost use Rattle.std.specs.Prelude.{◌≡◌, ◌∷◌, IfErr, OnOk, MatchOption, Ok, Err, true, false};
+ghost use Rattle.std.specs.Prelude.{◌≡◌, ◌∷◌, ◌<◌, vec_len, vec_capacity, IfErr, OnOk, MatchOption, Ok, Err, true, false};
 ghost use Rattle.wasm_validator.specs.declared.fault.Fault.TheVariants.{Memory as MemoryFault};
 ghost use Rattle.wasm_body.specs.Validity.{demand, refused, up_to};
 ghost use Rattle.wasm_context.specs.TypeLists.{types_in};
@@ -34,6 +34,15 @@ pub(crate) fn demand(test: bool) -> Result<(), Fault>
     if test { Ok(()) } else { Err(Fault::Refused) }
 }
 
+/// Makes room for an operand more.
+#[inline(never)]
+fn make_room(operands: &mut Vec<Operand>) -> bool
+    ensures same { operands.new.items ≡ operands.old.items }
+    ensures room { result ≡ true → vec_len operands.new < vec_capacity operands.new }
+{
+    operands.reserve(1).is_ok()
+}
+
 impl Validator<'_> {
     ghost use Rattle.wasm_validator.specs.Steps.{fits_in, setting_of, operand_stack, stacks_of, inner_of, outer_of, pop_in, pop_all_in, push_each_in, typed_in, pop_control_in, EntersFrame, OpensFrame, Leaves, labelled, framed, IsLabel, open_state, ReachesHeight};
 
@@ -46,10 +55,11 @@ impl Validator<'_> {
         ensures same { self.new ≡ record self.old { operands = self.new.operands } }
         ensures reach { ReachesHeight self.old → ReachesHeight self.new }
     {
-        match self.operands.push(operand) {
-            Ok(()) => Ok(()),
-            Err(_) => Err(Fault::Memory),
+        if self.operands.len() >= self.operands.capacity() && !make_room(&mut self.operands) {
+            return Err(Fault::Memory);
         }
+        self.operands.push_reserved(operand);
+        Ok(())
     }
 
     /// Whether an operand matches a type.

@@ -16,6 +16,7 @@ impl Validator<'_> {
     ghost use Rattle.wasm_validator.specs.Plain.{plain_in, local_get_in};
 
     /// Whether the local with this number and type is initialised.
+    #[inline(always)]
     fn is_initialised(&self, local: u32, ty: RawValType) -> bool
         requires { slice_get (types_of_locals self.now.locals) local ≡ Some ty }
         ensures { contains local (stacks_of self.now).initialised ≡ result }
