@@ -51,7 +51,7 @@ same_fate : (x action : Action) (y : Bool) → Does x ≡ Does action → y ≡ 
 same_fate x action y e q = let z : x ≡ action = cc e in subst (λ w. y ≡ unreachable_after (fate w) false) z q
 
 -- what its role says of an operator that does this
-action_role : (r : Role) (is : List (Immediate ℕ Signature)) (action : Action) → control_by r is ≡ Does action
+pub action_role : (r : Role) (is : List (Immediate ℕ Signature)) (action : Action) → control_by r is ≡ Does action
     → never_goes_on r ≡ unreachable_after (fate action) false
 action_role an_unreachable is action h = same_fate Unreachable action true h refl
 action_role a_nop is action h = same_fate Nop action false h refl
@@ -75,7 +75,7 @@ action_role a_catch_all is action h = absurd (cc h)
 action_role a_try_table is action h = absurd (cc h)
 action_role a_plain is action h = same_fate Plain action false h refl
 
-opens_role : (r : Role) (is : List (Immediate ℕ Signature)) (k : Construct) → control_by r is ≡ Opens k → never_goes_on r ≡ false
+pub opens_role : (r : Role) (is : List (Immediate ℕ Signature)) (k : Construct) → control_by r is ≡ Opens k → never_goes_on r ≡ false
 opens_role an_unreachable is k h = absurd (cc h)
 opens_role a_nop is k h = absurd (cc h)
 opens_role a_block is k h = refl

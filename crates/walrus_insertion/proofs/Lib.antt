@@ -1,0 +1,8 @@
+-- the steps of a script; instructions that can be inserted, as operators; edited sequences, and their trees
+pub mod Editing
+pub mod Asking
+pub mod PlainOperators
+pub mod EditedItems
+pub mod CutTrees
+pub mod EditedFunctions
+pub mod Visiting

@@ -1,0 +1,5 @@
+-- the instructions that can be inserted; the steps by which a sequence gets its new instructions
+pub mod PlainInstructions
+pub mod Edits
+-- what is inserted at each place of a function, and the tree that the function has then
+pub mod InsertedInstructions
