@@ -1,5 +1,10 @@
 //! What the value of an attribute means for whoever moves code (DWARF 5, sections 2.2 and 7.5.4).
 
+ghost use Rattle.std.specs.Prelude.{◌≡◌};
+ghost use Rattle.wasm_numbers.specs.Results.{unless};
+ghost use Rattle.dwarf_bytes.specs.declared.fault.DebugFault.TheVariants.{Unsupported};
+ghost use Rattle.dwarf_info.specs.Attributes.{first_meanings, second_meanings, third_meanings, meaning_in, meaning_of, may_be_implicit};
+
 use dwarf_bytes::DebugFault;
 
 /// What the value of an attribute means.
@@ -37,37 +42,74 @@ pub enum Meaning {
     Other,
 }
 
+// What the attribute with this code means, if it is below 0x40.
+fn first_meaning(name: u64) -> Meaning
+    ensures { result ≡ meaning_in first_meanings name }
+{
+    match name {
+        // location; string_length; return_addr; data_member_location
+        0x02 | 0x19 | 0x2a | 0x38 => Meaning::Location,
+        // byte_size, bit_offset, bit_size; lower_bound; bit_stride, upper_bound; count
+        0x0b..=0x0d | 0x22 | 0x2e..=0x2f | 0x37 => Meaning::Computed,
+        // stmt_list
+        0x10 => Meaning::LineTable,
+        0x11 => Meaning::LowPc,
+        0x12 => Meaning::HighPc,
+        // start_scope
+        0x2c => Meaning::Ranges,
+        _ => Meaning::Other,
+    }
+}
+
+// What the attribute with this code means, if it is from 0x40 to 0x7f.
+fn second_meaning(name: u64) -> Meaning
+    ensures { result ≡ meaning_in second_meanings name }
+{
+    match name {
+        // frame_base; segment; static_link; use_location; vtable_elem_location
+        0x40 | 0x46 | 0x48 | 0x4a | 0x4d => Meaning::Location,
+        // allocated, associated, data_location, byte_stride; rank; call_value
+        0x4e..=0x51 | 0x71 | 0x7e => Meaning::Computed,
+        0x52 => Meaning::EntryPc,
+        0x55 => Meaning::Ranges,
+        0x73 => Meaning::AddressBase,
+        0x74 => Meaning::RangeListBase,
+        // macro_info; str_offsets_base; macros
+        0x43 | 0x72 | 0x79 => Meaning::Unmoved,
+        // dwo_name
+        0x76 => Meaning::Split,
+        0x7d => Meaning::CallReturnPc,
+        _ => Meaning::Other,
+    }
+}
+
+// What the attribute with this code means, if it is 0x80 or greater.
+fn third_meaning(name: u64) -> Meaning
+    ensures { result ≡ meaning_in third_meanings name }
+{
+    match name {
+        0x81 => Meaning::CallPc,
+        // call_target, call_target_clobbered, call_data_location, call_data_value; those of GNU
+        0x83..=0x86 | 0x2111..=0x2114 => Meaning::Computed,
+        0x8c => Meaning::LocationListBase,
+        // GNU_macros
+        0x2119 => Meaning::Unmoved,
+        // GNU_dwo_name, GNU_dwo_id, GNU_ranges_base, GNU_addr_base
+        0x2130..=0x2133 => Meaning::Split,
+        _ => Meaning::Other,
+    }
+}
+
 impl Meaning {
-    /// What the attribute of this number means.
-    pub fn of(name: u64) -> Meaning {
+    /// What the attribute with this code means.
+    #[tactic(auto, unfolding(crate::specs::Attributes::meaning_of))]
+    pub fn of(name: u64) -> Meaning
+        ensures { result ≡ meaning_of name }
+    {
         match name {
-            0x11 => Meaning::LowPc,
-            0x12 => Meaning::HighPc,
-            0x52 => Meaning::EntryPc,
-            0x7d => Meaning::CallReturnPc,
-            0x81 => Meaning::CallPc,
-            // start_scope, ranges
-            0x2c | 0x55 => Meaning::Ranges,
-            0x10 => Meaning::LineTable,
-            // location, string_length, return_addr, data_member_location, frame_base, segment, static_link, use_location,
-            // vtable_elem_location
-            0x02 | 0x19 | 0x2a | 0x38 | 0x40 | 0x46 | 0x48 | 0x4a | 0x4d => Meaning::Location,
-            // byte_size, bit_offset, bit_size, lower_bound, bit_stride, upper_bound, count, allocated, associated,
-            // data_location, byte_stride, rank
-            0x0b | 0x0c | 0x0d | 0x22 | 0x2e | 0x2f | 0x37 | 0x4e | 0x4f | 0x50 | 0x51 | 0x71 => {
-                Meaning::Computed
-            }
-            // call_value, call_target, call_target_clobbered, call_data_location, call_data_value, and those of GNU
-            0x7e | 0x83 | 0x84 | 0x85 | 0x86 | 0x2111 | 0x2112 | 0x2113 | 0x2114 =>
-                Meaning::Computed,
-            0x73 => Meaning::AddressBase,
-            0x74 => Meaning::RangeListBase,
-            0x8c => Meaning::LocationListBase,
-            // macro_info, str_offsets_base, macros, GNU_macros
-            0x43 | 0x72 | 0x79 | 0x2119 => Meaning::Unmoved,
-            // dwo_name, GNU_dwo_name, GNU_dwo_id, GNU_ranges_base, GNU_addr_base
-            0x76 | 0x2130 | 0x2131 | 0x2132 | 0x2133 => Meaning::Split,
-            _ => Meaning::Other,
+            ..0x40 => first_meaning(name),
+            0x40..0x80 => second_meaning(name),
+            _ => third_meaning(name),
         }
     }
 
@@ -76,7 +118,9 @@ impl Meaning {
     /// # Errors
     ///
     /// `Unsupported` if it says where code is.
-    pub fn check_without_bytes(self) -> Result<(), DebugFault> {
+    pub fn check_without_bytes(self) -> Result<(), DebugFault>
+        ensures { result ≡ unless (may_be_implicit self) Unsupported }
+    {
         match self {
             Meaning::Other | Meaning::Location | Meaning::Computed | Meaning::Unmoved => Ok(()),
             _ => Err(DebugFault::Unsupported),

@@ -4,10 +4,13 @@
 
 mod abbreviations;
 mod attribute;
+mod context;
+mod effect;
 mod entries;
 mod following;
 mod form;
 mod moved;
+mod scope;
 mod unit;
 
 pub use abbreviations::Abbreviations;

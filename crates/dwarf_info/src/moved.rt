@@ -189,6 +189,25 @@ impl<'t> MovedEntries<'t> {
         }
     }
 
+    /// Checks that an expression names no local, since it isn't known of which function that would be.
+    ///
+    /// # Errors
+    ///
+    /// `Unsupported` if it names one; those of `moved_expression`.
+    pub fn check_no_locals(
+        &mut self,
+        expression: &[u8],
+        encoding: Encoding,
+    ) -> Result<(), DebugError> {
+        let body = body_without_locals(self.patches.allocator());
+        self.expression.clear();
+        moved_expression(expression, encoding, Some(&body), &mut self.expression)?;
+        if self.expression.is_empty() && !expression.is_empty() {
+            return Err(DebugError::Fault(DebugFault::Unsupported));
+        }
+        Ok(())
+    }
+
     /// The locals of an expression get the indices that they have in this body.
     ///
     /// # Errors
@@ -212,5 +231,18 @@ impl<'t> MovedEntries<'t> {
         write_number(&mut self.scratch, layout, encoding, width, count)?;
         self.scratch.extend_from_slice(&self.expression)?;
         self.replace(value)
+    }
+}
+
+// A body that keeps no locals: an expression that names one is empty in it.
+fn body_without_locals(alloc: Global) -> Body {
+    Body {
+        begin: 0,
+        end: 1,
+        new_begin: 0,
+        new_end: 1,
+        runs: Vec::new(alloc),
+        parameters: 0,
+        locals: Vec::new(alloc),
     }
 }

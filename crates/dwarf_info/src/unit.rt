@@ -1,9 +1,13 @@
 //! Units: what an entry belongs to, and how it is spelt (DWARF 5, section 7.5.1).
 
-ghost use Rattle.std.specs.Prelude.{◌<◌, length, OnOk};
+ghost use Rattle.std.specs.Prelude.{◌≡◌, ◌<◌, ◌≤◌, ◌-◌, length, OnOk};
+ghost use Rattle.wasm_numbers.specs.Results.{Gives};
+ghost use Rattle.dwarf_info.specs.Units.{size_of_address, type_offset_at, old_type_offset, old_header, new_type_offset, new_header, header_of_version, unit_of_part, spelled_unit};
+ghost use Rattle.dwarf_info.specs.Views.{tables_of};
+ghost use Rattle.dwarf_info.specs.UnitViews.{header_of, unit_of};
 
 use crate::abbreviations::{AbbreviationTable, Abbreviations};
-use dwarf_bytes::{Cursor, DebugFault, Size};
+use dwarf_bytes::{Cursor, DebugFault, Format, Size};
 use dwarf_expressions::Encoding;
 
 /// The section that a unit is in.
@@ -40,7 +44,9 @@ struct Header {
 }
 
 /// The size of an address, if it is four or eight bytes.
-fn address_size(size: u8) -> Result<Size, DebugFault> {
+fn address_size(size: u8) -> Result<Size, DebugFault>
+    ensures { result ≡ size_of_address size }
+{
     match size {
         4 => Ok(Size::Four),
         8 => Ok(Size::Eight),
@@ -49,48 +55,78 @@ fn address_size(size: u8) -> Result<Size, DebugFault> {
 }
 
 /// Reads what the header of a type unit has at its end: its signature, and the place of the type.
-fn read_type(
-    input: &mut Cursor<'_>,
-    offset_size: Size,
-) -> Result<Option<(usize, u64)>, DebugFault> {
+fn read_type(input: &mut Cursor<'_>, format: Format) -> Result<Option<(usize, u64)>, DebugFault>
+    ensures gives { Gives (λ x. (x, input.new.rest.now)) result (type_offset_at format input.old.end input.old.rest.now) }
+    ensures end { input.new.end ≡ input.old.end }
+{
     input.sized(Size::Eight)?;
     let at = input.at();
-    let offset = input.sized(offset_size)?;
+    let offset = input.sized(format.offset_size())?;
     Ok(Some((at, offset)))
+}
+
+/// Reads what the header of a unit of this type of DWARF 5 has after the offset of its abbreviations.
+fn read_new_type(
+    unit_type: u8,
+    input: &mut Cursor<'_>,
+    format: Format,
+) -> Result<Option<(usize, u64)>, DebugFault>
+    ensures gives { Gives (λ x. (x, input.new.rest.now)) result (new_type_offset unit_type format input.old.end input.old.rest.now) }
+    ensures end { input.new.end ≡ input.old.end }
+{
+    match unit_type {
+        // DW_UT_compile, DW_UT_partial
+        1 | 3 => Ok(None),
+        // DW_UT_type
+        2 => read_type(input, format),
+        _ => Err(DebugFault::Unsupported),
+    }
 }
 
 /// Reads what the header of a unit of DWARF 5 has from its type on: the size of an address, the offset of its abbreviations,
 /// and what a type unit has more.
-fn read_new_header(input: &mut Cursor<'_>, offset_size: Size) -> Result<Header, DebugFault> {
-    let kind = input.byte()?;
+fn read_new_header(input: &mut Cursor<'_>, format: Format) -> Result<Header, DebugFault>
+    ensures gives { Gives (λ h. (header_of h, input.new.rest.now)) result (new_header format input.old.end input.old.rest.now) }
+    ensures end { input.new.end ≡ input.old.end }
+{
+    let unit_type = input.byte()?;
     let address_size = address_size(input.byte()?)?;
-    let abbreviations = input.sized(offset_size)?;
-    let type_offset = match kind {
-        // DW_UT_compile, DW_UT_partial
-        1 | 3 => None,
-        // DW_UT_type
-        2 => read_type(input, offset_size)?,
-        _ => return Err(DebugFault::Unsupported),
-    };
+    let abbreviations = input.sized(format.offset_size())?;
+    let type_offset = read_new_type(unit_type, input, format)?;
     Ok(Header {
         address_size,
         abbreviations,
         type_offset,
     })
+}
+
+/// Reads what the header of a unit of DWARF 2 to 4 has after the size of an address.
+fn read_old_type(
+    section: UnitSection,
+    input: &mut Cursor<'_>,
+    format: Format,
+) -> Result<Option<(usize, u64)>, DebugFault>
+    ensures gives { Gives (λ x. (x, input.new.rest.now)) result (old_type_offset section format input.old.end input.old.rest.now) }
+    ensures end { input.new.end ≡ input.old.end }
+{
+    match section {
+        UnitSection::Info => Ok(None),
+        UnitSection::Types => read_type(input, format),
+    }
 }
 
 /// Reads what the header of a unit of DWARF 2 to 4 has after its version.
 fn read_old_header(
     input: &mut Cursor<'_>,
-    offset_size: Size,
+    format: Format,
     section: UnitSection,
-) -> Result<Header, DebugFault> {
-    let abbreviations = input.sized(offset_size)?;
+) -> Result<Header, DebugFault>
+    ensures gives { Gives (λ h. (header_of h, input.new.rest.now)) result (old_header section format input.old.end input.old.rest.now) }
+    ensures end { input.new.end ≡ input.old.end }
+{
+    let abbreviations = input.sized(format.offset_size())?;
     let address_size = address_size(input.byte()?)?;
-    let type_offset = match section {
-        UnitSection::Info => None,
-        UnitSection::Types => read_type(input, offset_size)?,
-    };
+    let type_offset = read_old_type(section, input, format)?;
     Ok(Header {
         address_size,
         abbreviations,
@@ -98,30 +134,37 @@ fn read_old_header(
     })
 }
 
+/// Reads what the header of a unit of this version has after it.
+fn read_header(
+    version: u64,
+    input: &mut Cursor<'_>,
+    format: Format,
+    section: UnitSection,
+) -> Result<Header, DebugFault>
+    ensures gives { Gives (λ h. (header_of h, input.new.rest.now)) result (header_of_version version section format input.old.end input.old.rest.now) }
+    ensures end { input.new.end ≡ input.old.end }
+{
+    match version {
+        2..=4 => read_old_header(input, format, section),
+        5 => read_new_header(input, format),
+        _ => Err(DebugFault::UnknownVersion),
+    }
+}
+
 impl<'a> Unit<'a> {
-    /// Reads the header of the next unit, and moves past the unit.
-    ///
-    /// # Errors
-    ///
-    /// `Truncated`, `BadLength`, `UnknownVersion`; `BadOffset` if no abbreviations are where they should be; `Unsupported` if
-    /// an address has neither four nor eight bytes, or if the lists of the unit are in another file.
-    pub fn read(
-        input: &mut Cursor<'a>,
+    /// The unit at this place, whose bytes after its length are these.
+    #[tactic(auto, unfolding(crate::specs::Units::unit_of_part))]
+    fn of_part(
+        start: usize,
+        format: Format,
+        mut part: Cursor<'a>,
         section: UnitSection,
         abbreviations: &'a Abbreviations,
     ) -> Result<Unit<'a>, DebugFault>
-        ensures shorter { OnOk result (length input.new.rest.now < length input.old.rest.now) }
+        ensures { Gives unit_of result (unit_of_part section (tables_of abbreviations.now) format start part.entry.end part.entry.rest.now) }
     {
-        let start = input.at();
-        let (format, length) = input.initial_length()?;
-        let mut entries = input.part(length)?;
-        let offset_size = format.offset_size();
-        let version = entries.sized(Size::Two)?;
-        let header = match version {
-            2..=4 => read_old_header(&mut entries, offset_size, section)?,
-            5 => read_new_header(&mut entries, offset_size)?,
-            _ => return Err(DebugFault::UnknownVersion),
-        };
+        let version = part.sized(Size::Two)?;
+        let header = read_header(version, &mut part, format, section)?;
         Ok(Unit {
             start,
             encoding: Encoding {
@@ -131,7 +174,30 @@ impl<'a> Unit<'a> {
             },
             abbreviations: abbreviations.table(header.abbreviations)?,
             type_offset: header.type_offset,
-            entries,
+            entries: part,
         })
+    }
+
+    /// Reads the header of the next unit, and moves past the unit.
+    ///
+    /// # Errors
+    ///
+    /// `Truncated`, `BadLength`, `UnknownVersion`; `BadOffset` if no abbreviations are where they should be; `Unsupported` if
+    /// an address has neither four nor eight bytes, or if the lists of the unit are in another file.
+    #[tactic(auto, unfolding(crate::specs::Units::spelled_unit))]
+    pub fn read(
+        input: &mut Cursor<'a>,
+        section: UnitSection,
+        abbreviations: &'a Abbreviations,
+    ) -> Result<Unit<'a>, DebugFault>
+        ensures gives { Gives (λ u. (unit_of u, input.new.rest.now)) result
+            (spelled_unit section (tables_of abbreviations.now) input.old.end input.old.rest.now) }
+        ensures end { input.new.end ≡ input.old.end }
+        ensures shorter { OnOk result (length input.new.rest.now < length input.old.rest.now) }
+    {
+        let start = input.at();
+        let (format, length) = input.initial_length()?;
+        let part = input.part(length)?;
+        Unit::of_part(start, format, part, section, abbreviations)
     }
 }

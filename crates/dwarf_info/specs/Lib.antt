@@ -1,0 +1,18 @@
+-- the forms of values
+pub mod Forms
+-- what attributes mean
+pub mod Attributes
+-- values up to what ends them
+pub mod UpToEnd
+-- abbreviations
+pub mod Abbreviations
+pub mod Sound
+pub mod InMemory
+-- units
+pub mod Units
+-- what becomes of attributes
+pub mod Effects
+-- values of the code
+pub mod Views
+pub mod UnitViews
+pub mod Contexts
