@@ -1,9 +1,10 @@
 //! Where the addresses of a module's code go, from the places of its operators.
 
-use crate::places::{OperatorPlaces, PlacedBody, PlacedOperator};
+use crate::places::{OperatorPlaces, PlacedPiece};
 use code_moves::{Body, LocalMove, MoveError, Moves, Runs};
 use dwarf_bytes::{DebugError, DebugFault};
 use std::alloc::Global;
+use walrus_ir::InstrLocId;
 use wasm_module::{Bodies, ModuleError, ParsedModule, SectionKind, Sections};
 use wasm_numbers::read_u32;
 use wasm_ops::Reader;
@@ -87,79 +88,103 @@ struct BodyPlaces {
     parameters: u32,
 }
 
-/// Adds an operator to the runs of its body.
+/// Adds the operator that was at this location and is written at this place to the runs of its body.
 fn push_operator(
     both: &Both<'_>,
-    operator: PlacedOperator,
+    old: InstrLocId,
+    new: usize,
     runs: &mut Runs,
 ) -> Result<(), DebugError> {
-    let own = both.written.address(operator.new as usize)?;
-    if operator.old.is_default() {
+    let own = both.written.address(new)?;
+    if old.is_default() {
         return runs.push_added(own).map_err(of_moves);
     }
-    let place = operator.old.data() as usize;
-    let old = both.source.address(place)?;
+    let place = old.data() as usize;
+    let begin = both.source.address(place)?;
     let end = both.source.address(both.source.end_of(place)?)?;
-    runs.push(old, end, own).map_err(of_moves)
+    runs.push(begin, end, own).map_err(of_moves)
 }
 
-/// The declared locals that these operators name, by ascending index in the source, each with its new index.
-fn locals_of(
-    alloc: Global,
-    both: &Both<'_>,
-    operators: &[PlacedOperator],
-    parameters: u32,
-) -> Result<Vec<LocalMove>, DebugError> {
-    let mut locals: Vec<LocalMove> = Vec::new(alloc);
-    for operator in operators {
-        if operator.old.is_default() {
-            continue;
-        }
-        let old = both.source.local_of(operator.old.data() as usize);
-        let new = both.written.local_of(operator.new as usize);
-        if let (Some(old), Some(new)) = (old, new) {
-            if old >= parameters {
-                locals.push(LocalMove { old, new })?;
+/// The declared local that this operator names, with its new index, if it is one of the source that names one.
+fn local_of(both: &Both<'_>, old: InstrLocId, new: usize, parameters: u32) -> Option<LocalMove> {
+    if old.is_default() {
+        return None;
+    }
+    let old = both.source.local_of(old.data() as usize)?;
+    let new = both.written.local_of(new)?;
+    match old >= parameters {
+        true => Some(LocalMove { old, new }),
+        false => None,
+    }
+}
+
+/// What is known of a body from its operators, as far as they were told.
+#[derive(Drop)]
+struct ToldOperators {
+    runs: Runs,
+    /// The declared locals that they name, each with its new index.
+    locals: Vec<LocalMove>,
+}
+
+impl ToldOperators {
+    /// Adds the operators of a piece.
+    fn push_piece(
+        &mut self,
+        both: &Both<'_>,
+        start: usize,
+        pairs: &[(InstrLocId, usize)],
+        parameters: u32,
+    ) -> Result<(), DebugError> {
+        for (old, place) in pairs {
+            let new = start.saturating_add(*place);
+            push_operator(both, *old, new, &mut self.runs)?;
+            if let Some(local) = local_of(both, *old, new, parameters) {
+                self.locals.push(local)?;
             }
         }
+        Ok(())
     }
-    locals.sort_by_key(|local: &LocalMove| local.old)?;
-    locals.dedup_by_key(|local| local.old);
-    Ok(locals)
 }
 
-/// Where the addresses of a body go.
+/// Where the addresses of a body go whose operators are in these pieces. The list of pairs is memory that is lent.
 fn body_of(
-    alloc: Global,
     both: &Both<'_>,
-    places: &BodyPlaces,
-    operators: &[PlacedOperator],
+    places: &OperatorPlaces,
+    pieces: &[PlacedPiece],
+    body: &BodyPlaces,
+    pairs: &mut Vec<(InstrLocId, usize)>,
 ) -> Result<Body, DebugError> {
-    let begin = both.source.address(places.begin)?;
-    let new_begin = both.written.address(places.new_begin)?;
-    let mut runs = Runs::new(alloc, begin, new_begin);
-    for operator in operators {
-        push_operator(both, *operator, &mut runs)?;
+    let alloc = *pairs.allocator();
+    let begin = both.source.address(body.begin)?;
+    let new_begin = both.written.address(body.new_begin)?;
+    let mut told = ToldOperators {
+        runs: Runs::new(alloc, begin, new_begin),
+        locals: Vec::new(alloc),
+    };
+    for piece in pieces {
+        places.pairs_of(piece, pairs)?;
+        told.push_piece(both, piece.start, pairs, body.parameters)?;
     }
-    let locals = locals_of(alloc, both, operators, places.parameters)?;
-    let end = both.source.address(places.end)?;
-    let new_end = both.written.address(places.new_end)?;
-    runs.into_body(end, new_end, places.parameters, locals)
+    let ToldOperators { runs, mut locals } = told;
+    locals.sort_by_key(|local: &LocalMove| local.old)?;
+    locals.dedup_by_key(|local| local.old);
+    let end = both.source.address(body.end)?;
+    let new_end = both.written.address(body.new_end)?;
+    runs.into_body(end, new_end, body.parameters, locals)
         .map_err(of_moves)
 }
 
-/// The operators of the body at this place of the list.
-fn operators_of(places: &OperatorPlaces, body: usize) -> &[PlacedOperator] {
-    let bounds = |place: &PlacedBody| place.first;
-    let first = places.bodies.get(body).map_or(0, bounds);
-    let end = places
-        .bodies
-        .get(body.saturating_add(1))
-        .map_or(places.operators.len(), bounds);
-    places.operators.get(first..end).unwrap_or(&[])
+/// The first of these pieces, those of the body that begins at this place of the source; and the others.
+fn parted(pieces: &[PlacedPiece], old_start: usize) -> (&[PlacedPiece], &[PlacedPiece]) {
+    let count = pieces
+        .iter()
+        .position(|piece| piece.old_start != old_start)
+        .unwrap_or(pieces.len());
+    let own = pieces.get(..count).unwrap_or(&[]);
+    (own, pieces.get(count..).unwrap_or(&[]))
 }
 
-/// How many parameters each function has, and where its body is in the source: the places of each body.
+/// The bodies of a module, in order: how many parameters each function has, and where its body is.
 fn add_bodies(
     alloc: Global,
     parsed: &ParsedModule<'_>,
@@ -169,18 +194,21 @@ fn add_bodies(
     moves: &mut Moves,
 ) -> Result<(), DebugError> {
     let mut written = written;
+    let mut left = places.pieces.as_slice();
+    let mut pairs = Vec::new(alloc);
     let Ok(functions) = parsed.functions() else {
         return Err(unknown());
     };
-    let mut index = 0;
     for function in functions {
         let Some(body) = function.body else {
             continue;
         };
-        let (Some(new), Some(told)) = (written.next(), places.bodies.get(index)) else {
+        let (pieces, following) = parted(left, body.start());
+        left = following;
+        let Some(new) = written.next() else {
             return Err(unknown());
         };
-        if told.old_start != body.start() {
+        if pieces.is_empty() {
             return Err(unknown());
         }
         let parameters = parsed.params(function.ty).len();
@@ -191,9 +219,8 @@ fn add_bodies(
             new_end: new.start().saturating_add(new.bytes().len()),
             parameters: u32::try_from(parameters).map_err(|_| unknown())?,
         };
-        let moved = body_of(alloc, both, &place, operators_of(places, index))?;
+        let moved = body_of(both, places, pieces, &place, &mut pairs)?;
         moves.push(moved).map_err(of_moves)?;
-        index += 1;
     }
     Ok(())
 }

@@ -3,35 +3,31 @@
 ghost use Rattle.std.specs.Prelude.{◌≡◌};
 ghost use Rattle.module_debug.specs.Places.{wants_places};
 
-use std::alloc::Global;
+use location_pairs::{pack, unpack};
+use std::alloc::{AllocError, Global};
 use std::io;
 use walrus_ir::InstrLocId;
 use wasm_module::WrittenBody;
 
-/// A body that was written.
+/// Operators of a body that was written, one after the other: all of them, or of a large body some.
 #[derive(Clone, Copy)]
-pub(crate) struct PlacedBody {
-    /// The place of its first byte in the source.
+pub(crate) struct PlacedPiece {
+    /// The place of the body's first byte in the source.
     pub old_start: usize,
-    /// The first of its operators, among those of all bodies.
-    pub first: usize,
-}
-
-/// An operator that was written.
-#[derive(Clone, Copy)]
-pub(crate) struct PlacedOperator {
-    /// Its place in the source, or the default location if it isn't one of the source.
-    pub old: InstrLocId,
     /// Its place in the module that was written.
-    pub new: u32,
+    pub start: usize,
+    /// Where the location pairs of the operators begin among those of all pieces, packed.
+    from: usize,
+    /// Where they end there.
+    to: usize,
 }
 
 /// The operators of a module that is written, each with its places. A listener is told of bodies and passes them on to
-/// `record`.
+/// `record`. They take some two bytes for each operator, and 32 for each body.
 #[derive(Drop)]
 pub struct OperatorPlaces {
-    pub(crate) bodies: Vec<PlacedBody>,
-    pub(crate) operators: Vec<PlacedOperator>,
+    pub(crate) pieces: Vec<PlacedPiece>,
+    packed: Vec<u8>,
     is_wanted: bool,
 }
 
@@ -39,8 +35,8 @@ impl OperatorPlaces {
     /// No operators yet. If they aren't wanted, none are recorded.
     pub fn new(alloc: Global, is_wanted: bool) -> OperatorPlaces {
         OperatorPlaces {
-            bodies: Vec::new(alloc),
-            operators: Vec::new(alloc),
+            pieces: Vec::new(alloc),
+            packed: Vec::new(alloc),
             is_wanted,
         }
     }
@@ -52,37 +48,43 @@ impl OperatorPlaces {
         self.is_wanted
     }
 
-    /// The body is one that wasn't told of before: of a large body a listener is told more than once.
-    fn begin(&mut self, old_start: usize) -> io::Result<()> {
-        let first = self.operators.len();
-        match self.bodies.last() {
-            Some(body) if body.old_start == old_start => Ok(()),
-            _ => match self.bodies.push(PlacedBody { old_start, first }) {
-                Ok(()) => Ok(()),
-                Err(_) => Err(io::Error::from(io::ErrorKind::OutOfMemory)),
-            },
-        }
+    /// Adds the operators of a body, or of a piece of one.
+    fn push(&mut self, body: WrittenBody<'_>) -> Result<(), AllocError> {
+        let from = self.packed.len();
+        pack(body.pairs, &mut self.packed)?;
+        let to = self.packed.len();
+        self.pieces.push(PlacedPiece {
+            old_start: body.old_start,
+            start: body.start,
+            from,
+            to,
+        })?;
+        Ok(())
     }
 
     /// Records the operators of a body, if they are wanted.
     ///
     /// # Errors
     ///
-    /// `OutOfMemory`; `FileTooLarge` where a place doesn't fit 32 bits.
+    /// `OutOfMemory`.
     pub fn record(&mut self, body: WrittenBody<'_>) -> io::Result<()> {
         if !self.is_wanted {
             return Ok(());
         }
-        self.begin(body.old_start)?;
-        for (old, place) in body.pairs {
-            let Ok(new) = u32::try_from(body.start.saturating_add(*place)) else {
-                return Err(io::Error::from(io::ErrorKind::FileTooLarge));
-            };
-            match self.operators.push(PlacedOperator { old: *old, new }) {
-                Ok(()) => {}
-                Err(_) => return Err(io::Error::from(io::ErrorKind::OutOfMemory)),
-            }
+        match self.push(body) {
+            Ok(()) => Ok(()),
+            Err(_) => Err(io::Error::from(io::ErrorKind::OutOfMemory)),
         }
-        Ok(())
+    }
+
+    /// Puts the location pairs of the operators of a piece into a list that is lent. The places are counted
+    /// from the first byte of the body.
+    pub(crate) fn pairs_of(
+        &self,
+        piece: &PlacedPiece,
+        pairs: &mut Vec<(InstrLocId, usize)>,
+    ) -> Result<(), AllocError> {
+        let packed = self.packed.get(piece.from..piece.to).unwrap_or(&[]);
+        unpack(packed, pairs)
     }
 }

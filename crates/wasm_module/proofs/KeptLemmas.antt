@@ -12,7 +12,7 @@ use Rattle.wasm_module.specs.declared.parsed.ParsedModule.{ParsedModule}
 use Rattle.wasm_sections.specs.CodeSections.{BodyAt, body_at, TakesBody}
 use Rattle.wasm_module.specs.RewrittenCode.{FunctionChange, IsChanged, AreChanged}
 use Rattle.wasm_module.specs.KeptParts.{AreWithin}
-use Rattle.wasm_module.specs.KeptCode.{kept_source, bodies_in, raw_in, raws_in, IsKept, AreKept, AreKeptAs, StayKeptAs, KeepsAtMost, KeepsChanged}
+use Rattle.wasm_module.specs.KeptCode.{kept_source, bodies_in, raw_in, raws_in, IsKept, AreKept, AreKeptAs, KeepsAtMost, KeepsChanged}
 use Rattle.wasm_module.specs.WrittenModules.{RawWriting, count_bodies}
 
 -- ---- lists of them
@@ -33,12 +33,12 @@ pub raws_len : (all : List ℕ) (ks : List KeptBody) → length (raws_in all ks)
 raws_len all [] = refl
 raws_len all (k ∷ ks) = ap (λ (n : ℕ). suc n) (raws_len all ks)
 
-body_of : (ks : List KeptBody) (n : ℕ) (k : KeptBody) → slice_get ks n ≡ Some k → slice_get (bodies_in ks) n ≡ Some (kept_source k)
+pub body_of : (ks : List KeptBody) (n : ℕ) (k : KeptBody) → slice_get ks n ≡ Some k → slice_get (bodies_in ks) n ≡ Some (kept_source k)
 body_of [] n k e = let no : None ≡ Some k = e in absurd cc
 body_of (x ∷ ks) zero k e = ap (λ (o : Option KeptBody). option_map (λ (k : KeptBody). kept_source k) o) e
 body_of (x ∷ ks) (suc n) k e = body_of ks n k e
 
-raw_of : (all : List ℕ) (ks : List KeptBody) (n : ℕ) (k : KeptBody) → slice_get ks n ≡ Some k → slice_get (raws_in all ks) n ≡ Some (raw_in all k)
+pub raw_of : (all : List ℕ) (ks : List KeptBody) (n : ℕ) (k : KeptBody) → slice_get ks n ≡ Some k → slice_get (raws_in all ks) n ≡ Some (raw_in all k)
 raw_of all [] n k e = let no : None ≡ Some k = e in absurd cc
 raw_of all (x ∷ ks) zero k e = ap (λ (o : Option KeptBody). option_map (λ (k : KeptBody). raw_in all k) o) e
 raw_of all (x ∷ ks) (suc n) k e = raw_of all ks n k e
@@ -169,7 +169,7 @@ kept_either writes source b raw old f c r every here (inr e) =
 
 pub stay_kept :
     (writes : RawWriting) (source : ParsedModule) (b : Body) (raw : List ℕ) (old new : KeptBodies) → KeepsAtMost b raw old new → writes source b.func (body_at b) raw →
-    StayKeptAs writes source old new
+    AreKeptAs writes source old → AreKeptAs writes source new
 stay_kept writes source b raw old new most here every f c r k = kept_either writes source b raw old f c r every here (most source f c r k)
 
 -- ---- the functions of bodies, changed one after the other

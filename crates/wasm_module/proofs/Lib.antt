@@ -8,6 +8,7 @@ pub mod WritingLemmas
 pub mod ToldLemmas
 pub mod CodeLemmas
 pub mod KeptLemmas
+pub mod KeptPairLemmas
 pub mod NewSectionLemmas
 pub mod SectionLemmas
 -- names of custom sections

@@ -1,5 +1,5 @@
 -- The bytes that spell a module are its sections, in one way.
-use Rattle.std.proofs.Common.{◌≡◌, ◌⊎◌, ◌==◌, ℕ, zero, suc, ◌+◌, ◌-◌, ◌<◌, ◌≤◌, nat_le, Bool, true, false, cond, if◌then◌else◌, List, [], ◌∷◌, ◌++◌, length, take, drop, bytes_eq, Option, Some, None, Result, Ok, Err, refl, sym, ap, ◌∙◌, subst, inl, inr, arith, append_assoc, length-append, length-take}
+use Rattle.std.proofs.Common.{◌≡◌, ℕ, zero, suc, ◌-◌, ◌<◌, ◌≤◌, nat_le, if◌then◌else◌, List, [], ◌∷◌, ◌++◌, length, take, drop, bytes_eq, Result, Ok, Err, refl, sym, ap, ◌∙◌, subst, inl, inr, arith, append_assoc, length-append, length-take}
 use Rattle.std.proofs.lemmas.Bool.Decides.{nat_tests}
 use Rattle.std.proofs.lemmas.List.{take-append-drop}
 use Rattle.std.proofs.lemmas.Slice.Eq.{bytes_eq-Decides}
@@ -9,11 +9,10 @@ use Rattle.wasm_numbers.specs.Numbers.{unsigned, u32}
 use Rattle.wasm_numbers.specs.Results.{◌>>=◌, with_fault}
 use Rattle.wasm_numbers.proofs.Agreement.{chosen}
 use Rattle.wasm_numbers.proofs.ResultLemmas.{bind_ok, ok_same, with_fault_ok}
-use Rattle.wasm_sections.specs.declared.fault.ModuleError.{ModuleError}
 use Rattle.wasm_sections.specs.declared.fault.ModuleFault.{ModuleFault}
 use Rattle.wasm_sections.specs.declared.fault.ModuleFault.TheVariants as fault
 use Rattle.wasm_sections.specs.Components.{Components, no_components, contents_of, sections_from, is_magic, is_version, preamble_part, counts_agree, module_of}
-use Rattle.wasm_sections.specs.Parts.{Part, fault_here, item_fault, just, ◌>=>◌, checked, one_byte, number, piece}
+use Rattle.wasm_sections.specs.Parts.{fault_here, item_fault, just, ◌>=>◌, checked, one_byte, number, piece}
 use Rattle.wasm_sections.specs.Sections.{SectionAt, BeginsSection, AreSections, IsModule, preamble, known_section, section_part, rank_with}
 use Rattle.wasm_sections.proofs.NumberLemmas.{number_takes, is_shorter, before_last}
 use Rattle.wasm_module.specs.ReadModules.{HasOneSpelling}

@@ -1,16 +1,15 @@
 -- What is read from a module that consists of the same as another has the same items.
-use Rattle.std.proofs.Common.{◌≡◌, ℕ, List, Option, Result, Ok, refl, sym, ap, subst, ◌∙◌}
+use Rattle.std.proofs.Common.{◌≡◌, ℕ, List, Option, refl, sym, ap, subst, ◌∙◌}
 use Rattle.wasm_numbers.proofs.ResultLemmas.{ok_same}
 use Rattle.wasm_operators.specs.declared.types.Space.{Space}
 use Rattle.wasm_operators.specs.declared.types.Space.TheVariants as spaces
-use Rattle.wasm_sections.specs.declared.fault.ModuleError.{ModuleError}
-use Rattle.wasm_sections.specs.Components.{Components, count_in, module_of}
+use Rattle.wasm_sections.specs.Components.{Components, count_in}
 use Rattle.wasm_sections.specs.Declarations.{first_numbers}
 use Rattle.wasm_sections.specs.NextItems.{own_numbers}
 use Rattle.wasm_module.specs.declared.parsed.ParsedModule.{ParsedModule}
 use Rattle.wasm_module.specs.ReadFrom.{IsModuleOf}
 use Rattle.wasm_module.specs.ReadModules.{components_of}
-use Rattle.wasm_module.specs.ReadAgain.{HasSameItems, IsReadAgain}
+use Rattle.wasm_module.specs.ReadAgain.{IsReadAgain}
 use Rattle.wasm_module.specs.SameModules.{HasWrittenCode, IsSameModule}
 use Rattle.wasm_module.specs.WrittenModules.{BodyWriting}
 

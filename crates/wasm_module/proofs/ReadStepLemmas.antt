@@ -1,38 +1,29 @@
 -- The steps in which a module is read: items, imports, sections.
-use Rattle.std.proofs.Common.{◌≡◌, ◌⊎◌, ◌==◌, ℕ, zero, suc, ◌+◌, ◌-◌, ◌<◌, ◌≤◌, ◌^◌, nat_lt, Bool, true, false, cond, if◌then◌else◌, List, [], ◌∷◌, ◌++◌, length, Option, Some, None, Result, Ok, Err, IfOk, IfErr, refl, sym, ap, ◌∙◌, subst, inl, inr, arith, length-append, ne_eqb}
-use Rattle.std.specs.List.{AllByRecursion}
-use Rattle.std.proofs.lemmas.Bool.Decides.{nat_tests}
-use Rattle.wasm_numbers.specs.Numbers.{unsigned}
+use Rattle.std.proofs.Common.{◌≡◌, ◌⊎◌, ℕ, ◌+◌, ◌-◌, ◌<◌, ◌^◌, cond, List, [], ◌∷◌, ◌++◌, length, Result, Ok, Err, IfOk, IfErr, refl, sym, ap, ◌∙◌, subst, inl, inr, length-append}
 use Rattle.wasm_numbers.specs.Results.{◌>>=◌, with_fault, Gives}
-use Rattle.wasm_numbers.proofs.Agreement.{chosen}
-use Rattle.wasm_numbers.proofs.ResultLemmas.{bind_ok, ok_same, with_fault_ok}
+use Rattle.wasm_numbers.proofs.ResultLemmas.{with_fault_ok}
 use Rattle.wasm_operators.specs.declared.types.Space.{Space}
 use Rattle.wasm_operators.specs.declared.types.Space.TheVariants as spaces
 use Rattle.wasm_body.specs.declared.error.IndexError.{IndexError}
-use Rattle.wasm_body.specs.declared.error.IndexError.TheVariants as index_error
-use Rattle.walrus_maps.specs.IndexMaps.{ids_in, with_next_number}
+use Rattle.walrus_maps.specs.IndexMaps.{ids_in}
 use Rattle.wasm_sections.specs.declared.fault.ModuleError.{ModuleError}
 use Rattle.wasm_sections.specs.declared.fault.ModuleFault.{ModuleFault}
 use Rattle.wasm_sections.specs.declared.fault.ModuleFault.TheVariants as fault
 use Rattle.wasm_sections.specs.declared.imports.Imported.{Imported}
-use Rattle.wasm_sections.specs.declared.imports.Imported.TheVariants as imported
-use Rattle.wasm_sections.specs.declared.sections.Section.{Section}
 use Rattle.wasm_sections.specs.declared.sections.SectionKind.{SectionKind}
 use Rattle.wasm_sections.specs.declared.sections.SectionKind.TheVariants as kinds
-use Rattle.wasm_sections.specs.declared.sections.Sections.{Sections}
 use Rattle.wasm_sections.specs.declared.spaces.Counts.{Counts}
 use Rattle.wasm_sections.specs.declared.spaces.Spaces.{Spaces}
-use Rattle.wasm_sections.specs.Components.{Components, no_components, count_in, one_more_in, function_type_of, with_one_function, with_one_tag, with_one_table, with_one_memory, with_one_global, with_one_import, import_step, export_step, item_step, items_part, contents_of, sections_from, preamble_part, counts_agree, module_of}
+use Rattle.wasm_sections.specs.Components.{Components, count_in, one_more_in, function_type_of, with_one_function, with_one_tag, with_one_import, import_step, export_step, item_step}
 use Rattle.wasm_sections.specs.Faults.{section_index_fault}
 use Rattle.wasm_sections.specs.Format.{name_part, imported_part, at_place, placed_import_part, export_space, index_part, known_export_part, table_part, limits_part, global_part, element_segment_part, data_segment_part}
 use Rattle.wasm_sections.specs.NextItems.{HasNextIndex, HasNextNumber, NoNextItem, AreIndices}
-use Rattle.wasm_sections.specs.Parts.{Part, fault_here, just, passed, ◌>=>◌, checked, repeated, one_byte, number, whole_part, GivesUnlessMemory}
-use Rattle.wasm_sections.specs.Sections.{section_id, section_at, rank, section_part, rank_with, next_section, BeginsSection, TakesSection}
-use Rattle.wasm_sections.proofs.NumberLemmas.{number_takes, is_shorter}
+use Rattle.wasm_sections.specs.Parts.{Part, fault_here, passed, checked, one_byte, GivesUnlessMemory}
+use Rattle.wasm_sections.specs.Sections.{section_id}
 use Rattle.wasm_sections.proofs.TypeReadingLemmas.{first_gives, first_fails, FailsUnlessMemory}
 use Rattle.wasm_module.specs.declared.parsed.ParsedModule.{ParsedModule}
 use Rattle.wasm_module.specs.ReadModules.{components_of, with_value, IsReadSoFar, StepsTo, AddsTo, fault_at, index_error_at, counted_part, with_counted}
-use Rattle.wasm_module.proofs.ReadingLemmas.{same_space, next_item, numbered_next, ids_count, one_more_given, no_more_given, error_is, with_counts, SectionsLeft}
+use Rattle.wasm_module.proofs.ReadingLemmas.{same_space, next_item, numbered_next, ids_count, one_more_given, no_more_given, error_is, with_counts}
 
 -- ---- one step after the other
 

@@ -1,10 +1,10 @@
 -- One more item of a module that is read: each id stays the index of its item, and its number.
-use Rattle.std.proofs.Common.{◌≡◌, ◌⊎◌, ◌==◌, ℕ, zero, suc, ◌+◌, ◌-◌, ◌<◌, ◌≤◌, ◌^◌, nat_lt, Bool, true, false, cond, if◌then◌else◌, List, [], ◌∷◌, ◌++◌, length, slice_get, Option, Some, None, is_some, option_and_then, Result, Ok, Err, IsErr, OnOk, IfErr, refl, sym, ap, ◌∙◌, subst, inl, inr, arith, add-one, length-append, replicate}
+use Rattle.std.proofs.Common.{◌≡◌, ◌⊎◌, ◌==◌, ℕ, zero, suc, ◌+◌, ◌-◌, ◌<◌, ◌≤◌, ◌^◌, nat_lt, Bool, true, false, cond, if◌then◌else◌, List, [], ◌∷◌, ◌++◌, length, slice_get, Option, Some, None, is_some, option_and_then, Result, Ok, Err, IsErr, OnOk, IfErr, refl, sym, ap, ◌∙◌, subst, inl, inr, arith, add-one, replicate}
 use Rattle.std.specs.List.{AllByRecursion}
 use Rattle.std.proofs.lemmas.List.{length-replicate}
 use Rattle.std.specs.Ordering.{nat_cmp}
 use Rattle.std.specs.Cmp.{nat_cmp_total}
-use Rattle.std.specs.FinMap.{FinMap, empty, get, len, get-insert, get-empty, len-insert, len-empty}
+use Rattle.std.specs.FinMap.{FinMap, get, len, get-empty, len-insert, len-empty}
 use Rattle.std.proofs.lemmas.Bool.Decides.{nat_tests}
 use Rattle.std.proofs.lemmas.Option.{slice_get_cases, slice_get_past}
 use Rattle.wasm_operators.specs.declared.types.Space.{Space}
@@ -13,7 +13,7 @@ use Rattle.wasm_body.specs.declared.error.IndexError.{IndexError}
 use Rattle.wasm_body.specs.declared.error.IndexError.TheVariants as index_error
 use Rattle.walrus_maps.specs.declared.indices_to_ids.IndicesToIds.{IndicesToIds}
 use Rattle.walrus_maps.specs.declared.ids_to_indices.IdsToIndices.{IdsToIndices}
-use Rattle.walrus_maps.specs.IndexMaps.{id_of, ids_in, with_ids_in, with_next_id, numbers_in, with_numbers, with_number, with_next_number, number_of, numbered}
+use Rattle.walrus_maps.specs.IndexMaps.{id_of, ids_in, with_ids_in, numbers_in, with_numbers, with_number, with_next_number, numbered}
 use Rattle.walrus_maps.proofs.NumberingLemmas.{get-numbered}
 use Rattle.walrus_ir.specs.Types.{ModuleType, Func, Entry, Other, signature_in, signature_of}
 use Rattle.wasm_body.specs.declared.error.ParseError.TheVariants as parse

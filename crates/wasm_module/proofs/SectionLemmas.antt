@@ -10,7 +10,7 @@ use Rattle.wasm_sections.specs.declared.changes.Changes.{Changes}
 use Rattle.wasm_sections.specs.declared.omissions.OmittedSections.{OmittedSections}
 use Rattle.wasm_module.specs.ToldBodies.{ToldBody, IsTold}
 use Rattle.wasm_module.specs.ToldModules.{section_told, sections_told, PutsWithNew, PutsModule}
-use Rattle.wasm_module.specs.WrittenModules.{Puts, BodyWriting, new_after, NewFitAfter, IsWrittenAt, AreWrittenAt, IsWrittenModule}
+use Rattle.wasm_module.specs.WrittenModules.{Puts, BodyWriting, new_after, NewFitAfter, IsWrittenAt, AreWrittenAt}
 use Rattle.wasm_module.proofs.ToldLemmas.{told_then}
 use Rattle.wasm_module.proofs.WritingLemmas.{puts_then, puts_same}
 

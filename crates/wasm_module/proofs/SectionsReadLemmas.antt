@@ -1,10 +1,9 @@
 -- The sections of a module are read, one after the other.
-use Rattle.std.proofs.Common.{◌≡◌, ◌⊎◌, ◌==◌, ◌≢◌, ℕ, zero, suc, ◌+◌, ◌-◌, ◌<◌, ◌≤◌, nat_lt, Bool, true, false, cond, if◌then◌else◌, List, [], ◌∷◌, ◌++◌, length, Option, Some, None, Result, Ok, Err, refl, sym, ap, ◌∙◌, subst, inl, inr, arith, length-append}
+use Rattle.std.proofs.Common.{◌≡◌, ◌==◌, ◌≢◌, ℕ, zero, suc, ◌-◌, ◌<◌, ◌≤◌, nat_lt, if◌then◌else◌, List, [], ◌∷◌, ◌++◌, length, Some, None, Result, Ok, Err, refl, sym, ap, ◌∙◌, subst, inl, inr, arith, length-append}
 use Rattle.std.proofs.lemmas.Bool.Decides.{nat_tests}
-use Rattle.std.specs.Ordering.{nat_cmp}
-use Rattle.std.specs.FinMap.{FinMap, empty}
+use Rattle.std.specs.FinMap.{empty}
 use Rattle.wasm_numbers.specs.Numbers.{unsigned}
-use Rattle.wasm_numbers.specs.Results.{◌>>=◌, with_fault, Gives}
+use Rattle.wasm_numbers.specs.Results.{◌>>=◌, with_fault}
 use Rattle.wasm_numbers.proofs.Agreement.{chosen}
 use Rattle.wasm_numbers.proofs.ResultLemmas.{bind_ok, ok_same, with_fault_ok}
 use Rattle.wasm_operators.specs.declared.types.Space.{Space}
@@ -19,15 +18,15 @@ use Rattle.wasm_sections.specs.declared.sections.Sections.{Sections}
 use Rattle.walrus_ir.specs.Types.{ModuleType}
 use Rattle.wasm_sections.specs.declared.spaces.Counts.{Counts}
 use Rattle.wasm_sections.specs.declared.spaces.Spaces.{Spaces}
-use Rattle.wasm_sections.specs.Components.{Components, no_components, count_in, custom_section, contents_of, sections_from, preamble_part, counts_agree, module_of}
+use Rattle.wasm_sections.specs.Components.{Components, no_components, count_in, contents_of, sections_from, counts_agree}
 use Rattle.wasm_sections.specs.Declarations.{first_numbers}
 use Rattle.wasm_sections.specs.Format.{name_part}
-use Rattle.wasm_sections.specs.NextItems.{no_counts, own_numbers, AreIndices}
+use Rattle.wasm_sections.specs.NextItems.{no_counts, own_numbers}
 use Rattle.wasm_sections.specs.Parts.{fault_here}
-use Rattle.wasm_sections.specs.Sections.{section_id, section_at, rank, section_part, rank_with, next_section, BeginsSection, TakesSection}
+use Rattle.wasm_sections.specs.Sections.{section_id, rank, section_part, rank_with, next_section, TakesSection}
 use Rattle.wasm_sections.proofs.NumberLemmas.{number_takes, is_shorter}
-use Rattle.wasm_sections.proofs.TypeReadingLemmas.{first_gives, first_fails, FailsUnlessMemory}
-use Rattle.wasm_module.specs.ReadModules.{IsReadSoFar, StepsTo}
+use Rattle.wasm_sections.proofs.TypeReadingLemmas.{first_gives, first_fails}
+use Rattle.wasm_module.specs.ReadModules.{IsReadSoFar}
 use Rattle.wasm_module.proofs.ReadingLemmas.{SectionsLeft}
 
 -- ---- before anything is read

@@ -9,7 +9,7 @@ use Rattle.wasm_sections.specs.declared.omissions.OmittedSections.{OmittedSectio
 use Rattle.wasm_module.specs.declared.changing.kept_bodies.KeptBodies.{KeptBodies}
 use Rattle.wasm_module.specs.declared.parsed.ParsedModule.{ParsedModule}
 use Rattle.wasm_sections.specs.CodeSections.{BodyAt}
-use Rattle.wasm_module.specs.KeptCode.{bodies_in, raws_in, IsKept, AreKept, AreKeptAs, kept_or, StaysWritten, IsChangedCode}
+use Rattle.wasm_module.specs.KeptCode.{bodies_in, raws_in, IsKept, AreKept, AreKeptAs, AreKeptWithAs, kept_or, kept_with_or, StaysWritten, IsChangedCode}
 use Rattle.wasm_module.specs.RewrittenCode.{Extends, OneChange, FunctionChange, IsChanged, keeps_locals, alike, AreChanged}
 use Rattle.wasm_sections.specs.Sections.{preamble, SectionAt, IsModule}
 use Rattle.wasm_module.specs.ToldModules.{section_told, sections_told, module_told}
@@ -17,6 +17,7 @@ use Rattle.wasm_module.specs.WrittenModules.{BodyWriting, new_after, with_any_pa
 use Rattle.wasm_module.specs.WrittenModules.IsWrittenFor.{code, replaced, carried_over, omitted}
 use Rattle.wasm_module.proofs.CodeLemmas.{same_bodies, same_count}
 use Rattle.wasm_module.proofs.KeptLemmas.{bodies_len, raws_len}
+use Rattle.wasm_module.proofs.KeptPairLemmas.{kept_with_then}
 
 -- ---- one meaning for another
 
@@ -167,6 +168,20 @@ module _ (w : BodyWriting) (source now : ParsedModule) (kept : KeptBodies) (x : 
       (changes : NewSections) (left_out : OmittedSections) (new : List ℕ) → IsWrittenModule (kept_or kept w) now changes left_out new →
       IsWrittenModule w source changes left_out new
   kept_module_as changes left_out new h = module_by (kept_or kept w) w source now x kept_code_as changes left_out new h
+
+-- Where what is kept with its pairs was written in this way, and all others are: the module is written so, and the same bodies are told.
+module _ (w : BodyWriting) (source now : ParsedModule) (kept : KeptBodies) (x : Extends source now) (every : AreKeptWithAs w source kept) (before : StaysWritten w source now) where
+  either_with : (f : ℕ) (b : BodyAt) (raw : List ℕ) (ps : List Pair) → kept_with_or kept w now f b raw ps → w source f b raw ps
+  either_with f b raw ps (inl k) = every f b raw ps (kept_with_then kept source now f b raw ps k)
+  either_with f b raw ps (inr h) = before f b raw ps h
+
+  pub kept_module_with :
+      (changes : NewSections) (left_out : OmittedSections) (new : List ℕ) (h : IsWrittenModule (kept_with_or kept w) now changes left_out new) →
+      (v : IsWrittenModule w source changes left_out new) × (module_told w source changes left_out new v ≡ module_told (kept_with_or kept w) now changes left_out new h)
+  kept_module_with changes left_out new h = (
+    module_as (kept_with_or kept w) w source now x either_with changes left_out new h,
+    module_told_as (kept_with_or kept w) w source now x either_with changes left_out new h,
+  )
 
 -- ---- functions that are all changed alike
 

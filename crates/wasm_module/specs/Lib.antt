@@ -33,3 +33,5 @@ pub mod VisitedFunctions
 pub mod SameModules
 -- a module that is read from what was written
 pub mod ReadAgain
+-- the numbers under which bodies are written
+pub mod WrittenNumbers

@@ -1,5 +1,5 @@
 -- A module that was read: what its bytes spell (WebAssembly core specification 3.0, binary format, modules).
-use Rattle.std.specs.Prelude.{◌≡◌, ◌⊎◌, ◌==◌, ◌<◌, ◌≤◌, ◌^◌, ℕ, List, length, [], ◌∷◌, Option, Some, None, option_map, if◌then◌else◌, Result, Ok, Err}
+use Rattle.std.specs.Prelude.{◌≡◌, ◌⊎◌, ◌==◌, ◌<◌, ◌≤◌, ◌^◌, ℕ, List, length, [], Option, Some, None, option_map, if◌then◌else◌, Result, Ok, Err}
 use Rattle.std.specs.List.{AllByRecursion}
 use Rattle.walrus_ir.specs.Types.{ModuleType, Func, Entry, Other}
 use Rattle.wasm_body.specs.declared.error.IndexError.{IndexError}
@@ -9,7 +9,6 @@ use Rattle.wasm_sections.specs.declared.fault.ModuleError.{ModuleError}
 use Rattle.wasm_sections.specs.declared.fault.ModuleFault.{ModuleFault}
 use Rattle.wasm_sections.specs.declared.fault.ModuleFault.TheVariants as fault
 use Rattle.wasm_sections.specs.declared.input.Input.{Input}
-use Rattle.wasm_sections.specs.declared.spaces.Counts.{Counts}
 use Rattle.wasm_sections.specs.declared.spaces.Spaces.{Spaces}
 use Rattle.wasm_sections.specs.Components.{Components, with_one_table, with_one_memory, with_one_global, with_one_element, with_one_data}
 use Rattle.wasm_sections.specs.Faults.{section_index_fault}

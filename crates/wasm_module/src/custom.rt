@@ -151,7 +151,7 @@ fn read_metadata<'a>(
 }
 
 /// The new index of each local of a function that is written.
-fn local_numbers(
+pub(crate) fn local_numbers(
     parsed: &ParsedModule<'_>,
     function: &LocalFunction,
     start: usize,

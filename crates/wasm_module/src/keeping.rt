@@ -1,11 +1,12 @@
 //! Keeping the bodies of a module as they are written in the first pass over it, so that the second
 //! needn't write them again.
 
-ghost use Rattle.std.specs.Prelude.{◌≡◌, ℕ, List, [], true, OnOk, IfOk};
+ghost use Rattle.std.specs.Prelude.{◌≡◌, ℕ, List, [], true, false, OnOk, IfOk};
 ghost use Rattle.walrus_emit_state.specs.Emission.{Output};
 ghost use Rattle.wasm_module.specs.declared.parsed.ParsedModule.{ParsedModule as Parsed};
-ghost use Rattle.wasm_module.specs.KeptCode.{IsKept, kept_or, KeepsAtMost};
+ghost use Rattle.wasm_module.specs.KeptCode.{IsKept, kept_or, KeepsAtMost, KeepsAtMostWith};
 ghost use Rattle.wasm_module.specs.Pieces.{counts_nothing, counts_both, KeepsPiece, keeps_nothing, keeps_both};
+ghost use Rattle.wasm_module.specs.WantedPairs.{wants_pairs};
 ghost use Rattle.wasm_sections.specs.CodeSections.{body_at};
 
 use crate::bodies::Scratch;
@@ -27,7 +28,7 @@ pub struct Keeping {
     pub most: usize,
     /// Whether location pairs are kept as well, for a second pass with a listener that needs them.
     /// They take some two bytes for each operator. Those of bodies of more than 64 KB are never kept.
-    /// That they are those of the body is tested, and not proved.
+    /// `Kept::with_pairs` writes them.
     pub pairs: bool,
 }
 
@@ -42,6 +43,12 @@ impl Keeping {
     pub const CODE: Keeping = Keeping {
         most: 64 << 20,
         pairs: false,
+    };
+
+    /// The same, with location pairs.
+    pub const CODE_WITH_PAIRS: Keeping = Keeping {
+        most: 64 << 20,
+        pairs: true,
     };
 }
 
@@ -82,7 +89,9 @@ impl<'a> Keeper<'a> {
     }
 
     /// What is needed of a body that is written, where this is needed anyway.
-    pub fn needed(&self, needed: Needed) -> Needed {
+    pub fn needed(&self, needed: Needed) -> Needed
+        ensures { self.now.keeping.pairs ≡ true → wants_pairs result ≡ true }
+    {
         match needed {
             Needed::Nothing => Needed::if_pairs(self.keeping.pairs),
             more => more,
@@ -109,7 +118,9 @@ impl<'a> Keeper<'a> {
 
     /// Keeps what was written for a body, if it can.
     pub fn keep(&mut self, body: Body<'a>, scratch: &Scratch)
-        ensures { KeepsAtMost body.entry scratch.now.raw.items self.old.kept self.new.kept }
+        ensures raws { KeepsAtMost body.entry scratch.now.raw.items self.old.kept self.new.kept }
+        ensures pairs { KeepsAtMostWith self.old.keeping.pairs body.entry scratch.now.raw.items
+            scratch.now.pairs.items self.old.kept self.new.kept }
     {
         if !self.kept.is_next(body.func) || scratch.raw.len() > self.room() {
             self.give_up();
@@ -144,8 +155,9 @@ impl<'a> Keeper<'a> {
 
     /// Keeps a large body that a sink took, if it can.
     pub fn keep_large(&mut self, body: Body<'a>, large: &LargeBody<'a>)
-        ensures { (raw : List ℕ) → (large.now.is_whole ≡ true → large.now.raw.items ≡ raw)
+        ensures raws { (raw : List ℕ) → (large.now.is_whole ≡ true → large.now.raw.items ≡ raw)
             → KeepsAtMost body.entry raw self.old.kept self.new.kept }
+        ensures pairs { KeepsAtMostWith false body.entry [] [] self.old.kept self.new.kept }
     {
         if !large.is_whole || !self.kept.is_next(body.func) {
             self.give_up();
@@ -209,7 +221,7 @@ impl<'a> ByteSink for LargeBody<'a> {
 }
 
 /// How the bodies of a module are written of which some are kept: these as they were written, and all
-/// others, and those of which something is needed that isn't kept, by `B`.
+/// others, and those of which more than their bytes is needed, by `B`.
 #[derive(Drop)]
 pub struct Kept<'a, B> {
     pub(crate) kept: KeptBodies<'a>,
@@ -269,8 +281,8 @@ fn give_in_pieces<S: ByteSink>(
 }
 
 impl<B> Kept<'_, B> {
-    /// Puts what is kept for a body into the scratch, if that is all that is needed of it. Returns
-    /// whether it did.
+    /// Puts what is kept for a body into the scratch, if nothing else is needed of it. Returns whether
+    /// it did.
     fn put(
         &self,
         body: Body<'_>,
@@ -282,9 +294,8 @@ impl<B> Kept<'_, B> {
             scratch.new.raw.items) }
     {
         match needed {
-            Needed::Nothing => self.kept.put(body, false, scratch),
-            Needed::Pairs => self.kept.put(body, true, scratch),
-            Needed::Function => Ok(false),
+            Needed::Nothing => self.kept.put(body, scratch),
+            Needed::Pairs | Needed::Function => Ok(false),
         }
     }
 }

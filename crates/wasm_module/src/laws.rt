@@ -4,7 +4,7 @@
 ghost use Rattle.std.specs.Prelude.{◌≡◌, ℕ, List, [], Ok};
 ghost use Rattle.wasm_module.specs.declared.changing.kept_bodies.KeptBodies.{KeptBodies as Kept};
 ghost use Rattle.wasm_module.specs.declared.parsed.ParsedModule.{ParsedModule as Parsed};
-ghost use Rattle.wasm_module.specs.KeptCode.{IsKept, AreKept, AreKeptAs, kept_or, StaysWritten, IsChangedCode};
+ghost use Rattle.wasm_module.specs.KeptCode.{IsKept, AreKept, AreKeptAs, AreKeptWithAs, kept_or, kept_with_or, StaysWritten, IsChangedCode};
 ghost use Rattle.wasm_module.specs.ModuleCode.{HasCode};
 ghost use Rattle.wasm_module.specs.RewrittenCode.{Extends, IsRewrittenWith};
 ghost use Rattle.wasm_module.specs.ReadModules.{HasOneSpelling};
@@ -14,6 +14,7 @@ ghost use Rattle.wasm_sections.specs.declared.changes.Changes.{Changes as NewSec
 ghost use Rattle.wasm_sections.specs.declared.omissions.OmittedSections.{OmittedSections as Omitted};
 ghost use Rattle.wasm_sections.specs.Components.{Components, module_of};
 ghost use Rattle.wasm_sections.specs.Sections.{SectionAt, IsModule};
+ghost use Rattle.wasm_module.specs.ToldModules.{module_told};
 ghost use Rattle.wasm_module.specs.WrittenModules.{with_any_pairs, with_some_pairs, IsWrittenCode, IsWrittenModule};
 
 use crate::body_writer::{BodyWriter, ChangeFunction};
@@ -30,9 +31,9 @@ pub fn law_changed_code<C: ChangeFunction>()
 
 /// What `write_module` writes from what `rewrite_with` kept, and of other bodies as these write them, is
 /// what these write of all bodies, for the module as it was before: where what they write for it as it is
-/// now is what they write for it as it was before, as of `Rewriting` (`law_rewritten_before`). Of the
-/// location pairs of kept bodies nothing is said: who needs pairs has all bodies written
-/// (`RewrittenModule::take_bodies`).
+/// now is what they write for it as it was before, as of `Rewriting` (`law_rewritten_before`). Where
+/// bodies are kept with their location pairs (`Kept::with_pairs`), a listener is told of the pairs of what
+/// these write.
 pub fn law_kept_module<B: BodyWriter>(bodies: &B)
     ensures module { (source now : Parsed) (kept : Kept) (changes : NewSections) (omitted : Omitted)
         (new : List ℕ) → Extends source now
@@ -45,6 +46,13 @@ pub fn law_kept_module<B: BodyWriter>(bodies: &B)
         → StaysWritten (B.writes bodies.now) source now
         → IsWrittenCode (kept_or kept (B.writes bodies.now)) now s code
         → IsWrittenCode (B.writes bodies.now) source s code }
+    ensures pairs { (source now : Parsed) (kept : Kept) (changes : NewSections) (omitted : Omitted)
+        (new : List ℕ) → Extends source now → AreKeptWithAs (B.writes bodies.now) source kept
+        → StaysWritten (B.writes bodies.now) source now
+        → (w : IsWrittenModule (kept_with_or kept (B.writes bodies.now)) now changes omitted new)
+        → (v : IsWrittenModule (B.writes bodies.now) source changes omitted new)
+        × (module_told (B.writes bodies.now) source changes omitted new v
+        ≡ module_told (kept_with_or kept (B.writes bodies.now)) now changes omitted new w) }
 {}
 
 /// What is written for a body of a module that was rewritten is what was written for it before, with

@@ -6,9 +6,11 @@ ghost use Rattle.std.specs.Prelude.{◌≡◌, List, [], not, true, false, OnOk,
 ghost use Rattle.wasm_sections.specs.Omissions.{OmitsNothing, OmitsAlso, KeepsAlso, OmitsSame};
 ghost use Rattle.wasm_sections.specs.Sections.{SectionAt, IsModule, Each, section_at};
 ghost use Rattle.wasm_module.specs.declared.parsed.ParsedModule.{ParsedModule as Parsed};
-ghost use Rattle.wasm_module.specs.KeptCode.{AreKeptAs, StayKeptAs};
+ghost use Rattle.wasm_module.specs.KeptCode.{AreKeptAs, AreKeptWithAs, AreKeptBodies, StayKept};
 ghost use Rattle.wasm_module.specs.RewrittenCode.{Extends, IsRewrittenWith};
 ghost use Rattle.wasm_sections.specs.CodeSections.{body_at};
+ghost use Rattle.wasm_body.specs.Pairs.{Pair};
+ghost use Rattle.wasm_module.specs.WantedPairs.{wants_pairs};
 ghost use Rattle.wasm_module.specs.WrittenModules.{new_contents_in, IsReplacedBy, IsCarriedOver, IsOmitted, IsNotOmitted, IsLinked, with_some_pairs};
 
 use crate::bodies::Scratch;
@@ -269,7 +271,7 @@ impl<'a> ParsedModule<'a> {
     ) -> Result<Measured, ModuleError>
         ensures extends { OnOk result (Extends self.old self.new) }
         ensures kept { (source : Parsed) → Extends source self.old → OnOk result
-            (StayKeptAs (with_some_pairs (B.writes bodies.now)) source keeper.old.kept keeper.new.kept) }
+            (StayKept (B.writes bodies.now) source keeper.old.kept keeper.new.kept) }
     {
         let mut sink = keeper.large(body);
         match bodies.write_large_body(self, body, false, scratch, &mut sink) {
@@ -291,7 +293,7 @@ impl<'a> ParsedModule<'a> {
     ) -> Result<Measured, ModuleError>
         ensures extends { OnOk result (Extends self.old self.new) }
         ensures kept { (source : Parsed) → Extends source self.old → OnOk result
-            (StayKeptAs (with_some_pairs (B.writes bodies.now)) source keeper.old.kept keeper.new.kept) }
+            (StayKept (B.writes bodies.now) source keeper.old.kept keeper.new.kept) }
     {
         match self.is_to_be_kept(body, keeper) {
             true => self.write_large(bodies, body, keeper, scratch),
@@ -310,8 +312,9 @@ impl<'a> ParsedModule<'a> {
     ) -> Result<(), ModuleError>
         ensures extends { OnOk result (Extends self.old self.new) }
         ensures written { (source : Parsed) → Extends source self.old → OnOk result
-            (with_some_pairs (B.writes bodies.now) source body.entry.func (body_at body.entry)
-            scratch.new.raw.items) }
+            ((pairs : List Pair)
+            × B.writes bodies.now source body.entry.func (body_at body.entry) scratch.new.raw.items pairs
+            × (wants_pairs needed ≡ true → scratch.new.pairs.items ≡ pairs)) }
     {
         match bodies.write_body(self, body, needed, scratch) {
             Ok(None) => Ok(()),
@@ -332,7 +335,7 @@ impl<'a> ParsedModule<'a> {
     ) -> Result<Measured, ModuleError>
         ensures extends { OnOk result (Extends self.old self.new) }
         ensures kept { (source : Parsed) → Extends source self.old → OnOk result
-            (StayKeptAs (with_some_pairs (B.writes bodies.now)) source keeper.old.kept keeper.new.kept) }
+            (StayKept (B.writes bodies.now) source keeper.old.kept keeper.new.kept) }
     {
         let needed = followers.reach(body.func)?;
         if needed == Needed::Nothing && body.is_large() {
@@ -374,7 +377,7 @@ impl<'a> ParsedModule<'a> {
     ) -> Result<(KeptBodies<'a>, Measured), ModuleError>
         ensures extends { OnOk result (Extends self.old self.new) }
         ensures kept { (source : Parsed) → Extends source self.old → IfOk result
-            (λ x. AreKeptAs (with_some_pairs (B.writes bodies.now)) source x.0) }
+            (λ x. AreKeptBodies (B.writes bodies.now) source x.0) }
     {
         let mut keeper = self.keeper(keeping);
         let mut scratch = Box::new(self.alloc, Scratch::new(self.alloc))?;
@@ -433,6 +436,8 @@ impl<'a> ParsedModule<'a> {
         ensures bodies { IfOk result (λ made. made.bodies.bodies ≡ bodies) }
         ensures kept { (source : Parsed) → Extends source self.old → IfOk result
             (λ made. AreKeptAs (with_some_pairs (B.writes bodies)) source made.bodies.kept) }
+        ensures pairs { (source : Parsed) → Extends source self.old → IfOk result
+            (λ made. AreKeptWithAs (B.writes bodies) source made.bodies.kept) }
         ensures changes { IfOk result (λ made. made.changes ≡ changes) }
         ensures omitted { IfOk result (λ made. OmitsNothing made.omitted) }
         ensures linked { (all : List SectionAt) → IsModule self.old.bytes.now all

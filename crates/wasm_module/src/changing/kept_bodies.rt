@@ -1,16 +1,14 @@
 //! Bodies that are kept from the first pass over a module to the second, as they are written.
 
 ghost use Rattle.std.specs.Prelude.{◌≡◌, ◌+◌, ◌≤◌, length};
-ghost use Rattle.wasm_module.specs.KeptParts.{AreWithin};
+ghost use Rattle.wasm_module.specs.KeptParts.{AreWithin, ArePacks};
 
 use crate::bodies::Scratch;
 use crate::body_writer::{BodyWriter, Needed};
 use crate::parsed::ParsedModule;
+use location_pairs::{pack, unpack};
 use std::alloc::{AllocError, Global};
 use walrus_body::LocalFunction;
-use walrus_ir::InstrLocId;
-use wasm_encode::write_number;
-use wasm_ops::read_u64;
 use wasm_sections::{Body, ModuleError, ModuleFault};
 
 /// A part of a list of bytes: from this place up to that one.
@@ -56,73 +54,18 @@ pub struct KeptBodies<'a> {
     /// Their packed location pairs, likewise.
     pairs: Vec<u8>,
     ghost within: { AreWithin (length raws.items) bodies.items },
-}
-
-/// Appends location pairs in few bytes: their number, and then of each how far its place is from
-/// the one before, and its location: 0 for the default location, and else 1 more than how far it is
-/// from the one before that isn't the default one.
-fn pack(pairs: &[(InstrLocId, usize)], packed: &mut Vec<u8>) -> Result<(), AllocError> {
-    write_number(packed, pairs.len() as u64)?;
-    let mut last_place = 0usize;
-    let mut last = 0u32;
-    for (location, place) in pairs {
-        write_number(packed, place.wrapping_sub(last_place) as u64)?;
-        last_place = *place;
-        if location.is_default() {
-            write_number(packed, 0)?;
-        } else {
-            let number = location.data();
-            write_number(packed, (number.wrapping_sub(last) as u64).saturating_add(1))?;
-            last = number;
-        }
-    }
-    Ok(())
-}
-
-/// The location with this number.
-fn location_of(number: u32) -> InstrLocId {
-    if number == u32::MAX {
-        return InstrLocId::default();
-    }
-    InstrLocId::new(number)
-}
-
-/// The number at the front of these bytes, and the bytes after it; 0 and none where there is no number.
-fn number_at(packed: &[u8]) -> (u64, &[u8]) {
-    match read_u64(packed) {
-        Ok(read) => read,
-        Err(_) => (0, &[]),
-    }
-}
-
-/// Puts location pairs that were packed into a list.
-fn unpack(packed: &[u8], pairs: &mut Vec<(InstrLocId, usize)>) -> Result<(), AllocError> {
-    pairs.clear();
-    let (count, mut left) = number_at(packed);
-    let mut place = 0usize;
-    let mut last = 0u32;
-    for _ in 0..count {
-        let (distance, following) = number_at(left);
-        let (code, rest) = number_at(following);
-        left = rest;
-        place = place.wrapping_add(distance as usize);
-        let location = match code.checked_sub(1) {
-            Some(step) => {
-                last = last.wrapping_add((step % 0x1_0000_0000) as u32);
-                location_of(last)
-            }
-            None => InstrLocId::default(),
-        };
-        pairs.push((location, place))?;
-    }
-    Ok(())
+    ghost packs: { ArePacks pairs.items bodies.items },
 }
 
 impl<'a> KeptBodies<'a> {
-    ghost use Rattle.std.specs.Prelude.{◌∷◌, ◌++◌, [], true, OnOk, IfOk, IfSome};
+    ghost use Rattle.std.specs.Prelude.{◌∷◌, ◌++◌, [], true, List, OnOk, IfOk, IfSome};
+    ghost use Rattle.std.specs.List.{between};
+    ghost use Rattle.location_pairs.specs.PackedPairs.{ArePackable, packed_pairs};
+    ghost use Rattle.wasm_body.specs.Pairs.{Pair};
     ghost use Rattle.wasm_module.specs.declared.parsed.ParsedModule.{ParsedModule as Parsed};
     ghost use Rattle.wasm_sections.specs.CodeSections.{body_at};
-    ghost use Rattle.wasm_module.specs.KeptCode.{bodies_in, raws_in, raw_in, IsKept};
+    ghost use Rattle.wasm_module.specs.KeptCode.{bodies_in, raws_in, raw_in, packs_in, packed_in, pack_if, IsKept, IsKeptWith, IsPackOf};
+    ghost use Rattle.wasm_module.specs.KeptParts.{IsPackAt};
 
     /// None, of a module whose first function with a body has this index. It allocates nothing.
     pub(crate) fn none(alloc: Global, first: usize) -> KeptBodies<'a>
@@ -180,8 +123,12 @@ impl<'a> KeptBodies<'a> {
         self.first.checked_add(self.bodies.len()) == Some(func)
     }
 
-    /// Keeps what is written for a body, the next one: this raw body, and location pairs of that kind.
+    /// Keeps what is written for a body, the next one: this raw body, and this part of the location pairs.
     fn keep_raw(&mut self, source: Body<'a>, raw: &[u8], pairs: Part) -> Result<(), AllocError>
+        requires pack { IsPackAt self.old.pairs.items pairs }
+        ensures packs { OnOk result (packs_in self.new.pairs.items self.new.bodies.items
+            ≡ packs_in self.old.pairs.items self.old.bodies.items
+            ++ between pairs.from pairs.to self.old.pairs.items ∷ []) }
         ensures first { OnOk result (self.new.first ≡ self.old.first) }
         ensures bodies { OnOk result (bodies_in self.new.bodies.items
             ≡ bodies_in self.old.bodies.items ++ body_at source.entry ∷ []) }
@@ -208,6 +155,8 @@ impl<'a> KeptBodies<'a> {
     ///
     /// Out of memory.
     pub(crate) fn keep_bytes(&mut self, source: Body<'a>, raw: &[u8]) -> Result<(), AllocError>
+        ensures packs { OnOk result (packs_in self.new.pairs.items self.new.bodies.items
+            ≡ packs_in self.old.pairs.items self.old.bodies.items ++ [] ∷ []) }
         ensures first { OnOk result (self.new.first ≡ self.old.first) }
         ensures bodies { OnOk result (bodies_in self.new.bodies.items
             ≡ bodies_in self.old.bodies.items ++ body_at source.entry ∷ []) }
@@ -226,6 +175,10 @@ impl<'a> KeptBodies<'a> {
     ///
     /// Out of memory.
     pub(crate) fn keep(&mut self, source: Body<'a>, scratch: &Scratch) -> Result<(), AllocError>
+        ensures packs { OnOk result (packs_in self.new.pairs.items self.new.bodies.items
+            ≡ packs_in self.old.pairs.items self.old.bodies.items
+            ++ packed_pairs scratch.now.pairs.items ∷ []) }
+        ensures fit { OnOk result (ArePackable scratch.now.pairs.items) }
         ensures first { OnOk result (self.new.first ≡ self.old.first) }
         ensures bodies { OnOk result (bodies_in self.new.bodies.items
             ≡ bodies_in self.old.bodies.items ++ body_at source.entry ∷ []) }
@@ -251,6 +204,10 @@ impl<'a> KeptBodies<'a> {
         scratch: &Scratch,
         has_pairs: bool,
     ) -> Result<(), AllocError>
+        ensures packs { OnOk result (packs_in self.new.pairs.items self.new.bodies.items
+            ≡ packs_in self.old.pairs.items self.old.bodies.items
+            ++ pack_if has_pairs scratch.now.pairs.items ∷ []) }
+        ensures fit { has_pairs ≡ true → OnOk result (ArePackable scratch.now.pairs.items) }
         ensures first { OnOk result (self.new.first ≡ self.old.first) }
         ensures bodies { OnOk result (bodies_in self.new.bodies.items
             ≡ bodies_in self.old.bodies.items ++ body_at source.entry ∷ []) }
@@ -265,8 +222,11 @@ impl<'a> KeptBodies<'a> {
 
     /// Where that is which is kept for this body, if something is.
     fn find(&self, body: Body<'_>) -> Option<KeptBody<'a>>
-        ensures { (source : Parsed) → IfSome result (λ kept. IsKept self.now source
+        ensures kept { (source : Parsed) → IfSome result (λ kept. IsKept self.now source
             body.entry.func (body_at body.entry) (raw_in self.now.raws.items kept)) }
+        ensures pack { (source : Parsed) → IfSome result (λ kept. IsPackOf self.now source
+            body.entry.func (body_at body.entry) (raw_in self.now.raws.items kept)
+            (packed_in self.now.pairs.items kept)) }
     {
         let Some(at) = body.func.checked_sub(self.first) else {
             return None;
@@ -285,8 +245,10 @@ impl<'a> KeptBodies<'a> {
 
     /// What is kept for this body, if something is.
     pub(crate) fn kept_for(&self, body: Body<'_>) -> Option<KeptBytes<'_>>
-        ensures { (source : Parsed) → IfSome result (λ kept. IsKept self.now source
+        ensures kept { (source : Parsed) → IfSome result (λ kept. IsKept self.now source
             body.entry.func (body_at body.entry) kept.raw.now) }
+        ensures pack { (source : Parsed) → IfSome result (λ kept. IsPackOf self.now source
+            body.entry.func (body_at body.entry) kept.raw.now kept.pairs.now) }
     {
         let kept = self.find(body)?;
         let raw = self.raws.get(kept.raw.from..kept.raw.to)?;
@@ -294,35 +256,65 @@ impl<'a> KeptBodies<'a> {
         Some(KeptBytes { raw, pairs })
     }
 
-    /// Puts what is kept for a body into the scratch, with its location pairs if they are needed.
-    /// Returns whether it did: not if it isn't kept, or if its pairs are needed and aren't.
+    /// Puts the raw body that is kept for a body into the scratch. Returns whether one is kept.
     ///
     /// # Errors
     ///
     /// `Memory`.
-    pub(crate) fn put(
-        &self,
-        body: Body<'_>,
-        needs_pairs: bool,
-        scratch: &mut Scratch,
-    ) -> Result<bool, ModuleError>
+    pub(crate) fn put(&self, body: Body<'_>, scratch: &mut Scratch) -> Result<bool, ModuleError>
         ensures { (source : Parsed) → IfOk result (λ is_put. is_put ≡ true → IsKept self.now source
             body.entry.func (body_at body.entry) scratch.new.raw.items) }
     {
         let Some(kept) = self.kept_for(body) else {
             return Ok(false);
         };
-        if needs_pairs && kept.pairs.is_empty() {
+        scratch.raw.clear();
+        scratch.raw.extend_from_slice(kept.raw)?;
+        Ok(true)
+    }
+
+    /// The same of a body that is kept with its location pairs, which are put there too. Returns
+    /// whether it is.
+    ///
+    /// # Errors
+    ///
+    /// `Memory`.
+    pub(crate) fn put_with_pairs(
+        &self,
+        body: Body<'_>,
+        scratch: &mut Scratch,
+    ) -> Result<bool, ModuleError>
+        ensures { (source : Parsed) → IfOk result (λ is_put. is_put ≡ true
+            → IsKeptWith self.now source body.entry.func (body_at body.entry)
+            scratch.new.raw.items scratch.new.pairs.items) }
+    {
+        let Some(kept) = self.kept_for(body) else {
+            return Ok(false);
+        };
+        if kept.pairs.is_empty() {
             return Ok(false);
         }
         let Scratch { raw, pairs, .. } = scratch;
-        pairs.clear();
-        if needs_pairs {
-            unpack(kept.pairs, pairs)?;
-        }
+        unpack(kept.pairs, pairs)?;
         raw.clear();
         raw.extend_from_slice(kept.raw)?;
         Ok(true)
+    }
+
+    /// The first, or where pairs are needed the second.
+    fn put_needed(
+        &self,
+        body: Body<'_>,
+        needed: Needed,
+        scratch: &mut Scratch,
+    ) -> Result<bool, ModuleError>
+        ensures { (source : Parsed) → IfOk result (λ is_put. is_put ≡ true → IsKept self.now source
+            body.entry.func (body_at body.entry) scratch.new.raw.items) }
+    {
+        match needed {
+            Needed::Nothing => self.put(body, scratch),
+            Needed::Pairs | Needed::Function => self.put_with_pairs(body, scratch),
+        }
     }
 }
 
@@ -344,7 +336,7 @@ impl BodyWriter for KeptBodies<'_> {
         scratch: &mut Scratch,
     ) -> Result<Option<LocalFunction>, ModuleError> {
         let _ = parsed;
-        match self.put(body, needed != Needed::Nothing, scratch)? {
+        match self.put_needed(body, needed, scratch)? {
             true => Ok(None),
             false => Err(ModuleError {
                 fault: ModuleFault::BodyCount,

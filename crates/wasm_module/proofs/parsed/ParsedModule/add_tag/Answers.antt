@@ -1,4 +1,4 @@
-use Rattle.std.proofs.Common.{ℕ, ◌≡◌, ◌++◌, ◌∷◌, [], length, refl}
+use Rattle.std.proofs.Common.{ℕ, ◌++◌, ◌∷◌, []}
 use Rattle.wasm_operators.specs.declared.types.Space.TheVariants as spaces
 use Rattle.wasm_sections.specs.Components.{Components}
 use Rattle.wasm_module.specs.ReadModules.{components_of}

@@ -1,7 +1,7 @@
 -- Each kind of item has an index space, in which its id is the next index and has the next number.
 use Rattle.std.proofs.Common.{sym, ◌∙◌}
 use Rattle.wasm_sections.specs.declared.sections.SectionKind.TheVariants as kind
-use Rattle.wasm_module.specs.ReadModules.{components_of, with_counted}
+use Rattle.wasm_module.specs.ReadModules.{components_of}
 use Rattle.wasm_module.proofs.ReadingLemmas.{for_kind, for_other_kind, table_counted, memory_counted, global_counted, element_counted, data_counted}
 use Rattle.wasm_module.proofs.parsed.ParsedModule.count_item.Goals as goal
 

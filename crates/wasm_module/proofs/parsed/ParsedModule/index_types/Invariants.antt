@@ -1,6 +1,4 @@
-use Rattle.std.proofs.Common.{◌≡◌, ◌≤◌, ◌^◌, [], List, length}
-use Rattle.walrus_ir.specs.Types.{ModuleType}
-use Rattle.wasm_sections.specs.NextItems.{AreIndices}
+use Rattle.std.proofs.Common.{◌≡◌, []}
 use Rattle.wasm_module.specs.ReadModules.{components_of, HasOtherSpaces, IsReadSoFar}
 use Rattle.wasm_module.proofs.ReadingLemmas.{TypesIndexed}
 use Rattle.wasm_module.proofs.parsed.ParsedModule.index_types.Given as goal

@@ -1,12 +1,11 @@
-use Rattle.wasm_module.specs.WrittenModules.{with_some_pairs}
 use Rattle.wasm_module.proofs.ModuleLemmas.{extends_same, extends_then}
-use Rattle.wasm_module.proofs.KeptLemmas.{none_as}
+use Rattle.wasm_module.proofs.KeptPairLemmas.{none_kept_as}
 use Rattle.wasm_module.proofs.parsed.ParsedModule.measure_code.Goals as goal
 
 pub bodies-init : goal.bodies-init
 bodies-init g c = record {
   extends = extends_same c.args.self.now;
-  kept = λ source e. none_as (with_some_pairs (g.B.BodyWriter.writes c.args.bodies.now)) source c.keeper-keeper.result.kept c.keeper-keeper.ensures;
+  kept = λ source e. none_kept_as (g.B.BodyWriter.writes c.args.bodies.now) source c.keeper-keeper.result.kept c.keeper-keeper.ensures;
 }
 
 pub bodies-preserved : goal.bodies-preserved

@@ -1,4 +1,4 @@
-use Rattle.std.proofs.Common.{◌≡◌, ◌+◌, ◌≤◌, ℕ, refl, sym, ap, ◌∙◌, arith}
+use Rattle.std.proofs.Common.{◌+◌, ◌≤◌, ℕ, refl, sym, ap, ◌∙◌, arith}
 use Rattle.wasm_operators.specs.declared.types.Space.TheVariants.{Data}
 use Rattle.wasm_sections.specs.declared.spaces.Counts.{Counts}
 use Rattle.wasm_sections.proofs.DefinedLemmas.{nothing_changed, numbers_kept, none_numbered, one_numbered}

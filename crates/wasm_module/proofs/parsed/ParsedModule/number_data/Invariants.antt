@@ -1,4 +1,4 @@
-use Rattle.std.proofs.Common.{◌≡◌, ◌≤◌}
+use Rattle.std.proofs.Common.{◌≡◌}
 use Rattle.wasm_operators.specs.declared.types.Space.TheVariants.{Data}
 use Rattle.wasm_sections.specs.DefinedItems.{NumbersData}
 use Rattle.wasm_module.specs.AddedItems.{ChangesNumbersAlone}

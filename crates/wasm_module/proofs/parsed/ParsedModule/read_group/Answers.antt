@@ -1,4 +1,4 @@
-use Rattle.std.proofs.Common.{◌-◌, ◌∙◌, refl, inl, ap}
+use Rattle.std.proofs.Common.{◌-◌, ◌∙◌, refl, inl}
 use Rattle.wasm_sections.specs.Format.{members_part, next_group, next_type}
 use Rattle.wasm_sections.specs.Parts.{repeated}
 use Rattle.wasm_sections.proofs.TypeReadingLemmas.{number_then, repeated_none, unless_memory_as}

@@ -1,4 +1,4 @@
-use Rattle.std.proofs.Common.{refl, ◌∙◌, inr}
+use Rattle.std.proofs.Common.{◌∙◌, inr}
 use Rattle.wasm_sections.specs.Components.{item_step, items_part}
 use Rattle.wasm_sections.specs.Parts.{number, repeated}
 use Rattle.wasm_sections.specs.Sections.{section_id}

@@ -1,6 +1,5 @@
 use Rattle.std.proofs.Common.{◌≡◌, ◌-◌}
-use Rattle.wasm_sections.specs.Components.{item_step, items_part}
-use Rattle.wasm_sections.specs.Parts.{repeated}
+use Rattle.wasm_sections.specs.Components.{items_part}
 use Rattle.wasm_sections.specs.Sections.{section_id}
 use Rattle.wasm_module.specs.ReadModules.{components_of, IsReadSoFar}
 use Rattle.wasm_module.proofs.ReadingLemmas.{ItemsLeft}

@@ -1,4 +1,4 @@
-use Rattle.std.proofs.Common.{length, Option, Some, Result, Ok, Err, sym, subst, inl, inr}
+use Rattle.std.proofs.Common.{length, Some, Result, sym, subst, inl, inr}
 use Rattle.wasm_numbers.specs.Results.{Gives}
 use Rattle.wasm_sections.specs.declared.fault.ModuleError.{ModuleError}
 use Rattle.wasm_sections.specs.declared.sections.Section.{Section}

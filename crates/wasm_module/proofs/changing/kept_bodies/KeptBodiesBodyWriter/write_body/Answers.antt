@@ -1,4 +1,4 @@
-use Rattle.std.proofs.Common.{ℕ, List, refl, rules}
+use Rattle.std.proofs.Common.{refl, rules}
 use Rattle.wasm_sections.specs.CodeSections.{body_at}
 use Rattle.wasm_module.specs.KeptCode.{IsKept}
 use Rattle.wasm_module.proofs.ModuleLemmas.{extends_same}
@@ -9,5 +9,5 @@ returns-in-true-clause-extends c = extends_same c.args.parsed.now
 
 pub returns-in-true-clause-written : goal.returns-in-true-clause-written
 returns-in-true-clause-written c = λ source e.
-    let kept : IsKept c.args.self.now source c.args.body.func (body_at c.args.body) c.put.new.scratch.raw.items = search rules in
-    (c.put.new.scratch.pairs.items, kept, λ wanted. refl)
+    let kept : IsKept c.args.self.now source c.args.body.func (body_at c.args.body) c.put_needed.new.scratch.raw.items = search rules in
+    (c.put_needed.new.scratch.pairs.items, kept, λ wanted. refl)

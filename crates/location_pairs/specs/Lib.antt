@@ -1,0 +1,2 @@
+-- location pairs in few bytes
+pub mod PackedPairs
