@@ -15,6 +15,7 @@ ATOMICS = SPECS + "AtomicOpcodes.antt"
 MEANING = SPECS + "Meaning.antt"
 REFERENCES = SPECS + "ReferenceOperations.antt"
 INSTRUCTIONS = "crates/wasm_body/specs/InstructionTable.antt"
+CONTROL = "crates/wasm_body/specs/Control.antt"
 RULES = "crates/wasm_typing/specs/RuleTable.antt"
 
 EQUATION = re.compile(r"^(\w+) (?:\((?:\w+\.)?([A-Z]\w*)((?: \w+)*)\)|(?:\w+\.)?([A-Z]\w*)) =\s*(.*)$", re.M)
@@ -158,6 +159,11 @@ class Definitions:
         immediates = {row.variant: row.right for row in rows if row.function == "reference_immediates"}
         opcodes = [row for row in rows if row.function == "reference_opcode"]
         return [replace(row, right=f"operation ({row.right}) ({immediates.get(row.variant)})") for row in opcodes]
+
+    def roles(self):
+        """The opcodes of operators that aren't plain, as the rows of `Control.antt` have them: bytes, and numbers after 0xfb."""
+        text = (self.top / CONTROL).read_text()
+        return {("" if number.startswith("0x") else "0xfb", int(number, 0)) for number in re.findall(r"^    \((\w+), an?_\w+\) ∷", text, re.M)}
 
     def named(self):
         """Each operator: its name, its opcode, and its row."""

@@ -1,4 +1,4 @@
-"""The list of all operators, for the scripts of crates/wbody_rows, and the table of docs/OPCODES.md."""
+"""The list of all operators, for the scripts of crates/wbody_rows, and the table of docs/proof/OPCODES.md."""
 import re
 
 from .definitions import row_at
@@ -30,9 +30,9 @@ def list_rows(definitions, found):
     return [HEADINGS] + [text for *_, text in sorted(rows)]
 
 
-# ---- docs/OPCODES.md
+# ---- docs/proof/OPCODES.md
 
-PAGE = "docs/OPCODES.md"
+PAGE = "docs/proof/OPCODES.md"
 # The kinds of immediates in the table, where they aren't those of the list.
 WORDS = {"block": "block type", "rethrow_depth": "depth", "delegate_depth": "depth", "labels": "labels and the default",
          "func": "function", "valtype": "value type", "memarg": "memory argument", "heap": "heap type", "v128": "sixteen bytes",

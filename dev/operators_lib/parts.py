@@ -96,4 +96,5 @@ def wrapped(before, names, after):
     line = before + ", ".join(names) + after
     if len(line) <= WIDTH:
         return [line]
-    return [before, *textwrap.wrap(", ".join(names) + ",", WIDTH, initial_indent="    ", subsequent_indent="    "), after]
+    # the last column of a line within stays free
+    return [before, *textwrap.wrap(", ".join(names) + ",", WIDTH - 1, initial_indent="    ", subsequent_indent="    "), after]

@@ -13,6 +13,7 @@ mod script;
 
 pub use inserting::{insert, insert_before};
 pub use laws::law_prepended;
+pub use merging::merge;
 pub use place::Place;
 pub use plain_instr::PlainInstr;
-pub use probe::Probe;
+pub use probe::{Edit, Probe};

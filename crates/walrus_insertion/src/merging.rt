@@ -55,7 +55,7 @@ fn append(old: Vec<(Instr, InstrLocId)>, edits: &[Edit], made: &mut Vec<(Instr, 
 ///
 /// Out of memory; the sequence is unchanged.
 #[tactic(auto, using(crate::proofs::Editing::edited_fits))]
-pub(crate) fn merge(alloc: Global, seq: &mut InstrSeq, edits: &[Edit]) -> Result<(), AllocError>
+pub fn merge(alloc: Global, seq: &mut InstrSeq, edits: &[Edit]) -> Result<(), AllocError>
     ensures ok { OnOk result
         (seq.new ≡ record seq.old { instrs = edited edits.now seq.old.instrs }) }
     ensures err { OnErr result (seq.new ≡ seq.old) }

@@ -14,7 +14,7 @@ use walrus_ir::{
 
 /// A step by which a sequence gets its new instructions.
 #[derive(Clone, Copy)]
-pub(crate) enum Edit {
+pub enum Edit {
     /// The next instruction stays.
     Keep,
     /// This one is inserted.
