@@ -1,0 +1,2 @@
+-- new indices in order, and without gaps
+pub mod NewIndices

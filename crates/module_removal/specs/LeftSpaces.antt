@@ -1,0 +1,28 @@
+-- Which items of a module are left, and the index that is written for each.
+use Rattle.std.specs.Prelude.{◌≡◌, ℕ, List, Bool, Option, None, Some}
+use denote.Ref.{Bor}
+use Rattle.wasm_operators.specs.declared.types.Space.{Space}
+use Rattle.wasm_operators.specs.declared.types.Space.TheVariants.{Tables, Types, Funcs, Globals, Memories, Elements, Data, Tags}
+use Rattle.item_sets.specs.ItemsLeft.{index_left}
+use Rattle.module_removal.specs.declared.item.Item.{Item}
+use Rattle.module_removal.specs.declared.left.LeftItems.{LeftItems}
+
+-- for each item of a space, whether it is left
+abbrev pub marks_of : LeftItems → Space → List Bool
+marks_of l Types = l.types.marks.items
+marks_of l Funcs = l.funcs.marks.items
+marks_of l Tables = l.tables.marks.items
+marks_of l Memories = l.memories.marks.items
+marks_of l Globals = l.globals.marks.items
+marks_of l Tags = l.tags.marks.items
+marks_of l Elements = l.elements.marks.items
+marks_of l Data = l.«data».marks.items
+
+-- the new index of an item: how many are left before it in its space, if it is left itself
+abbrev pub index_of : LeftItems → Item → Option ℕ
+index_of l item = index_left (marks_of l item.space) item.index
+
+-- the index that is written for an item: the new one, or its own where nothing is removed
+abbrev pub index_written : Option (Bor LeftItems) → Item → Option ℕ
+index_written None item = Some item.index
+index_written (Some l) item = index_of l.now item

@@ -1,0 +1,27 @@
+//! Items of a module removed: functions, globals, tables, memories, tags, segments, types and imports that nothing reaches,
+//! or that a caller names. What is left is written under new indices (WebAssembly core specification 3.0, structure,
+//! modules). Bodies are written by a layer above, under the numbers of what is left.
+#![tactic(auto)]
+
+mod alike;
+mod bounds;
+mod code;
+mod copier;
+mod counting;
+mod declared;
+mod followed;
+mod item;
+mod left;
+mod names;
+mod operators;
+mod parts;
+mod references;
+mod remainder;
+mod writing;
+
+pub use code::LeftCode;
+pub use item::{Item, ItemCounts, MODULE, SPACES};
+pub use left::LeftItems;
+pub use references::{References, references_of};
+pub use remainder::Remainder;
+pub use writing::remove;

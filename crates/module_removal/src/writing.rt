@@ -1,0 +1,324 @@
+//! A module without the items that are removed.
+
+use crate::code::LeftCode;
+use crate::copier::Copier;
+use crate::counting::defined_space;
+use crate::declared::put_declarations;
+use crate::followed::is_metadata;
+use crate::item::{Item, ItemCounts};
+use crate::names::left_names;
+use crate::parts::{done, group_members};
+use crate::remainder::Remainder;
+use std::alloc::Global;
+use wasm_ops::Space;
+use wasm_sections::{
+    Input, ModuleError, ModuleFault, PREAMBLE, Section, SectionKind, Sections, names_debug,
+    names_object, write_bytes, write_number,
+};
+
+/// A module while what is left of it is written.
+#[derive(Drop)]
+struct Writer<'m> {
+    alloc: Global,
+    remainder: &'m Remainder,
+    code: &'m LeftCode,
+    /// The numbers of items of the sections that were written.
+    next: ItemCounts,
+    /// The item that is copied.
+    kept: Copier<'m>,
+    /// One that is passed over.
+    passed: Copier<'m>,
+    /// The items of a section that are left.
+    items: Vec<u8>,
+    count: usize,
+    /// Whether the section of element segments was written, or its place was passed.
+    has_elements: bool,
+    out: Vec<u8>,
+}
+
+/// Appends a section with these contents.
+fn put_section(out: &mut Vec<u8>, kind: SectionKind, contents: &[u8]) -> Result<(), ModuleError> {
+    out.push(kind.id())?;
+    write_bytes(out, contents)
+}
+
+impl<'m> Writer<'m> {
+    /// Copies an item of a section of this kind.
+    fn copy(
+        copier: &mut Copier<'m>,
+        kind: SectionKind,
+        input: &mut Input<'_>,
+    ) -> Result<(), ModuleError> {
+        copier.clear();
+        match kind {
+            SectionKind::Import => {
+                done!(copier.import(input));
+                Ok(())
+            }
+            SectionKind::Function => copier.index(input, Space::Types),
+            SectionKind::Table => copier.table(input),
+            SectionKind::Memory => copier.limits(input),
+            SectionKind::Tag => copier.tag(input),
+            SectionKind::Global => copier.global(input),
+            SectionKind::Export => copier.export(input),
+            SectionKind::Element => copier.element(input),
+            _ => copier.data(input),
+        }
+    }
+
+    /// Adds the item that was copied to those of the section.
+    fn add(&mut self) -> Result<(), ModuleError> {
+        self.items.extend_from_slice(&self.kept.out)?;
+        self.count = self.count.saturating_add(1);
+        Ok(())
+    }
+
+    /// Whether the next item of this space is left.
+    fn is_next_left(&mut self, space: Space) -> bool {
+        let index = self.next.add(space);
+        self.remainder.left.space(space).is_left(index)
+    }
+
+    /// An item of this space, if it is left.
+    fn item(
+        &mut self,
+        kind: SectionKind,
+        space: Space,
+        input: &mut Input<'_>,
+    ) -> Result<(), ModuleError> {
+        if self.is_next_left(space) {
+            done!(Writer::copy(&mut self.kept, kind, input));
+            return self.add();
+        }
+        Writer::copy(&mut self.passed, kind, input)
+    }
+
+    /// An import, if it is left.
+    fn import(&mut self, input: &mut Input<'_>) -> Result<(), ModuleError> {
+        let mut after = *input;
+        self.passed.clear();
+        let space = done!(self.passed.import(&mut after));
+        if self.is_next_left(space) {
+            done!(Writer::copy(&mut self.kept, SectionKind::Import, input));
+            return self.add();
+        }
+        *input = after;
+        Ok(())
+    }
+
+    /// An export: all are left.
+    fn export(&mut self, input: &mut Input<'_>) -> Result<(), ModuleError> {
+        done!(Writer::copy(&mut self.kept, SectionKind::Export, input));
+        self.add()
+    }
+
+    /// The types of a recursive group, if they are left.
+    fn group(&mut self, input: &mut Input<'_>) -> Result<(), ModuleError> {
+        let (members, is_group) = done!(group_members(input));
+        if is_group
+            && self
+                .remainder
+                .left
+                .space(Space::Types)
+                .is_left(self.next.types)
+        {
+            self.items.push(0x4e)?;
+            done!(write_number(&mut self.items, members as usize));
+        }
+        for member in 0..members {
+            if !self.is_next_left(Space::Types) {
+                self.passed.clear();
+                done!(self.passed.subtype(input));
+                continue;
+            }
+            self.kept.clear();
+            done!(self.kept.subtype(input));
+            self.items.extend_from_slice(&self.kept.out)?;
+            if member == 0 {
+                self.count = self.count.saturating_add(1);
+            }
+        }
+        Ok(())
+    }
+
+    /// The items of a section that are left.
+    fn items(&mut self, section: &Section<'_>) -> Result<(), ModuleError> {
+        let mut input = section.contents;
+        let count = done!(input.number());
+        for _ in 0..count {
+            match section.kind {
+                SectionKind::Type => done!(self.group(&mut input)),
+                SectionKind::Import => done!(self.import(&mut input)),
+                SectionKind::Export => done!(self.export(&mut input)),
+                kind => match defined_space(kind) {
+                    Some(space) => done!(self.item(kind, space, &mut input)),
+                    None => return Ok(()),
+                },
+            }
+        }
+        Ok(())
+    }
+
+    /// The contents of a section with the items that were added; none if there are no items.
+    fn take_contents(&mut self) -> Result<Vec<u8>, ModuleError> {
+        let mut contents = Vec::new(self.alloc);
+        if self.count > 0 {
+            done!(write_number(&mut contents, self.count));
+            contents.extend_from_slice(&self.items)?;
+        }
+        self.items.clear();
+        self.count = 0;
+        Ok(contents)
+    }
+
+    /// Writes the section with the items that were added, unless there are none.
+    fn finish(&mut self, kind: SectionKind) -> Result<(), ModuleError> {
+        let contents = done!(self.take_contents());
+        if contents.is_empty() {
+            return Ok(());
+        }
+        put_section(&mut self.out, kind, &contents)
+    }
+
+    /// Writes the code section, unless no function with a body is left.
+    fn put_code(&mut self) -> Result<(), ModuleError> {
+        let code = self.code;
+        if code.count == 0 {
+            return Ok(());
+        }
+        self.items.extend_from_slice(&code.bodies)?;
+        self.count = code.count;
+        self.finish(SectionKind::Code)
+    }
+
+    /// Writes the element segments, with one more where functions have to be declared.
+    fn elements(&mut self) -> Result<(), ModuleError> {
+        if self.has_elements {
+            return Ok(());
+        }
+        self.has_elements = true;
+        let remainder = self.remainder;
+        if !remainder.undeclared.is_empty() {
+            done!(put_declarations(&remainder.undeclared, &remainder.left, &mut self.items));
+            self.count = self.count.saturating_add(1);
+        }
+        self.finish(SectionKind::Element)
+    }
+
+    /// The start function.
+    fn start(&mut self, mut input: Input<'_>) -> Result<(), ModuleError> {
+        self.kept.clear();
+        done!(self.kept.index(&mut input, Space::Funcs));
+        put_section(&mut self.out, SectionKind::Start, &self.kept.out)
+    }
+
+    /// The number of data segments, if there are any.
+    fn data_count(&mut self) -> Result<(), ModuleError> {
+        let count = self.remainder.left.space(Space::Data).count();
+        if count == 0 {
+            return Ok(());
+        }
+        let mut contents = Vec::new(self.alloc);
+        done!(write_number(&mut contents, count));
+        put_section(&mut self.out, SectionKind::DataCount, &contents)
+    }
+
+    /// Metadata of code.
+    fn metadata(&mut self, name: &str, contents: Input<'_>) -> Result<(), ModuleError> {
+        let left = &self.remainder.left;
+        let mut made = Vec::new(self.alloc);
+        done!(write_bytes(&mut made, name.as_bytes()));
+        let items = done!(self.code.operators.contents(self.alloc, left, contents));
+        made.extend_from_slice(&items)?;
+        put_section(&mut self.out, SectionKind::Custom, &made)
+    }
+
+    /// A custom section: names and metadata of code follow; debug information is left out, since its places don't.
+    fn custom(&mut self, section: &Section<'_>) -> Result<(), ModuleError> {
+        let (name, contents) = done!(section.named_input());
+        if names_object(name) {
+            return Err(ModuleError {
+                fault: ModuleFault::ObjectFile,
+                at: section.at,
+            });
+        }
+        if names_debug(name) {
+            return Ok(());
+        }
+        if name == "name" {
+            let names = done!(left_names(self.alloc, &self.remainder.left, self.code, contents));
+            return put_section(&mut self.out, SectionKind::Custom, &names);
+        }
+        if is_metadata(name) {
+            return self.metadata(name, contents);
+        }
+        self.out.extend_from_slice(section.whole)?;
+        Ok(())
+    }
+
+    /// A section that isn't custom.
+    fn section(&mut self, section: &Section<'_>) -> Result<(), ModuleError> {
+        if section.kind.rank() > SectionKind::Element.rank() {
+            done!(self.elements());
+        }
+        match section.kind {
+            SectionKind::Start => self.start(section.contents),
+            SectionKind::DataCount => self.data_count(),
+            SectionKind::Code => self.put_code(),
+            SectionKind::Element => {
+                done!(self.items(section));
+                self.elements()
+            }
+            kind => {
+                done!(self.items(section));
+                self.finish(kind)
+            }
+        }
+    }
+}
+
+/// Writes all sections.
+fn write_all(bytes: &[u8], writer: &mut Writer<'_>) -> Result<(), ModuleError> {
+    writer.out.extend_from_slice(&PREAMBLE)?;
+    for section in done!(Sections::new(bytes)) {
+        let section = done!(section);
+        match section.kind {
+            SectionKind::Custom => done!(writer.custom(&section)),
+            _ => done!(writer.section(&section)),
+        }
+    }
+    writer.elements()
+}
+
+/// The module with these bytes with the items that are left alone, and with this code. Each item keeps its order, and each
+/// index is the new one. Names and metadata of code follow; debug information is left out.
+///
+/// # Errors
+///
+/// `Unnumbered`, at its place, for an item that is named and removed; `ObjectFile`; or `Memory`.
+pub fn remove(
+    alloc: Global,
+    bytes: &[u8],
+    remainder: &Remainder,
+    code: &LeftCode,
+) -> Result<Vec<u8>, ModuleError> {
+    let mut writer = Writer {
+        alloc,
+        remainder,
+        code,
+        next: ItemCounts::default(),
+        kept: Copier::renumbering(alloc, &remainder.left),
+        passed: Copier::finding(alloc),
+        items: Vec::new(alloc),
+        count: 0,
+        has_elements: false,
+        out: Vec::new(alloc),
+    };
+    match write_all(bytes, &mut writer) {
+        Ok(()) => {
+            let Writer { out, .. } = writer;
+            Ok(out)
+        }
+        Err(error) => Err(error),
+    }
+}
