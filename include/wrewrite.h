@@ -91,7 +91,7 @@ struct wrewrite_outcome {
     size_t module_size;
     size_t map_size;
     /* What is wrong, with the name of the fault: "a label is not open (NoSuchLabel)". It ends with a zero byte, and is empty where
-     * nothing is wrong, and of WREWRITE_TOO_SMALL. docs/PROGRAMS.md lists the faults. */
+     * nothing is wrong, and of WREWRITE_TOO_SMALL. docs/use/PROGRAMS.md lists the faults. */
     char text[WREWRITE_TEXT_SIZE];
 };
 

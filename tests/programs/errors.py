@@ -143,7 +143,7 @@ def _(room):
 
 @case("PROGRAMS.md has each fault with its text")
 def _(room):
-    with open(f"{TOP}/docs/PROGRAMS.md", encoding="utf-8") as file:
+    with open(f"{TOP}/docs/use/PROGRAMS.md", encoding="utf-8") as file:
         rows = dict(re.findall(r"^\| `(\w+)` \| ([^|]*) \|", file.read(), re.M))
     sources = ("wasm_sections/src/fault.rt", "wasm_body/src/error.rt", "wasm_numbers/src/fault.rt", "source_map/src/fault.rt", "source_map/src/json_text/fault.rt")
     for source in sources:

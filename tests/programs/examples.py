@@ -1,5 +1,5 @@
-"""What the examples wone, wgc, wloops and wtrace print; and node runs the modules before and after."""
-from modules import BAD_LABEL, BAD_LOCAL, NOP, PREAMBLE, TRAP, TYPES, exports, functions, module, number, section, vector
+"""What the examples wone, wgrow, wloops and wtrace print; and node runs the modules before and after."""
+from modules import BAD_LABEL, BAD_LOCAL, PREAMBLE, TYPES, exports, functions, module, section, vector
 from runs import TOP, case, holds, node, same, stored
 
 
@@ -15,7 +15,7 @@ RUN_MODULE = """
 const bytes = require("fs").readFileSync(process.argv[1]);
 const logged = [];
 const traced = [];
-const imports = { m: { log: (number) => logged.push(number), tick: () => logged.push(0) }, host: { trace: (index) => traced.push(index) } };
+const imports = { m: { log: (number) => logged.push(number), tick: () => logged.push(0) }, host: { trace: (index) => traced.push(index), grow: () => logged.push("grow") } };
 const exported = new WebAssembly.Instance(new WebAssembly.Module(bytes), imports).exports;
 const called = (SCRIPT)(exported);
 console.log(JSON.stringify({ called, logged, traced }));
@@ -53,50 +53,7 @@ def _(room):
         holds("Error: ", err)
 
 
-@case("wgc: bodies that nothing reaches are taken away, and a run is as before")
-def _(room):
-    room.put("in", example("examples/data/garbage.wasm"))
-    room.put("out", room.works("wgc", "in"))
-    same(example("examples/data/garbage.wgc.wasm"), room.get("out"))
-    # the second run finds nothing more, but takes away the same bodies again
-    same(example("examples/data/garbage.wgc.wasm"), room.works("wgc", "out"))
-    runs_alike(room, "in", "out", "(exports) => exports.run()")
-
-
-@case("wgc: functions that element segments of each kind name are kept")
-def _(room):
-    # Of seven functions the first six are in segments: active, passive, of a table that is named, and declared, with indices and with
-    # expressions, whose type has a byte or two. The last one, 6, is in none: it is the number of an offset.
-    ref, offset = lambda index: b"\xd2" + number(index) + b"\x0b", b"\x41\6\x0b"
-    segments = [
-        b"\0" + offset + vector([b"\0"]),
-        b"\1\0" + vector([b"\1"]),
-        b"\2\0" + offset + b"\0" + vector([b"\2", b"\2"]),
-        b"\3\0" + vector([b"\3"]),
-        b"\4" + offset + vector([ref(4)]),
-        b"\5\x70" + vector([b"\xd0\x70\x0b", ref(5)]),
-        b"\6\0" + offset + b"\x70" + vector([ref(0)]),
-        b"\7\x63\x70" + vector([ref(0)]),
-    ]
-    table, elements = section(4, vector([b"\x70\0\7"])), section(9, vector(segments))
-
-    def of(bodies):
-        declared, code = functions(bodies)
-        return PREAMBLE + TYPES + declared + table + elements + code
-
-    room.put("in", of([NOP] * 7))
-    room.put("out", room.works("wgc", "in"))
-    same(of([b""] * 6 + [TRAP]), room.get("out"))
-
-
-@case("wgc: a real program runs as before")
-def _(room):
-    room.put("in", stored("sample.wasm"))
-    room.put("out", room.works("wgc", "in"))
-    runs_alike(room, "in", "out", SEEDS)
-
-
-@case("wgc, wloops, wtrace: a body that names what is added is refused as by wrewrite")
+@case("wgrow, wloops, wtrace: a body that names what is added is refused as by wrewrite")
 def _(room):
     # a global and a type that the module doesn't have, in a body with a loop; and a call through a type that it doesn't have
     table = section(4, vector([b"\x70\0\0"]))
@@ -107,16 +64,16 @@ def _(room):
         declared, code = functions([body])
         room.put("in", PREAMBLE + TYPES + declared + (table if body[0] == 0x41 else b"") + code)
         room.refuses("wrewrite", "in", "out", says=f"in: {place:#x}: function 0: {says}")
-        for program in ("wgc", "wloops", "wtrace"):
+        for program in ("wgrow", "wloops", "wtrace"):
             same((1, b"", f"{program}: in: {place:#x}: {says}\n"), room.run(program, "in"))
 
 
-@case("wgc, wloops, wtrace: a body that is refused, and words that are wrong")
+@case("wgrow, wloops, wtrace: a body that is refused, and words that are wrong")
 def _(room):
-    # The second body is reached, and the first isn't: both are looked at, in order.
+    # Both bodies are looked at, in order.
     room.put("in", module([BAD_LABEL, BAD_LOCAL], exported=exports([(b"out", 1)])))
     label = "in: 0x21: a label is not open (NoSuchLabel)\n"
-    for program in ("wgc", "wloops", "wtrace"):
+    for program in ("wgrow", "wloops", "wtrace"):
         same((1, b"", f"{program}: {label}"), room.run(program, "in"))
         room.put("other", b"\0asm\2\0\0\0")
         status, out, err = room.run(program, "other")
@@ -126,7 +83,7 @@ def _(room):
             same((2, b"", f"usage: {program} IN.wasm >OUT.wasm\n"), room.run(program, *words))
         same((1, b""), room.run(program, "none")[:2])
     for words in ([], ["wnone", "in"]):
-        same((2, b"", "usage: examples wgc|wloops|wtrace IN.wasm >OUT.wasm, or examples wone HEX\n"), room.run("examples", *words))
+        same((2, b"", "usage: examples wgrow|wloops|wtrace IN.wasm >OUT.wasm, or examples wone HEX\n"), room.run("examples", *words))
 
 
 @case("wloops: each loop counts its turns")
@@ -163,3 +120,15 @@ def _(room):
     room.put("again", room.works("wtrace", "out"))
     found = engine(room, "again", "(exports) => [exports.doubled(1)]")
     same({"called": [2], "logged": [0], "traced": [4, 3, 3, 2, 2, 1, 2, 1]}, found)
+
+
+@case("wgrow: each growth of a memory is told to the host before it")
+def _(room):
+    room.put("in", example("examples/data/grows.wasm"))
+    room.put("out", room.works("wgrow", "in"))
+    same(example("examples/data/grows.wgrow.wasm"), room.get("out"))
+    # from 1 page by 2; by 1 and 1, from 3 and 4; and by 0 from 5
+    script = "(exports) => [exports.grow(2), exports.twice(1), exports.twice(0), exports.memory.buffer.byteLength / 65536]"
+    same([1, 3 + 4, 5 + 5, 5], engine(room, "in", script)["called"])
+    found = engine(room, "out", script)
+    same(([1, 3 + 4, 5 + 5, 5], ["grow"] * 4), (found["called"], found["logged"]))

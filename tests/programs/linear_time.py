@@ -21,24 +21,24 @@ def many_types(count):
     return PREAMBLE + section(1, types) + section(3, vector([b"\0"])) + section(10, vector([sized(body)]))
 
 
-def seconds(room, *words):
-    """The least processor time of three runs of wrewrite."""
+def seconds(room, *words, program="wrewrite"):
+    """The least processor time of three runs of a program."""
     def once():
         before = resource.getrusage(resource.RUSAGE_CHILDREN)
-        room.works("wrewrite", *words)
+        room.works(program, *words)
         after = resource.getrusage(resource.RUSAGE_CHILDREN)
         return after.ru_utime + after.ru_stime - before.ru_utime - before.ru_stime
     return min(once() for _ in range(3))
 
 
-def is_nearly_linear(room, make, few, many, *words):
+def is_nearly_linear(room, make, few, many, *words, program="wrewrite"):
     """Ten times as much takes at most forty times the time, on a machine that does other work too: in an ordered map a look-up takes the
     logarithm, and more memory is slower; the square would be a hundred times. What a program takes that has nothing to do is left out.
     Where it seems to take longer it is run again, since other work makes both times longer, and the least counts."""
     least = seconds(room, "--check", room.put("none"))
     short = long = math.inf
     for _ in range(3):
-        once = (seconds(room, *words, room.put("in", make(count)), *(() if words else ("out",))) for count in (few, many))
+        once = (seconds(room, *words, room.put("in", make(count)), *(() if words else ("out",)), program=program) for count in (few, many))
         short, long = (min(pair) for pair in zip((short, long), once))
         if long <= 40 * max(short, least, 0.01):
             return

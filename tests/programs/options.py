@@ -8,7 +8,7 @@ from modules import DEBUG, DEBUG_WRITTEN, GOOD, GOOD_MAP, GOOD_WRITTEN, NAMED, N
 from runs import PROGRAMS, TOP, case, same
 from snipping_and_counting import FIB, FIB_COUNTED, IMPORT
 
-FUNCTION = {"wrewrite": [], "wcount": [], "wsnip": ["0"]}
+FUNCTION = {"wrewrite": [], "wcount": [], "wmeter": [], "wsnip": ["0"]}
 
 # Functions with names as Rust's compiler writes them, with the hash of one function; a comment has the demangled name of a mangled one.
 RUST = (
@@ -39,7 +39,7 @@ def _(room):
 
 @case("PROGRAMS.md has each option that help has")
 def _(room):
-    with open(f"{TOP}/docs/PROGRAMS.md", encoding="utf-8") as file:
+    with open(f"{TOP}/docs/use/PROGRAMS.md", encoding="utf-8") as file:
         rows = re.findall(r"^\| (`-[^|]*) \|", file.read(), re.M)
     described = {word for row in rows for word in re.findall(r"`(--?[\w-]*)", row)}
     for program in PROGRAMS:

@@ -10,7 +10,9 @@ import subprocess
 from modules import GOOD
 
 TOP = os.path.dirname(os.path.dirname(os.path.dirname(os.path.realpath(__file__))))
-PROGRAMS = ("wrewrite", "wsnip", "wcount")
+# Those that take the options of `wrewrite`; `wgc` has options of its own.
+LIKE_WREWRITE = ("wrewrite", "wsnip", "wcount", "wmeter")
+PROGRAMS = (*LIKE_WREWRITE, "wgc")
 # The program that is all of them, and what it is tried on.
 TOGETHER = "wtools"
 DATA = f"{TOP}/crates/{TOGETHER}/data"
@@ -20,7 +22,7 @@ BODIES = "wbody"
 ROWS = "wbody_rows"
 EXAMPLES = ("examples",)
 # The tools of the program `examples`, whose first word names one of them.
-TOOLS = ("wgc", "wloops", "wone", "wtrace")
+TOOLS = ("wgrow", "wloops", "wone", "wtrace")
 NODE = shutil.which("node")
 CASES = []
 

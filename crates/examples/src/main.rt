@@ -1,18 +1,18 @@
 //! `examples`: four tools to learn from. They are one program, since each program that is built
 //! links the libraries anew.
 //!
-//! It is run as `examples TOOL IN.wasm >OUT.wasm`, where TOOL is `wgc`, `wloops` or `wtrace`, or as
+//! It is run as `examples TOOL IN.wasm >OUT.wasm`, where TOOL is `wgrow`, `wloops` or `wtrace`, or as
 //! `examples wone HEX`.
 #![tactic(auto)]
 
-mod wgc;
+mod wgrow;
 mod wloops;
 mod wone;
 mod wtrace;
 
 use module_tools::{exit_code, filter, words};
 use std::process::ExitCode;
-use wgc::Collecting;
+use wgrow::Telling;
 use wloops::Counting;
 use wtrace::Tracing;
 
@@ -20,7 +20,7 @@ use wtrace::Tracing;
 fn wrong_use(rt: &impl Eprint) -> ExitCode {
     // Where standard error can't be written, the status is all that is left.
     let _ = eprintln!(rt;
-        "usage: examples wgc|wloops|wtrace IN.wasm >OUT.wasm, or examples wone HEX"
+        "usage: examples wgrow|wloops|wtrace IN.wasm >OUT.wasm, or examples wone HEX"
     );
     ExitCode::from(2)
 }
@@ -42,7 +42,7 @@ fn run_named(rt: &HostRuntime, words: &[String]) -> ExitCode {
         return wrong_use(rt);
     };
     match name.as_str() {
-        "wgc" => filter(rt, &Collecting, "wgc", 2),
+        "wgrow" => filter(rt, &Telling, "wgrow", 2),
         "wloops" => filter(rt, &Counting, "wloops", 2),
         "wone" => status(rt, wone::change(rt)),
         "wtrace" => filter(rt, &Tracing, "wtrace", 2),

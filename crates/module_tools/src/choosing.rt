@@ -4,7 +4,7 @@ use crate::demangling::demangle;
 use crate::ending::{FileFault, ProgramFailure};
 use crate::files::read_file;
 use crate::names::{Found, FunctionNames};
-use crate::program::{Asked, Task};
+use crate::program::{Asked, Charging, Task};
 use crate::usage_error::UsageError;
 use regex::{Matcher, Regex};
 use std::alloc::{AllocError, Global};
@@ -24,8 +24,8 @@ const PANICKING: [&str; 5] = [
 /// Texts of which one is in the demangled name of each function of Rust that formats text.
 const FORMATTING: [&str; 3] = ["core::fmt::", "alloc::fmt::", "std::fmt::"];
 
-/// Checks that standard input is read once: not as the module, a source map and a file of names, nor
-/// as two of these.
+/// Checks that standard input is read once: not as two of the module, a source map, a table of costs
+/// and a file of names.
 ///
 /// # Errors
 ///
@@ -33,6 +33,18 @@ const FORMATTING: [&str; 3] = ["core::fmt::", "alloc::fmt::", "std::fmt::"];
 pub(crate) fn check_input<'w>(task: &Task<'w>) -> Result<(), UsageError<'w>> {
     let source_map = task.source_map.map(|paths| paths.input);
     let mut is_read = task.input == "-" || source_map == Some("-");
+    if let Some(
+        Charging {
+            costs: Some("-"),
+            ..
+        },
+    ) = task.charging
+    {
+        if is_read {
+            return Err(UsageError::SameFile("-", "-"));
+        }
+        is_read = true;
+    }
     for asked in &task.functions {
         if matches!(asked, Asked::NamesFrom("-")) {
             if is_read {

@@ -92,7 +92,7 @@ pub fn call_counter_named(
 }
 
 /// Adds the global, and its export under this name.
-fn add_counter(
+pub(crate) fn add_counter(
     parsed: &mut ParsedModule<'_>,
     changes: &mut Changes,
     name: &str,

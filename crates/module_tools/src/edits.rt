@@ -2,11 +2,12 @@
 ghost use Rattle.std.specs.Prelude.{OnOk};
 ghost use Rattle.walrus_body.specs.LocalFunctions.{HasEntry};
 ghost use Rattle.module_tools.specs.Sequences.{counted, trapping};
-ghost use Rattle.module_tools.specs.FunctionChanges.{ChangesFirst, TrapsIf};
+ghost use Rattle.module_tools.specs.FunctionChanges.{ChangesFirst, ChargesCode, TrapsIf};
 
 use std::alloc::AllocError;
 use walrus_body::LocalFunction;
 use walrus_ir::{BinaryOp, Binop, Const, GlobalGet, GlobalId, GlobalSet, Instr, InstrLocId, Value};
+use walrus_metering::{Charge, Costs, meter};
 
 /// Lets a function add 1 to a global of type i64, before all else that it does.
 pub(crate) fn count_call(function: &mut LocalFunction, global: GlobalId) -> Result<(), AllocError>
@@ -23,6 +24,17 @@ pub(crate) fn count_call(function: &mut LocalFunction, global: GlobalId) -> Resu
     instrs.insert(0, (Instr::Const(Const { value }), nowhere))?;
     instrs.insert(0, (Instr::GlobalGet(GlobalGet { global }), nowhere))?;
     Ok(())
+}
+
+/// Lets a function charge what it executes.
+pub(crate) fn charge_code(
+    function: &mut LocalFunction,
+    costs: &Costs,
+    charge: &Charge,
+) -> Result<(), AllocError>
+    ensures { OnOk result (ChargesCode costs.now charge.now function.old function.new) }
+{
+    meter(function.builder_mut(), costs, charge)
 }
 
 /// Lets a function only trap.

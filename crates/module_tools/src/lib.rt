@@ -2,8 +2,11 @@
 //! they end.
 #![tactic(auto)]
 
+mod charging;
 mod checking;
 mod choosing;
+mod collecting;
+mod cost_files;
 mod counting;
 mod demangling;
 mod edits;
@@ -22,6 +25,7 @@ mod options;
 mod places;
 mod program;
 mod progress;
+mod removing;
 mod reporting;
 mod running;
 mod snipping;
@@ -33,6 +37,8 @@ mod version;
 mod warnings;
 mod writing;
 
+pub use charging::{ChargeBy, ChargeCode, charger};
+pub use collecting::run_collecting;
 pub use counting::{CALLS, CountCalls, call_counter, call_counter_named, count_calls};
 pub use ending::{Attempt, FileFault, Item, ProgramFailure, exit_code, page_code, words};
 pub use escaped::Escaped;
@@ -40,8 +46,11 @@ pub use files::{Target, read_file};
 pub use filtering::filter;
 pub use locks::LockFiles;
 pub use names::{Found, FunctionNames, function_at};
-pub use program::{Asked, MapPaths, Program, Request, SectionChoice, Task, read_arguments};
+pub use program::{
+    Asked, Charging, MapPaths, Program, Request, SectionChoice, Task, read_arguments,
+};
 pub use progress::{Progress, Watched, WatchedChange};
+pub use removing::{module_of_left, reached};
 pub use running::{NoChange, Terminals, Tool, run};
 pub use snipping::{Snipping, snip};
 pub use usage_error::UsageError;

@@ -3,6 +3,7 @@
 use crate::ending::{Attempt, ProgramFailure};
 use crate::escaped::Escaped;
 use crate::names::FunctionNames;
+use module_removal::LeftItems;
 use std::io::{BufWriter, Write};
 use std::{fmt, io};
 use wasm_module::ParsedModule;
@@ -25,13 +26,17 @@ impl fmt::Display for Listed<'_> {
     }
 }
 
-/// Writes a line for each function with a body.
+/// Writes a line for each function with a body that isn't left.
 fn write_lines<W: Write>(
     parsed: &ParsedModule<'_>,
     names: &FunctionNames<'_>,
+    left: Option<&LeftItems>,
     out: &mut W,
 ) -> io::Result<()> {
     for body in parsed.bodies() {
+        if left.is_some_and(|left| left.has_function(body.func)) {
+            continue;
+        }
         let line = Listed {
             index: body.func,
             size: body.bytes().len(),
@@ -42,14 +47,28 @@ fn write_lines<W: Write>(
     out.flush()
 }
 
-/// Writes a line for each function with a body, buffered.
+/// Writes a line for each function with a body that isn't left, buffered.
 fn print_lines<R: Print + AllocGlobal>(
     rt: &R,
     parsed: &ParsedModule<'_>,
+    left: Option<&LeftItems>,
     names: &FunctionNames<'_>,
 ) -> io::Result<()> {
     let mut out = BufWriter::new(rt.alloc(), io::writer(rt))?;
-    write_lines(parsed, names, &mut out)
+    write_lines(parsed, names, left, &mut out)
+}
+
+/// Prints a line for each function with a body that isn't left.
+fn list<'w, R: Print + AllocGlobal>(
+    rt: &R,
+    parsed: &ParsedModule<'_>,
+    left: Option<&LeftItems>,
+) -> Result<(), ProgramFailure<'w>> {
+    let names = FunctionNames::read(rt.alloc(), parsed)?;
+    match print_lines(rt, parsed, left, &names) {
+        Ok(()) => Ok(()),
+        Err(error) => Err(ProgramFailure::file("-", Attempt::Write, error)),
+    }
 }
 
 /// Prints a line for each function with a body.
@@ -61,9 +80,18 @@ pub(crate) fn list_functions<'w, R: Print + AllocGlobal>(
     rt: &R,
     parsed: &ParsedModule<'_>,
 ) -> Result<(), ProgramFailure<'w>> {
-    let names = FunctionNames::read(rt.alloc(), parsed)?;
-    match print_lines(rt, parsed, &names) {
-        Ok(()) => Ok(()),
-        Err(error) => Err(ProgramFailure::file("-", Attempt::Write, error)),
-    }
+    list(rt, parsed, None)
+}
+
+/// Prints a line for each function with a body that isn't left.
+///
+/// # Errors
+///
+/// Those of `list_functions`.
+pub(crate) fn list_removed<'w, R: Print + AllocGlobal>(
+    rt: &R,
+    parsed: &ParsedModule<'_>,
+    left: &LeftItems,
+) -> Result<(), ProgramFailure<'w>> {
+    list(rt, parsed, Some(left))
 }

@@ -37,6 +37,11 @@ pub(crate) enum Valued {
     Pattern,
     NamesFrom,
     Export,
+    Costs,
+    /// The module of an import, before its name.
+    Import,
+    ImportName,
+    Global,
     Map,
     SourceMap,
     OutputSourceMap,
@@ -63,6 +68,8 @@ enum Takers {
     Choosing,
     /// Those that export something.
     Exporting,
+    /// Those that charge code.
+    Charging,
 }
 
 impl Takers {
@@ -72,6 +79,7 @@ impl Takers {
             Takers::Checking => program.takes_check,
             Takers::Choosing => program.takes_functions,
             Takers::Exporting => program.takes_export,
+            Takers::Charging => program.takes_costs,
         }
     }
 }
@@ -88,7 +96,7 @@ struct Row {
 }
 
 /// How many options there are.
-const COUNT: usize = 26;
+const COUNT: usize = 29;
 
 /// The options, in the order of the page of help.
 const ROWS: [Row; COUNT] = [
@@ -170,6 +178,35 @@ const ROWS: [Row; COUNT] = [
         takers: Takers::Exporting,
         help: "
       --export NAME    export the number of calls as NAME",
+    },
+    Row {
+        letter: None,
+        name: "--costs",
+        choice: Choice::Valued(Valued::Costs),
+        takers: Takers::Charging,
+        help: "
+      --costs FILE     read what operators cost: a JSON object such as
+                       {\"call\": 5, \"i32.div_s\": 2}, of integers from 0 to
+                       2147483647; all others cost 1",
+    },
+    Row {
+        letter: None,
+        name: "--import",
+        choice: Choice::Valued(Valued::Import),
+        takers: Takers::Charging,
+        help: "
+      --import MODULE NAME
+                       charge by a call of the imported function MODULE.NAME,
+                       which takes an i64; without this or --global of
+                       wmeter.charge",
+    },
+    Row {
+        letter: None,
+        name: "--global",
+        choice: Choice::Valued(Valued::Global),
+        takers: Takers::Charging,
+        help: "
+      --global NAME    add up what is charged in a global, exported as NAME",
     },
     Row {
         letter: Some('o'),
@@ -351,6 +388,9 @@ impl Valued {
             Valued::Pattern => "--pattern",
             Valued::NamesFrom => "--names-from",
             Valued::Export => "--export",
+            Valued::Costs => "--costs",
+            Valued::Import | Valued::ImportName => "--import",
+            Valued::Global => "--global",
             Valued::Map => "--map",
             Valued::SourceMap => "--source-map",
             Valued::OutputSourceMap => "--output-source-map",
@@ -366,6 +406,7 @@ impl Valued {
             self,
             Valued::Output
                 | Valued::NamesFrom
+                | Valued::Costs
                 | Valued::Map
                 | Valued::SourceMap
                 | Valued::OutputSourceMap

@@ -3,6 +3,7 @@
 ghost use Rattle.std.specs.Prelude.{◌≡◌, [], length, nat_lt, true, false, None, IsNone, IsTrue, IfOk, IfErr};
 ghost use Rattle.module_tools.specs.Words.{ChecksAlone, IsTaskOf, IsRequestOf, IsRefusedRequest, WritesNoFile};
 
+use crate::charging::ChargeBy;
 use crate::ending::ProgramFailure;
 use crate::options::{Choice, HelpPage, Page, Switch, Valued, option_named, option_with_letter};
 use crate::usage_error::UsageError;
@@ -24,6 +25,8 @@ pub struct Program {
     pub takes_functions: bool,
     /// Whether it takes the name of what it exports.
     pub takes_export: bool,
+    /// Whether it charges code, and takes what that costs and what it is charged by.
+    pub takes_costs: bool,
 }
 
 impl Program {
@@ -44,6 +47,14 @@ pub struct MapPaths<'w> {
     pub input: &'w str,
     /// Where the source map of the module that is written goes.
     pub output: &'w str,
+}
+
+/// What charged code costs, and what it is charged by.
+#[derive(Clone, Copy)]
+pub struct Charging<'w> {
+    /// The table of costs, if one is given.
+    pub costs: Option<&'w str>,
+    pub by: ChargeBy<'w>,
 }
 
 /// Functions that are asked for.
@@ -123,6 +134,8 @@ pub struct Task<'w> {
     pub functions: Vec<Asked<'w>>,
     /// The name of what is exported; none where the program chooses it.
     pub export: Option<&'w str>,
+    /// What code costs and is charged by; none of a program that charges none.
+    pub charging: Option<Charging<'w>>,
     /// The custom sections that are left out.
     pub sections: Vec<SectionChoice<'w>>,
     /// Whether a module that isn't valid is refused.
@@ -203,6 +216,11 @@ struct Options<'w> {
     output_source_map: Option<&'w str>,
     source_map_url: Option<&'w str>,
     export: Option<&'w str>,
+    costs: Option<&'w str>,
+    /// The module and the name of the import by which code is charged.
+    import: Option<&'w str>,
+    import_name: Option<&'w str>,
+    global: Option<&'w str>,
     /// The option whose value is the next word.
     awaits: Option<Valued>,
 }
@@ -223,6 +241,10 @@ impl<'w> Options<'w> {
             output_source_map: None,
             source_map_url: None,
             export: None,
+            costs: None,
+            import: None,
+            import_name: None,
+            global: None,
             awaits: None,
         }
     }
@@ -259,6 +281,28 @@ impl<'w> Options<'w> {
             (None, Some(_)) => Some(UsageError::Requires(output, input)),
             _ => None,
         }
+    }
+
+    /// What is wrong with the options of what code is charged by, if something is.
+    fn charging_fault(&self) -> Option<UsageError<'w>> {
+        match (self.import, self.global) {
+            (Some(_), Some(_)) => Some(UsageError::NotBoth("--import", "--global")),
+            _ => None,
+        }
+    }
+
+    /// What code costs and is charged by, where the program charges it.
+    fn charging(&self, program: &Program) -> Option<Charging<'w>> {
+        if !program.takes_costs {
+            return None;
+        }
+        let by = match (self.global, self.import, self.import_name) {
+            (Some(name), _, _) => ChargeBy::Global(name),
+            (None, Some(module), Some(name)) => ChargeBy::Import(module, name),
+            _ => ChargeBy::Import("wmeter", "charge"),
+        };
+        let costs = self.costs;
+        Some(Charging { costs, by })
     }
 
     /// The files of source maps, if both are given.
@@ -338,6 +382,14 @@ impl<'w> Words<'w> {
         match valued {
             Valued::Output => set_value(&mut self.options.output, value, name),
             Valued::Export => set_value(&mut self.options.export, value, name),
+            Valued::Costs => set_value(&mut self.options.costs, value, name),
+            Valued::Import => {
+                // Its name is the next word.
+                self.options.awaits = Some(Valued::ImportName);
+                set_value(&mut self.options.import, value, name)
+            }
+            Valued::ImportName => set_value(&mut self.options.import_name, value, name),
+            Valued::Global => set_value(&mut self.options.global, value, name),
             Valued::Map => set_value(&mut self.options.map, value, name),
             Valued::SourceMap => set_value(&mut self.options.source_map, value, name),
             Valued::OutputSourceMap => {
@@ -529,6 +581,9 @@ impl<'w> Words<'w> {
         if let Some(valued) = self.options.awaits {
             return Some(UsageError::NoValue(valued.name()));
         }
+        if let Some(fault) = self.options.charging_fault() {
+            return Some(fault);
+        }
         if !self.options.reads_alone {
             return self.options.source_map_fault();
         }
@@ -588,7 +643,7 @@ impl<'w> Words<'w> {
     }
 
     /// What the words ask for of this module, after it is known that they are right.
-    fn into_task(self, input: &'w str, lists: bool) -> Task<'w>
+    fn into_task(self, input: &'w str, lists: bool, charging: Option<Charging<'w>>) -> Task<'w>
         ensures functions { result.functions ≡ self.entry.functions }
         ensures sections { result.sections ≡ self.entry.sections }
         ensures lists { result.lists ≡ lists }
@@ -619,6 +674,7 @@ impl<'w> Words<'w> {
             source_map_url,
             functions: self.functions,
             export,
+            charging,
             sections: self.sections,
             validates,
             has_limits,
@@ -642,9 +698,10 @@ impl<'w> Words<'w> {
             Err(failure) => return Err(failure),
         }
         let lists = self.lists();
+        let charging = self.options.charging(program);
         match self.fault(program, lists) {
             Some(fault) => Err(ProgramFailure::UsageError(fault)),
-            None => Ok(self.into_task(input, lists)),
+            None => Ok(self.into_task(input, lists, charging)),
         }
     }
 }

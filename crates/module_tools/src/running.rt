@@ -4,8 +4,10 @@ ghost use Rattle.std.specs.Prelude.{◌≡◌, ◌≤◌, true, Ok, IfOk, OnOk};
 ghost use Rattle.std.specs.Process.{exit_status};
 ghost use Rattle.module_validator.specs.ModuleRules.{module_validity};
 
+use crate::charging::ChargeBy;
 use crate::checking::{check_bodies, refused};
 use crate::choosing::{check_input, functions_of};
+use crate::cost_files::read_costs;
 use crate::ending::{ProgramFailure, exit_code, page_code, words};
 use crate::files::read_file;
 use crate::listing::list_functions;
@@ -13,7 +15,7 @@ use crate::locks::LockFiles;
 use crate::mismatches::not_valid;
 use crate::omitting::{following_debug, omit};
 use crate::places::check_files;
-use crate::program::{Program, Request, Task, read_arguments};
+use crate::program::{Charging, Program, Request, Task, read_arguments};
 use crate::progress::{Progress, Watched, WatchedChange};
 use crate::reporting::{Done, Outcome, print_done, status_of_done};
 use crate::source_map_places::check_source_maps;
@@ -32,9 +34,10 @@ use std::rt::{Clock, Env};
 use std::time::Instant;
 use walrus_body::LocalFunction;
 use walrus_ir::{FunctionId, IdHashSet, ModuleLocals};
+use walrus_metering::Costs;
 use wasm_module::{
-    BodyWriter, ChangeFunction, Changes, Keeping, Kept, KeptBodies, ModuleError, ParsedModule,
-    Rewriting, RewrittenModule,
+    BodyWriter, ChangeFunction, Changes, Keeping, Kept, KeptBodies, KeptWithPairs, ModuleError,
+    ParsedModule, Rewriting, RewrittenModule,
 };
 
 /// Which of the standard streams are terminals.
@@ -79,6 +82,22 @@ pub trait Tool {
     ) -> Result<(Option<Self::Change>, Changes), ModuleError> {
         self.changes(alloc, parsed, functions)
     }
+
+    /// The same where code is charged, which only one with `takes_costs` is asked.
+    ///
+    /// # Errors
+    ///
+    /// What the program refuses.
+    fn changes_with_costs(
+        &self,
+        alloc: Global,
+        parsed: &mut ParsedModule<'_>,
+        functions: IdHashSet<FunctionId>,
+        _costs: Costs,
+        _by: ChargeBy<'_>,
+    ) -> Result<(Option<Self::Change>, Changes), ModuleError> {
+        self.changes(alloc, parsed, functions)
+    }
 }
 
 /// The change of a program that rewrites functions as they are.
@@ -105,23 +124,35 @@ impl ChangeFunction for NoChange {
     }
 }
 
-/// What is kept of the bodies that are written for a task: nothing where their location pairs are told,
-/// since of those of a kept body nothing is said.
-fn keeping_for(task: &Task<'_>, debug: &[DebugSection<'_>]) -> Keeping {
-    match task.map.is_some() || task.source_map.is_some() || !debug.is_empty() {
-        true => Keeping::NOTHING,
-        false => Keeping::CODE,
+/// Whether the location pairs of the bodies are told that are written for a task.
+fn tells_pairs(task: &Task<'_>, debug: &[DebugSection<'_>]) -> bool {
+    task.map.is_some() || task.source_map.is_some() || !debug.is_empty()
+}
+
+/// The module with its functions rewritten, whose location pairs are kept too.
+fn rewritten_with_pairs<'a, R: Eprint + Clock>(
+    parsed: &mut ParsedModule<'a>,
+    changes: Changes,
+    progress: &'a Progress<'a, R>,
+) -> Result<RewrittenModule<'a, Watched<'a, R, KeptWithPairs<'a, Rewriting>>>, ModuleError> {
+    let keeping = Keeping::CODE_WITH_PAIRS;
+    match parsed.rewrite_keeping(Watched::first(progress, Rewriting), changes, keeping) {
+        Ok(module) => {
+            let (bodies, rest) = module.take_bodies();
+            let bodies = bodies.with_bodies(Rewriting).with_pairs();
+            Ok(rest.with_bodies(Watched::new(progress, bodies)))
+        }
+        Err(error) => Err(error),
     }
 }
 
-/// The module with its functions rewritten, of which so much is kept.
+/// The module with its functions rewritten.
 fn rewritten<'a, R: Eprint + Clock>(
     parsed: &mut ParsedModule<'a>,
     changes: Changes,
-    keeping: Keeping,
     progress: &'a Progress<'a, R>,
 ) -> Result<RewrittenModule<'a, Watched<'a, R, Kept<'a, Rewriting>>>, ModuleError> {
-    match parsed.rewrite_keeping(Watched::first(progress, Rewriting), changes, keeping) {
+    match parsed.rewrite_with(Watched::first(progress, Rewriting), changes) {
         Ok(module) => {
             let (bodies, rest) = module.take_bodies();
             let bodies = bodies.with_bodies(Rewriting);
@@ -182,12 +213,33 @@ where
         refused(self.rt.alloc(), parsed, self.task.input, error)
     }
 
+    /// What the program changes of the module, where code is charged.
+    fn charges_of(
+        &self,
+        parsed: &mut ParsedModule<'a>,
+        functions: IdHashSet<FunctionId>,
+        charging: Charging<'w>,
+    ) -> Result<(Option<T::Change>, Changes), ProgramFailure<'w>> {
+        let costs = match read_costs(self.rt, charging.costs) {
+            Ok(costs) => costs,
+            Err(failure) => return Err(failure),
+        };
+        let (tool, alloc, by) = (self.tool, self.rt.alloc(), charging.by);
+        match tool.changes_with_costs(alloc, parsed, functions, costs, by) {
+            Ok(changes) => Ok(changes),
+            Err(error) => Err(self.refused(parsed, &error)),
+        }
+    }
+
     /// What the program changes of the module, where these functions are asked for.
     fn changes_of(
         &self,
         parsed: &mut ParsedModule<'a>,
         functions: IdHashSet<FunctionId>,
     ) -> Result<(Option<T::Change>, Changes), ProgramFailure<'w>> {
+        if let Some(charging) = self.task.charging {
+            return self.charges_of(parsed, functions, charging);
+        }
         let (tool, alloc) = (self.tool, self.rt.alloc());
         let changes = match self.task.export {
             None => tool.changes(alloc, parsed, functions),
@@ -269,9 +321,12 @@ where
             return Err(ProgramFailure::Memory);
         };
         match change {
+            None if tells_pairs(self.task, &debug) => {
+                let made = rewritten_with_pairs(parsed, changes, self.progress);
+                self.write_or_refuse(source, parsed, made, &debug, output)
+            }
             None => {
-                let keeping = keeping_for(self.task, &debug);
-                let made = rewritten(parsed, changes, keeping, self.progress);
+                let made = rewritten(parsed, changes, self.progress);
                 self.write_or_refuse(source, parsed, made, &debug, output)
             }
             Some(change) => {

@@ -22,6 +22,8 @@ pub enum UsageError<'w> {
     Requires(&'w str, &'w str),
     /// An option is given with another one that writes no module.
     NotWith(&'w str, &'w str),
+    /// Two options are given that exclude each other.
+    NotBoth(&'w str, &'w str),
     /// The path of the module that is read is missing.
     NoInput,
     /// The path of the module that is written is missing, and standard output is a terminal.
@@ -101,6 +103,13 @@ impl<'w> Line<'w> {
                 second: "' can't be used with '",
                 other,
                 third: "', which writes no module",
+            },
+            UsageError::NotBoth(name, other) => Line {
+                first: "option '",
+                word: name,
+                second: "' can't be used with '",
+                other,
+                third: "'",
             },
             UsageError::NoInput => Line::text("no file to read is given"),
             UsageError::NoOutput => Line::text("no file to write is given"),

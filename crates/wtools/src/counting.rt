@@ -20,6 +20,7 @@ example: wcount in.wasm counted.wasm",
     takes_check: false,
     takes_functions: false,
     takes_export: true,
+    takes_costs: false,
 };
 
 /// Lets each function count its calls.

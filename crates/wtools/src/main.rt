@@ -1,22 +1,25 @@
-//! The programs `wrewrite`, `wsnip` and `wcount`, and the benchmark `wbench`, in one. It runs as the
-//! one under whose name it is started, as by a link or a copy, or else as the one that its first word
-//! names.
+//! The programs `wrewrite`, `wsnip`, `wcount`, `wmeter` and `wgc`, and the benchmark `wbench`, in one. It
+//! runs as the one under whose name it is started, as by a link or a copy, or else as the one that its
+//! first word names.
 #![tactic(auto)]
 
 ghost use Rattle.std.specs.Prelude.{◌≡◌, ◌≤◌, [], IfOk};
 ghost use Rattle.std.specs.Process.{exit_status};
 
+mod collecting;
 mod counting;
 mod measuring;
+mod metering;
 mod naming;
 mod rewriting;
 mod snipping;
 
 use counting::Count;
 use measuring::run_passes;
+use metering::Meter;
 use module_tools::{
     BUILD, LockFiles, ProgramFailure, Terminals, UsageError, VERSION, exit_code, page_code, run,
-    words,
+    run_collecting, words,
 };
 use naming::{Chosen, asked};
 use rewriting::RewriteAll;
@@ -32,13 +35,15 @@ const NAME: &str = "wtools";
 
 const HELP: &str = "usage: wtools PROGRAM [WORD]..
 
-Three programs in one, which read a WebAssembly module and write one, and a benchmark.
+Four programs in one, which read a WebAssembly module and write one, and a benchmark.
 Under the name of one of them, as that of a link or a copy, it runs as that one, and
 PROGRAM is left out.
 
   wrewrite       rewrites each function, in the shortest encodings
   wsnip          leaves nothing but `unreachable` of functions that are named
   wcount         lets each function count its calls
+  wmeter         lets the functions charge what they execute
+  wgc            leaves out what nothing reaches
   wbench         passes over the bodies of a module, to measure what a pass costs
 
   -h, --help     print this; after PROGRAM, which words it takes
@@ -102,6 +107,8 @@ fn run_asked<R: LockFiles + Input + Env + Clock + Print + Eprint + AllocGlobal +
         }
         Some((Chosen::Snip, first)) => run(rt, &Snip, &snipping::PROGRAM, first, terminals),
         Some((Chosen::Count, first)) => run(rt, &Count, &counting::PROGRAM, first, terminals),
+        Some((Chosen::Meter, first)) => run(rt, &Meter, &metering::PROGRAM, first, terminals),
+        Some((Chosen::Collect, first)) => Ok(run_collecting(rt, &collecting::PROGRAM, first)),
         Some((Chosen::Measure, first)) => run_passes(rt, first),
         None => run_none(rt),
     }

@@ -20,6 +20,10 @@ pub enum Chosen {
     Snip,
     /// `wcount`.
     Count,
+    /// `wmeter`.
+    Meter,
+    /// `wgc`.
+    Collect,
     /// `wbench`.
     Measure,
 }
@@ -34,6 +38,8 @@ impl Chosen {
             "wrewrite" => Some(Chosen::Rewrite),
             "wsnip" => Some(Chosen::Snip),
             "wcount" => Some(Chosen::Count),
+            "wmeter" => Some(Chosen::Meter),
+            "wgc" => Some(Chosen::Collect),
             "wbench" => Some(Chosen::Measure),
             _ => None,
         }

@@ -23,6 +23,7 @@ example: wrewrite --map out.map in.wasm out.wasm",
     takes_check: true,
     takes_functions: false,
     takes_export: false,
+    takes_costs: false,
 };
 
 /// Rewrites each body as it is.

@@ -25,6 +25,7 @@ example: wsnip in.wasm out.wasm 12 unused_function",
     takes_check: false,
     takes_functions: true,
     takes_export: false,
+    takes_costs: false,
 };
 
 /// Takes away the bodies of functions.
