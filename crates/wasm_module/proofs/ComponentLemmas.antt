@@ -85,13 +85,21 @@ module _ (R : Components → Components → Type 0) where
   pub data_step_leads : (m : Components) → R m m → R m (record m { datas = m.datas + 1 }) → PartLeads m (checked data_segment_part (λ x. with_one_data m))
   data_step_leads m same more = checked_leads m data_segment_part (λ x. with_one_data m) (λ x. data_leads m same more)
 
+  -- the type section, where all types may change
+  pub types_lead : (m : Components) → ((types : List ModuleType) → R m (record m { types = types })) → SectionLeads m (type_section_part m)
+  types_lead m types end text n e =
+      let a = bind_ok (whole_part (types_part (2 ^ 64 - 1)) end text >>= few_types) (λ all. types_part (length all) end text >>= λ x. Ok (record m { types = x.0 })) n e in
+      let b = bind_ok (types_part (length a.0) end text) (λ x. Ok (record m { types = x.0 })) n a.2 in
+      subst (λ (c : Components). R m c) (ok_same (record m { types = b.0.0 }) n b.2) (types b.0.0)
+
   -- ---- what such a relation has to allow
 
   pub record Allows : Type 0 where
     pub same : (m : Components) → R m m
     pub both : (a b c : Components) → R a b → R b c → R a c
-    pub types : (m : Components) (types : List ModuleType) → R m (record m { types = types })
-    pub functions : (m : Components) (type : ℕ) → nat_lt (length m.functions) (2 ^ 32) ≡ true → R m (record m { functions = m.functions ++ type ∷ [] })
+    pub functions :
+        (m : Components) (index type : ℕ) → function_type_of m index ≡ Ok type → nat_lt (length m.functions) (2 ^ 32) ≡ true →
+        R m (record m { functions = m.functions ++ type ∷ [] })
     pub imported : (m : Components) (imported : ℕ) → R m (record m { imported = imported })
     pub tags : (m : Components) (tags : List ℕ) → R m (record m { tags = tags })
     pub tables : (m : Components) (count : ℕ) → R m (record m { tables = count })
@@ -105,7 +113,7 @@ module _ (R : Components → Components → Type 0) where
     function_leads : (m : Components) (index : ℕ) → ItemLeads m (with_one_function m index)
     function_leads m index n e =
         let a = bind_ok (function_type_of m index) (λ type. one_more_in spaces.Funcs m (record m { functions = m.functions ++ type ∷ [] })) n e in
-        one_more_leads spaces.Funcs m (record m { functions = m.functions ++ a.0 ∷ [] }) (allows.functions m a.0) n a.2
+        one_more_leads spaces.Funcs m (record m { functions = m.functions ++ a.0 ∷ [] }) (allows.functions m index a.0 a.1) n a.2
 
     tag_leads : (m : Components) (index : ℕ) → ItemLeads m (with_one_tag m index)
     tag_leads m index n e =
@@ -164,12 +172,6 @@ module _ (R : Components → Components → Type 0) where
 
     -- ---- sections
 
-    types_lead : (m : Components) → SectionLeads m (type_section_part m)
-    types_lead m end text n e =
-        let a = bind_ok (whole_part (types_part (2 ^ 64 - 1)) end text >>= few_types) (λ all. types_part (length all) end text >>= λ x. Ok (record m { types = x.0 })) n e in
-        let b = bind_ok (types_part (length a.0) end text) (λ x. Ok (record m { types = x.0 })) n a.2 in
-        subst (λ (c : Components). R m c) (ok_same (record m { types = b.0.0 }) n b.2) (allows.types m b.0.0)
-
     custom_leads : (m : Components) → SectionLeads m (custom_section m)
     custom_leads m end text n e =
         let a = bind_ok (name_part end text) (λ x. Ok m) n e in
@@ -186,16 +188,18 @@ module _ (R : Components → Components → Type 0) where
         then_leads m number (λ n. repeated (item_step id) n m)
         (λ n. repeated_leads allows.same allows.both (item_step id) (item_step_leads id) n m)
 
-    -- each section, if the code section is
-    pub contents_lead : (id : ℕ) (m : Components) → ((id == 10) ≡ true → SectionLeads m (whole_part (code_part m))) → SectionLeads m (contents_of id m)
-    contents_lead id m code =
+    -- each section, if the type section and the code section are
+    pub contents_lead :
+        (id : ℕ) (m : Components) → ((id == 1) ≡ true → SectionLeads m (type_section_part m)) → ((id == 10) ≡ true → SectionLeads m (whole_part (code_part m))) →
+        SectionLeads m (contents_of id m)
+    contents_lead id m types code =
         let from_12 : (end : ℕ) → (text : List ℕ) → Result Components ModuleError =
         if id == 12 then whole_part (data_count_part m) else whole_part (items_part id m) in
         let from_10 : (end : ℕ) → (text : List ℕ) → Result Components ModuleError = if id == 10 then whole_part (code_part m) else from_12 in
         let from_8 : (end : ℕ) → (text : List ℕ) → Result Components ModuleError = if id == 8 then whole_part (start_part m) else from_10 in
         let from_1 : (end : ℕ) → (text : List ℕ) → Result Components ModuleError = if id == 1 then type_section_part m else from_8 in
         either_section m (id == 0) (custom_section m) from_1 (λ is. custom_leads m)
-        (λ no. either_section m (id == 1) (type_section_part m) from_8 (λ is. types_lead m)
+        (λ no. either_section m (id == 1) (type_section_part m) from_8 types
         (λ no. either_section m (id == 8) (whole_part (start_part m)) from_10
         (λ is. whole_leads m (start_part m) (then_leads m (index_part (count_in m spaces.Funcs) spaces.Funcs) (λ u. just m) (λ u. just_leads m (allows.same m))))
         (λ no. either_section m (id == 10) (whole_part (code_part m)) from_12 code

@@ -37,6 +37,7 @@ pub mod VisitedLemmas
 -- the module that is written consists of the same as its source
 pub mod SameModuleLemmas
 pub mod ReadAgainLemmas
+pub mod Again
 -- numbers in hexadecimal, and the lines of a location map
 pub mod DigitLemmas
 pub mod MapLineLemmas

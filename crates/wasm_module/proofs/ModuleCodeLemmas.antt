@@ -16,7 +16,7 @@ use Rattle.wasm_sections.specs.Sections.{SectionAt, AreSections, IsModule, pream
 use Rattle.wasm_sections.proofs.NumberLemmas.{number_takes, is_shorter}
 use Rattle.wasm_module.specs.ReadSections.{AreInOrder, AreRead, IsOfSections}
 use Rattle.wasm_module.specs.ModuleCode.{sections_with, IsCodeIn, AreBodiesOf, HasCode}
-use Rattle.wasm_module.proofs.ComponentLemmas.{Allows, then_leads, repeated_leads, whole_leads, data_step_leads, contents_lead}
+use Rattle.wasm_module.proofs.ComponentLemmas.{Allows, then_leads, repeated_leads, whole_leads, data_step_leads, types_lead, contents_lead}
 use Rattle.wasm_module.proofs.ModuleLawLemmas.{piece_is, read_as, section_of, begun_section, same_section, split_one, split_two, preamble_is}
 
 -- ---- bodies, each after its size
@@ -136,8 +136,7 @@ allowed : Allows KeepsCode
 allowed = record {
   same = λ m. record { code = refl; few = λ f. f };
   both = λ a b c p q. record { code = q.code ∙ p.code; few = λ f. q.few (p.few f) };
-  types = λ m l. record { code = refl; few = λ f. f };
-  functions = λ m type room. record { code = refl; few = λ f. few_more m.functions type room };
+  functions = λ m index type found room. record { code = refl; few = λ f. few_more m.functions type room };
   imported = λ m k. record { code = refl; few = λ f. f };
   tags = λ m l. record { code = refl; few = λ f. f };
   tables = λ m k. record { code = refl; few = λ f. f };
@@ -150,7 +149,7 @@ allowed = record {
 
 other_section : (id : ℕ) (m : Components) (end : ℕ) (text : List ℕ) (n : Components) → (id == 10) ≡ false → contents_of id m end text ≡ Ok n → KeepsCode m n
 other_section id m end text n other e =
-    contents_lead KeepsCode allowed id m (λ is. absurd (let both : true ≡ false = sym is ∙ other in cc)) end text n e
+    contents_lead KeepsCode allowed id m (λ is. types_lead KeepsCode m (λ types. record { code = refl; few = λ f. f })) (λ is. absurd (let both : true ≡ false = sym is ∙ other in cc)) end text n e
 
 -- ---- steps after the code section, which add only data segments
 
@@ -166,7 +165,7 @@ data_section m end text n e =
     (then_leads OnlyData m number (λ k. repeated (item_step 11) k m)
     (λ k. repeated_leads OnlyData (λ c. refl) data_both (item_step 11) (λ c. data_step_leads OnlyData c refl refl) k m)) end text n e
 
-custom_same : (m n : Components) (end : ℕ) (text : List ℕ) → custom_section m end text ≡ Ok n → m ≡ n
+pub custom_same : (m n : Components) (end : ℕ) (text : List ℕ) → custom_section m end text ≡ Ok n → m ≡ n
 custom_same m n end text e = let a = bind_ok (name_part end text) (λ x. Ok m) n e in ok_same m n a.2
 
 -- the only rank that is greater than that of the code section
@@ -187,11 +186,11 @@ late_is_data id h = one_greater (0 ∷ 1 ∷ 2 ∷ 3 ∷ 4 ∷ 5 ∷ 7 ∷ 8 ∷
 
 -- ---- sections in order
 
-either_is : (b : Bool) → (b ≡ true) ⊎ (b ≡ false)
+pub either_is : (b : Bool) → (b ≡ true) ⊎ (b ≡ false)
 either_is true = inl refl
 either_is false = inr refl
 
-is_number : (a b : ℕ) → (a == b) ≡ true → a ≡ b
+pub is_number : (a b : ℕ) → (a == b) ≡ true → a ≡ b
 is_number a b e = grind (arith, nat_tests)
 
 -- the rank after a section
@@ -239,7 +238,7 @@ without_code : (s : SectionAt) (ss : List SectionAt) → (s.id == 10) ≡ false 
 without_code s ss isnt = ap (λ (b : Bool). if b then s ∷ sections_with 10 ss else sections_with 10 ss) isnt
 
 -- the rank after a section with this id
-abbrev rank_after : (r id : ℕ) → ℕ
+abbrev pub rank_after : (r id : ℕ) → ℕ
 rank_after r id = if id == 0 then r else rank id
 
 -- sections after the code section

@@ -53,6 +53,18 @@ own_count (suc n) =
     let before = own_count n in
     len-insert nat_cmp_total (own_numbers n) n (len (own_numbers n)) ∙ grind arith
 
+-- a number in such a map is the id's own, and below the limit
+pub own_is : (limit id n : ℕ) → get (own_numbers limit) id ≡ Some n → (n ≡ id) × (id < limit)
+unfolding own_numbers
+own_is zero id n e = absurd (let none = get-empty {X = ℕ} nat_cmp id in cc)
+own_is (suc limit) id n e =
+    let after = get-numbered (own_numbers limit) limit id in
+    let count = own_count limit in
+    elim (id == limit) as (λ b. (id == limit) ≡ b → get (numbered (own_numbers limit) limit) id ≡ cond b (Some (len (own_numbers limit))) (get (own_numbers limit) id) → (n ≡ id) × (id < suc limit)) [
+      | true ↦ λ is found. let own : len (own_numbers limit) ≡ n = cc (found, e) in let same : id ≡ limit = grind (arith, nat_tests) in (omega arith, omega arith)
+      | false ↦ λ other found. let before = own_is limit id n (sym found ∙ e) in (before.0, omega (arith, before.1))
+    ] refl after
+
 -- ---- which space it is
 
 abbrev pub space_rank : Space → ℕ
@@ -294,10 +306,10 @@ for_other_kind kind m s result n t a b c d h =
 
 -- ---- the type of a function
 
-each_of_section : (types : List ModuleType) (k : ℕ) (type : ModuleType) → AllByRecursion IsOfSection types → slice_get types k ≡ Some type → IsOfSection type
-each_of_section [] k type all e = absurd cc
-each_of_section (t ∷ ts) zero type all e = let same : t ≡ type = cc in subst IsOfSection same all.0
-each_of_section (t ∷ ts) (suc k) type all e = each_of_section ts k type all.1 e
+pub each_at : {A : Type 0} (P : A → Type 0) (xs : List A) (k : ℕ) (x : A) → AllByRecursion P xs → slice_get xs k ≡ Some x → P x
+each_at P [] k x all e = absurd cc
+each_at P (y ∷ ys) zero x all e = let same : y ≡ x = cc in subst P same all.0
+each_at P (y ∷ ys) (suc k) x all e = each_at P ys k x all.1 e
 
 is_function_type : (type : ModuleType) (index : ℕ) → IsOfSection type → is_some (signature_in type) ≡ true → function_type_at (Some type) index ≡ Ok index
 is_function_type (Func ps rs) index is some = refl
@@ -326,7 +338,7 @@ types_at m s index so =
             p.0,
             ap (λ (o : Option ℕ). some_or o other) (number_in (ids_in s.indices spaces.Types) (length m.types) index ids p.1),
             p.2,
-            each_of_section m.types index p.0 so.types p.2,
+            each_at IsOfSection m.types index p.0 so.types p.2,
           )
       | inr p ↦
           let past : length (ids_in s.indices spaces.Types) ≤ index = let count = ids_count m spaces.Types s so.indices in omega (arith, p.0) in

@@ -24,7 +24,7 @@ use Rattle.wasm_module.proofs.CodeLemmas.{same_count}
 
 -- ---- where no contents are given
 
-nothing_after : (all : List SectionAt) (r : ℕ) → new_after_section [] all r ≡ []
+pub nothing_after : (all : List SectionAt) (r : ℕ) → new_after_section [] all r ≡ []
 nothing_after all zero = refl
 nothing_after all (suc r) = refl
 
@@ -33,7 +33,7 @@ unfolding integer
 no_bodies = refl
 
 -- no bodies are added
-code_alone :
+pub code_alone :
     (raws : List (List ℕ)) (bodies added contents : List ℕ) → length raws < 2 ^ 32 → bodies ≡ code_section raws → added ≡ 0 ∷ [] → HasItemsOf bodies added contents →
     contents ≡ code_section raws
 code_alone raws bodies added contents few is none h =

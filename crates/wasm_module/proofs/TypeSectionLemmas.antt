@@ -189,7 +189,7 @@ repeated_keeps P step (suc n) a end text x keeps p e =
     let b = bind_ok (step a end text) (λ y. repeated step n y.0 end y.1) x e in
     repeated_keeps P step n b.0.0 end b.0.1 x keeps (keeps a text b.0 p b.1) b.2
 
-one_more_holds : {A : Type 0} (P : A → Type 0) (xs : List A) (x : A) → AllByRecursion P xs → P x → AllByRecursion P (xs ++ x ∷ [])
+pub one_more_holds : {A : Type 0} (P : A → Type 0) (xs : List A) (x : A) → AllByRecursion P xs → P x → AllByRecursion P (xs ++ x ∷ [])
 one_more_holds P [] x all p = (p, tt)
 one_more_holds P (y ∷ ys) x all p = (all.0, one_more_holds P ys x all.1 p)
 
@@ -266,7 +266,7 @@ is_of_section limit (Func ps rs) h = tt
 is_of_section limit (Entry rs) h = h
 is_of_section limit Other h = tt
 
-types_are_of_section : (limit end : ℕ) (text : List ℕ) (x : List ModuleType × List ℕ) → types_part limit end text ≡ Ok x → AllByRecursion IsOfSection x.0
+pub types_are_of_section : (limit end : ℕ) (text : List ℕ) (x : List ModuleType × List ℕ) → types_part limit end text ≡ Ok x → AllByRecursion IsOfSection x.0
 types_are_of_section limit end text x e =
     let a = bind_ok (number end text) (λ n. repeated (next_group limit) n.0 [] end n.1) x e in
     repeated_keeps (AllByRecursion IsOfSection) (next_group limit) a.0.0 [] end a.0.1 x
