@@ -125,7 +125,7 @@ unedited seq = record { kind = FunctionEntry; id = refl; type = refl; end = refl
 pub none_edited : (b : List InstrSeq) → AreEditedSequences b b
 none_edited b = (refl, λ slot seq known. record { seq = seq; at_slot = known; edited = unedited seq })
 
-after_set : {X : Type 0} (xs : List X) (i : ℕ) (v : X) (q : ℕ) (y : X) → slice_get xs q ≡ Some y
+pub after_set : {X : Type 0} (xs : List X) (i : ℕ) (v : X) (q : ℕ) (y : X) → slice_get xs q ≡ Some y
     → ((q ≡ i) × (slice_get (slice_set xs i v) q ≡ Some v)) ⊎ (slice_get (slice_set xs i v) q ≡ Some y)
 after_set [] i v q y h = absurd (cc h)
 after_set (x ∷ xs) zero v zero y h = inl (refl, refl)

@@ -16,7 +16,8 @@ use Rattle.wasm_insertion.specs.EditedTrees.{never_goes_on, EditedItems, no_item
 use Rattle.walrus_insertion.specs.declared.plain_instr.PlainInstr.{PlainInstr}
 use Rattle.walrus_insertion.specs.Edits.{added}
 use Rattle.walrus_insertion.specs.InsertedInstructions.{ends_code, InsertedFrom, at_end, before_last, before_next, GivesAny, EditedAt}
-use Rattle.walrus_insertion.proofs.PlainOperators.{no_slots, inserted_named, inserted_is_plain, inserted_has_no_blocks, inserted_instruction}
+use Rattle.walrus_insertion.specs.BegunBodies.{inserted_operator}
+use Rattle.walrus_insertion.proofs.PlainOperators.{no_slots, inserted_is_plain, inserted_has_no_blocks, inserted_instruction}
 use Rattle.walrus_insertion.proofs.CutTrees.{IsCut, AreCut}
 
 -- an instruction that never goes on contains no sequence
@@ -53,7 +54,7 @@ one_added {new = new} {around = around} {old = old} p n = record {
   are = are_items (subst (λ slots. AreSequences new slots no_sequences) (sym (no_slots p)) are_no_sequences) n.are;
   edited =
       subst (λ i. EditedItems (items_in around old) (item i no_sequences (items_in around n.items))) (inserted_instruction around p)
-      (added_item (inserted_named p) (inserted_is_plain p) (inserted_has_no_blocks p) n.edited);
+      (added_item (inserted_operator p) (inserted_is_plain p) (inserted_has_no_blocks p) n.edited);
   reached = n.reached;
 }
 

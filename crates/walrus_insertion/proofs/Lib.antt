@@ -6,3 +6,7 @@ pub mod EditedItems
 pub mod CutTrees
 pub mod EditedFunctions
 pub mod Visiting
+-- a function that begins with instructions more
+pub mod AddedItems
+pub mod Elsewhere
+pub mod BegunBodies

@@ -8,58 +8,27 @@ use Rattle.wasm_types.specs.declared.binary.BinaryOp.{BinaryOp}
 use Rattle.wasm_types.specs.declared.binary.BinaryOp.TheVariants as binary
 use Rattle.wasm_types.specs.declared.ternary.TernaryOp.{TernaryOp}
 use Rattle.wasm_types.specs.declared.ternary.TernaryOp.TheVariants as ternary
-use Rattle.walrus_ir.specs.Types.{Signature, signature}
 use Rattle.walrus_ir.specs.Locations.{default_location}
 use Rattle.walrus_ir.specs.Unfolding.{slots_in}
-use Rattle.wasm_operators.specs.Operations.{Immediate, index, local, label, handler, outer, number, access, branch_table, clauses, block, heap, value, cast, i32, i64, f32, f64, v128, lane, lanes, zero_byte, Operation}
 use Rattle.wasm_operators.specs.UnaryOperations.{unary_operation}
 use Rattle.wasm_operators.specs.BinaryOperations.{binary_operation}
 use Rattle.wasm_operators.specs.TernaryOperations.{ternary_operation}
 use Rattle.wasm_body.specs.Control.{a_plain, role_of, control_by, control_of, Plain, Does}
-use Rattle.wasm_body.specs.Flat.{Named}
 use Rattle.wasm_body.specs.FunctionTree.{TreeOperation, LegacyClause, Instruction}
-use Rattle.wasm_body.specs.InstructionTable.{PlacedImmediate, PlacedOperation, operation_of, const_operation, clauses_of_try}
-use Rattle.wasm_body.specs.Naming.{NamedOperation, block_types}
+use Rattle.wasm_body.specs.InstructionTable.{PlacedOperation, operation_of, const_operation, clauses_of_try}
+use Rattle.wasm_body.specs.Naming.{block_types}
 use Rattle.wasm_body.specs.NormalForm.{kept_operation, instruction}
-use Rattle.wasm_body.specs.Translation.{at_location}
 use Rattle.wasm_body.specs.TreeOfFunction.{with_targets, instruction_in}
 use Rattle.walrus_insertion.specs.declared.plain_instr.PlainInstr.{PlainInstr}
 use Rattle.walrus_insertion.specs.declared.plain_instr.PlainInstr.TheVariants as plain
 use Rattle.walrus_insertion.specs.PlainInstructions.{instr_of}
 use Rattle.walrus_insertion.specs.Edits.{added}
-
--- ---- the operator of an instruction, with names; a plain one has neither labels nor block types
-
-abbrev unplaced : PlacedImmediate → Immediate ℕ Signature
-unplaced (index s n) = index s n
-unplaced (local n) = local n
-unplaced (label n) = label n
-unplaced (handler n) = handler n
-unplaced (outer n) = outer n
-unplaced (number n) = number n
-unplaced (access a) = access a
-unplaced (branch_table ts d) = branch_table ts d
-unplaced (clauses cs) = clauses cs
-unplaced (block b) = block (signature [] [])
-unplaced (heap h) = heap h
-unplaced (value v) = value v
-unplaced (cast c) = cast c
-unplaced (i32 z) = i32 z
-unplaced (i64 z) = i64 z
-unplaced (f32 bits) = f32 bits
-unplaced (f64 bits) = f64 bits
-unplaced (v128 bits) = v128 bits
-unplaced (lane n) = lane n
-unplaced (lanes ns) = lanes ns
-unplaced zero_byte = zero_byte
-
-abbrev named_operation : PlacedOperation → NamedOperation
-named_operation o = record { opcode = o.opcode; immediates = map unplaced o.immediates }
+use Rattle.walrus_insertion.specs.BegunBodies.{unplaced, unplaced_operation, inserted_operator}
 
 record IsPlainOperator (o : PlacedOperation) : Type 0 where
   pub role : role_of o.opcode ≡ a_plain
   pub no_blocks : block_types (map unplaced o.immediates) ≡ []
-  pub same : (around : List ℕ) → kept_operation (named_operation o) ≡ with_targets around o
+  pub same : (around : List ℕ) → kept_operation (unplaced_operation o) ≡ with_targets around o
 
 of_const : (v : Value) → IsPlainOperator (const_operation v)
 of_const (I32 z) = record { role = refl; no_blocks = refl; same = λ around. refl }
@@ -94,18 +63,15 @@ no_clauses _ = refl
 
 -- ---- the instruction in the tree
 
-abbrev pub inserted_named : PlainInstr → Named
-inserted_named p = at_location (named_operation (operation_of (instr_of p))) default_location
+pub inserted_is_plain : (p : PlainInstr) → control_of (inserted_operator p).op ≡ Does Plain
+inserted_is_plain p = ap (λ r. control_by r (inserted_operator p).op.immediates) (of_plain p).role
 
-pub inserted_is_plain : (p : PlainInstr) → control_of (inserted_named p).op ≡ Does Plain
-inserted_is_plain p = ap (λ r. control_by r (inserted_named p).op.immediates) (of_plain p).role
-
-pub inserted_has_no_blocks : (p : PlainInstr) → block_types (inserted_named p).op.immediates ≡ []
+pub inserted_has_no_blocks : (p : PlainInstr) → block_types (inserted_operator p).op.immediates ≡ []
 inserted_has_no_blocks p = (of_plain p).no_blocks
 
 abbrev unlocated : TreeOperation → List LegacyClause → Instruction
 unlocated o cs = record { op = o; clauses = cs; location = default_location }
 
-pub inserted_instruction : (around : List ℕ) (p : PlainInstr) → instruction (inserted_named p) [] ≡ instruction_in around (added p)
+pub inserted_instruction : (around : List ℕ) (p : PlainInstr) → instruction (inserted_operator p) [] ≡ instruction_in around (added p)
 inserted_instruction around p =
     ap (λ o. unlocated o []) ((of_plain p).same around) ∙ ap (unlocated (with_targets around (operation_of (instr_of p)))) (sym (no_clauses p))

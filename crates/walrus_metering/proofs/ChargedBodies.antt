@@ -1,6 +1,5 @@
 -- The normal form of a metered body, with the operators of charges, is that of the body with a charge before each straight piece.
-use Rattle.std.proofs.Common.{◌≡◌, ℕ, zero, suc, ◌+◌, List, [], ◌∷◌, Bool, true, false, refl, sym, ap, ◌∙◌, subst, arith}
-use Rattle.std.specs.List.{AllByRecursion}
+use Rattle.std.proofs.Common.{◌≡◌, ℕ, zero, suc, ◌+◌, List, [], ◌∷◌, Bool, true, false, refl, sym, ap, ◌∙◌, arith}
 use Rattle.walrus_ir.specs.Locations.{default_location}
 use Rattle.walrus_ir.specs.Tree.{Items, no_items, item, Sequences, no_sequences, sequence}
 use Rattle.wasm_body.specs.Control.{role_of, Action, Nop, Plain, Branch, ConditionalBranch, TableBranch, Return, Unreachable, Throw, ThrowRef, Rethrow, TailCall, Construct, If, Try, Does, Opens}
@@ -10,13 +9,14 @@ use Rattle.wasm_body.specs.Naming.{NamedOperation}
 use Rattle.wasm_body.specs.NormalForm.{Typing, instruction, head, construct_type, handler_type, normal, handler_sequences, legacy_clauses, closed_at}
 use Rattle.wasm_body.specs.SourceTree.{Sequence, Empty, Single, Wrapped, IfThen, IfElse, TryCatch, TryDelegate, Clauses, Ended, Catches, CatchesAll, construct_of, Body, map_sequence, map_clauses}
 use Rattle.wasm_body.proofs.Structure.Along.{Each, EachIn, HasControl}
-use Rattle.wasm_insertion.specs.Insertion.{Origin, Own, Added, without_origin, Inserted, empty, insert, single, wrapped, if_then, if_else, try_catch, try_delegate, ClausesInserted, ended, catches_one, catches_all, InsertedBody, goes_straight, rest_of_piece, piece_cost, with_charge, metered, metered_clauses, metered_body}
+use Rattle.wasm_insertion.specs.Insertion.{Origin, Own, Added, without_origin, Inserted, empty, insert, single, wrapped, if_then, added_else, if_else, try_catch, try_delegate, ClausesInserted, ended, catches_one, catches_all, InsertedBody, rest_of_piece, piece_cost, with_charge, metered, metered_clauses}
+use Rattle.walrus_insertion.proofs.AddedItems.{before_items}
+use Rattle.walrus_insertion.specs.BegunBodies.{with_added}
 use Rattle.walrus_metering.specs.declared.costs.Costs.{Costs}
 use Rattle.walrus_metering.specs.declared.charge.Charge.{Charge}
-use Rattle.walrus_metering.specs.OperatorCosts.{operator_cost}
-use Rattle.walrus_metering.specs.MeteredTrees as trees
-use Rattle.walrus_metering.specs.MeteredTrees.{with_added, Charged, ClausesCharged, ChargedBody, operators_for, named_cost}
-use Rattle.walrus_metering.proofs.PaidItems.{action_straight, opens_straight, before_items, is_straight_on, items_cost, paying, paid_items, paid_sequences}
+use Rattle.wasm_insertion.proofs.Metering.{metered_is_inserted}
+use Rattle.walrus_metering.specs.MeteredTrees.{prepared, prepared_clauses, charge_shown, charging_operator, prepared_for, named_cost, charged_body}
+use Rattle.walrus_metering.proofs.PaidItems.{action_straight, opens_straight, before_more, is_straight_on, items_cost, paying, paid_items, paid_sequences}
 
 module _ (costs : Costs) (charge : Charge) where
   abbrev O : Type 0
@@ -25,98 +25,57 @@ module _ (costs : Costs) (charge : Charge) where
   abbrev cost : Named → ℕ
   cost = named_cost costs
 
-  abbrev before : Bool → ℕ → Sequence O → Sequence O
-  before true n t = t
-  before false zero t = t
-  before false (suc n) t = with_added (operators_for charge (suc n)) t
-
   -- ---- the body
 
-  abbrev mutual
-    charged : Sequence Named → Sequence O
-    charged Empty = Empty
-    charged (Single a action r) = Single (Own a) action (before (goes_straight action) (piece_cost cost r) (charged r))
-    charged (Wrapped a w b e r) = Wrapped (Own a) w (before false (piece_cost cost b) (charged b)) (Own e) (before false (piece_cost cost r) (charged r))
-    charged (IfThen a b e r) = IfThen (Own a) (before false (piece_cost cost b) (charged b)) (Own e) (before false (piece_cost cost r) (charged r))
-    charged (IfElse a b l c e r) =
-        IfElse (Own a) (before false (piece_cost cost b) (charged b)) (Own l) (before false (piece_cost cost c) (charged c)) (Own e)
-        (before false (piece_cost cost r) (charged r))
-    charged (TryCatch a b cs r) =
-        TryCatch (Own a) (before false (piece_cost cost b) (charged b)) (charged_clauses cs) (before false (piece_cost cost r) (charged r))
-    charged (TryDelegate a b e n r) =
-        TryDelegate (Own a) (before false (piece_cost cost b) (charged b)) (Own e) n (before false (piece_cost cost r) (charged r))
+  abbrev shown : Sequence (Origin (Origin Named ℕ) Named) → Sequence O
+  shown t = map_sequence (charge_shown (charging_operator charge)) t
 
-    charged_clauses : Clauses Named → Clauses O
-    charged_clauses (Ended e) = Ended (Own e)
-    charged_clauses (Catches a t b cs) = Catches (Own a) t (before false (piece_cost cost b) (charged b)) (charged_clauses cs)
-    charged_clauses (CatchesAll a b e) = CatchesAll (Own a) (before false (piece_cost cost b) (charged b)) (Own e)
+  -- with the operators that prepare a charge
+  abbrev with_all : Sequence (Origin Named ℕ) → Sequence O
+  with_all t = shown (prepared (prepared_for charge) t)
+
+  abbrev charged : Sequence Named → Sequence O
+  charged s = with_all (metered cost s)
+
+  abbrev charged_clauses : Clauses Named → Clauses O
+  charged_clauses cs = map_clauses (charge_shown (charging_operator charge)) (prepared_clauses (prepared_for charge) (metered_clauses cost cs))
+
+  -- a sequence and what is charged before it
+  abbrev before : Bool → Sequence Named → Sequence O
+  before straight s = with_all (with_charge straight (piece_cost cost s) (metered cost s))
 
   -- from its first piece on
   abbrev whole : Sequence Named → Sequence O
-  whole s = before false (piece_cost cost s) (charged s)
-
-  abbrev pub charged_body : Body Named → Body O
-  charged_body b = record { sequence = whole b.sequence; close = Own b.close }
-
-  with_is_charged : (straight : Bool) (n : ℕ) {s : Sequence (Origin Named ℕ)} {t : Sequence O} → Charged (operators_for charge) s t
-      → Charged (operators_for charge) (with_charge straight n s) (before straight n t)
-  with_is_charged true n h = h
-  with_is_charged false zero h = h
-  with_is_charged false (suc n) h = trees.charges h
-
-  mutual
-    is_charged : (s : Sequence Named) → Charged (operators_for charge) (metered cost s) (charged s)
-    is_charged Empty = trees.nothing
-    is_charged (Single a action r) = trees.single (with_is_charged (goes_straight action) (piece_cost cost r) (is_charged r))
-    is_charged (Wrapped a w b e r) = trees.wrapped (with_is_charged false (piece_cost cost b) (is_charged b)) (with_is_charged false (piece_cost cost r) (is_charged r))
-    is_charged (IfThen a b e r) = trees.if_then (with_is_charged false (piece_cost cost b) (is_charged b)) (with_is_charged false (piece_cost cost r) (is_charged r))
-    is_charged (IfElse a b l c e r) = trees.if_else (with_is_charged false (piece_cost cost b) (is_charged b)) (with_is_charged false (piece_cost cost c) (is_charged c)) (with_is_charged false (piece_cost cost r) (is_charged r))
-    is_charged (TryCatch a b cs r) = trees.try_catch (with_is_charged false (piece_cost cost b) (is_charged b)) (clauses_are_charged cs) (with_is_charged false (piece_cost cost r) (is_charged r))
-    is_charged (TryDelegate a b e n r) = trees.try_delegate (with_is_charged false (piece_cost cost b) (is_charged b)) (with_is_charged false (piece_cost cost r) (is_charged r))
-
-    clauses_are_charged : (cs : Clauses Named) → ClausesCharged (operators_for charge) (metered_clauses cost cs) (charged_clauses cs)
-    clauses_are_charged (Ended e) = trees.ended
-    clauses_are_charged (Catches a t b cs) = trees.catches_one (with_is_charged false (piece_cost cost b) (is_charged b)) (clauses_are_charged cs)
-    clauses_are_charged (CatchesAll a b e) = trees.catches_all (with_is_charged false (piece_cost cost b) (is_charged b))
-
-  whole_is_charged : (s : Sequence Named)
-      → Charged (operators_for charge) (with_charge false (piece_cost cost s) (metered cost s)) (before false (piece_cost cost s) (charged s))
-  whole_is_charged s = with_is_charged false (piece_cost cost s) (is_charged s)
-
-  pub body_is_charged : (b : Body Named) → ChargedBody (operators_for charge) (metered_body cost b) (charged_body b)
-  body_is_charged b = record { sequence = whole_is_charged b.sequence; close = b.close; is_close = refl; same_close = refl }
+  whole s = before false s
 
   -- ---- it is an insertion
 
-  added_inserted : (ps : List Named) {s : Sequence Named} {t : Sequence O} → Inserted s t → Inserted s (with_added ps t)
-  added_inserted [] h = h
-  added_inserted (p ∷ ps) h = insert (added_inserted ps h)
-
-  before_inserted : (straight : Bool) (n : ℕ) {s : Sequence Named} {t : Sequence O} → Inserted s t → Inserted s (before straight n t)
-  before_inserted true n h = h
-  before_inserted false zero h = h
-  before_inserted false (suc n) h = added_inserted (operators_for charge (suc n)) h
+  added_inserted : (ps : List Named) (s : Sequence Named) (t : Sequence (Origin (Origin Named ℕ) Named)) → Inserted s (shown t)
+      → Inserted s (shown (with_added ps t))
+  added_inserted [] s t h = h
+  added_inserted (p ∷ ps) s t h = insert (added_inserted ps s t h)
 
   mutual
-    is_inserted : (s : Sequence Named) → Inserted s (charged s)
-    is_inserted Empty = empty
-    is_inserted (Single a action r) = single (before_inserted (goes_straight action) (piece_cost cost r) (is_inserted r))
-    is_inserted (Wrapped a w b e r) = wrapped (before_inserted false (piece_cost cost b) (is_inserted b)) (before_inserted false (piece_cost cost r) (is_inserted r))
-    is_inserted (IfThen a b e r) = if_then (before_inserted false (piece_cost cost b) (is_inserted b)) (before_inserted false (piece_cost cost r) (is_inserted r))
-    is_inserted (IfElse a b l c e r) = if_else (before_inserted false (piece_cost cost b) (is_inserted b)) (before_inserted false (piece_cost cost c) (is_inserted c)) (before_inserted false (piece_cost cost r) (is_inserted r))
-    is_inserted (TryCatch a b cs r) = try_catch (before_inserted false (piece_cost cost b) (is_inserted b)) (clauses_inserted cs) (before_inserted false (piece_cost cost r) (is_inserted r))
-    is_inserted (TryDelegate a b e n r) = try_delegate (before_inserted false (piece_cost cost b) (is_inserted b)) (before_inserted false (piece_cost cost r) (is_inserted r))
+    is_inserted : {s : Sequence Named} {t : Sequence (Origin Named ℕ)} → Inserted s t → Inserted s (with_all t)
+    is_inserted empty = empty
+    is_inserted (insert {p = n} {s = s} {t = t} h) =
+        added_inserted (prepared_for charge n) s (Single (Own (Added n)) Plain (prepared (prepared_for charge) t)) (insert (is_inserted h))
+    is_inserted (single h) = single (is_inserted h)
+    is_inserted (wrapped f h) = wrapped (is_inserted f) (is_inserted h)
+    is_inserted (if_then f h) = if_then (is_inserted f) (is_inserted h)
+    is_inserted (added_else f g h) = added_else (is_inserted f) (is_inserted g) (is_inserted h)
+    is_inserted (if_else f g h) = if_else (is_inserted f) (is_inserted g) (is_inserted h)
+    is_inserted (try_catch f g h) = try_catch (is_inserted f) (clauses_inserted g) (is_inserted h)
+    is_inserted (try_delegate f h) = try_delegate (is_inserted f) (is_inserted h)
 
-    clauses_inserted : (cs : Clauses Named) → ClausesInserted cs (charged_clauses cs)
-    clauses_inserted (Ended e) = ended
-    clauses_inserted (Catches a t b cs) = catches_one (before_inserted false (piece_cost cost b) (is_inserted b)) (clauses_inserted cs)
-    clauses_inserted (CatchesAll a b e) = catches_all (before_inserted false (piece_cost cost b) (is_inserted b))
+    clauses_inserted : {cs : Clauses Named} {ds : Clauses (Origin Named ℕ)} → ClausesInserted cs ds
+        → ClausesInserted cs (map_clauses (charge_shown (charging_operator charge)) (prepared_clauses (prepared_for charge) ds))
+    clauses_inserted ended = ended
+    clauses_inserted (catches_one f g) = catches_one (is_inserted f) (clauses_inserted g)
+    clauses_inserted (catches_all f) = catches_all (is_inserted f)
 
-  whole_inserted : (s : Sequence Named) → Inserted s (before false (piece_cost cost s) (charged s))
-  whole_inserted s = before_inserted false (piece_cost cost s) (is_inserted s)
-
-  pub body_inserted : (b : Body Named) → InsertedBody b (charged_body b)
-  body_inserted b = record { sequence = whole_inserted b.sequence; close = refl }
+  pub body_inserted : (b : Body Named) → InsertedBody b (charged_body costs charge b)
+  body_inserted b = record { sequence = is_inserted (metered_is_inserted Named cost b).sequence; close = refl }
 
   -- ---- its normal form
 
@@ -124,14 +83,17 @@ module _ (costs : Costs) (charge : Charge) where
     abbrev form : Sequence O → Items Head Instruction
     form t = normal m (map_sequence without_origin t)
 
-    added_form : (ps : List Named) (t : Sequence O) → form (with_added ps t) ≡ before_items ps (form t)
+    added_form : (ps : List Named) (t : Sequence (Origin (Origin Named ℕ) Named)) → form (shown (with_added ps t)) ≡ before_items ps (form (shown t))
     added_form [] t = refl
     added_form (p ∷ ps) t = ap (λ l. item (instruction p []) no_sequences l) (added_form ps t)
 
-    before_form : (straight : Bool) (n : ℕ) (t : Sequence O) → form (before straight n t) ≡ paying costs charge straight n (form t)
-    before_form true n t = refl
-    before_form false zero t = refl
-    before_form false (suc n) t = added_form (operators_for charge (suc n)) t
+    charge_form : (straight : Bool) (n : ℕ) (t : Sequence (Origin Named ℕ))
+        → form (with_all (with_charge straight n t)) ≡ paying costs charge straight n (form (with_all t))
+    charge_form true n t = refl
+    charge_form false zero t = refl
+    charge_form false (suc n) t =
+        added_form (prepared_for charge (suc n)) (Single (Own (Added (suc n))) Plain (prepared (prepared_for charge) t))
+        ∙ before_more (prepared_for charge (suc n)) (charging_operator charge) (form (with_all t))
 
     nothing_more : (n : ℕ) → n + 0 ≡ n
     nothing_more n = omega arith
@@ -187,16 +149,16 @@ module _ (costs : Costs) (charge : Charge) where
 
     -- what comes after an operator, or in a sequence
     paid_after : (straight : Bool) (s : Sequence Named) → Each HasControl s → form (charged s) ≡ paid_items costs charge (normal m s)
-        → form (before straight (piece_cost cost s) (charged s))
+        → form (before straight s)
         ≡ paying costs charge straight (items_cost costs charge (normal m s)) (paid_items costs charge (normal m s))
     paid_after straight s h e =
-        before_form straight (piece_cost cost s) (charged s)
+        charge_form straight (piece_cost cost s) (metered cost s)
         ∙ ap (λ l. paying costs charge straight (piece_cost cost s) l) e
         ∙ ap (λ n. paying costs charge straight n (paid_items costs charge (normal m s))) (sym (form_cost s h))
 
     stays_paid : (a : Named) (straight : Bool) (r : Sequence Named) → is_straight_on (instruction a []) ≡ straight → Each HasControl r
         → form (charged r) ≡ paid_items costs charge (normal m r)
-        → item (instruction a []) no_sequences (form (before straight (piece_cost cost r) (charged r)))
+        → item (instruction a []) no_sequences (form (before straight r))
         ≡ paid_items costs charge (item (instruction a []) no_sequences (normal m r))
     stays_paid a straight r q h e =
         ap (λ l. item (instruction a []) no_sequences l) (paid_after straight r h e)
@@ -232,16 +194,16 @@ module _ (costs : Costs) (charge : Charge) where
     -- a construct: its sequences, and what comes after it
     construct_paid : (i : Instruction) (ss ts : Sequences Head Instruction) (r : Sequence Named) → is_straight_on i ≡ false
         → ss ≡ paid_sequences costs charge ts → Each HasControl r → form (charged r) ≡ paid_items costs charge (normal m r)
-        → item i ss (form (before false (piece_cost cost r) (charged r))) ≡ paid_items costs charge (item i ts (normal m r))
+        → item i ss (form (before false r)) ≡ paid_items costs charge (item i ts (normal m r))
     construct_paid i ss ts r q f h e =
-        ap (λ l. item i l (form (before false (piece_cost cost r) (charged r)))) f
+        ap (λ l. item i l (form (before false r))) f
         ∙ ap (λ l. item i (paid_sequences costs charge ts) l) (paid_after false r h e)
         ∙ ap (λ y. item i (paid_sequences costs charge ts) (paying costs charge y (items_cost costs charge (normal m r)) (paid_items costs charge (normal m r)))) (sym q)
 
     -- a sequence before others
     sequence_paid : (t : Head) (b : Sequence Named) (ss ts : Sequences Head Instruction) → Each HasControl b
         → form (charged b) ≡ paid_items costs charge (normal m b) → ss ≡ paid_sequences costs charge ts
-        → sequence t (form (before false (piece_cost cost b) (charged b))) ss ≡ paid_sequences costs charge (sequence t (normal m b) ts)
+        → sequence t (form (before false b)) ss ≡ paid_sequences costs charge (sequence t (normal m b) ts)
     sequence_paid t b ss ts h e f = ap (λ l. sequence t l ss) (paid_after false b h e)
         ∙ ap (λ l. sequence t (paying costs charge false (items_cost costs charge (normal m b)) (paid_items costs charge (normal m b))) l) f
 
@@ -292,6 +254,6 @@ module _ (costs : Costs) (charge : Charge) where
 
     -- the normal form of the whole body
     pub whole_form : (s : Sequence Named) → Each HasControl s
-        → normal m (map_sequence without_origin (before false (piece_cost cost s) (charged s)))
+        → normal m (map_sequence without_origin (whole s))
         ≡ paying costs charge false (items_cost costs charge (normal m s)) (paid_items costs charge (normal m s))
     whole_form s h = paid_after false s h (form_paid s h)

@@ -7,5 +7,8 @@ pub mod Steps
 pub mod PaidItems
 pub mod ChargedBodies
 pub mod MeteredFunctions
--- the runs of metered bodies
+-- each operator of a metered body; its runs; a valid body with charges is valid; and what is written of it
+pub mod EachCharged
 pub mod ChargedRuns
+pub mod ProbedCharges
+pub mod MeteredTexts

@@ -5,36 +5,27 @@ use Rattle.std.proofs.Common.{◌≡◌, ℕ, zero, suc, ◌+◌, List, [], ◌�
 use Rattle.std.proofs.lemmas.Bool.{ne_eqb}
 use Rattle.std.proofs.lemmas.Option.{slice_get-map}
 use Rattle.walrus_ir.specs.declared.seq.InstrSeq.{InstrSeq}
-use Rattle.walrus_ir.specs.Tree.{Items, no_items, item, Sequences, no_sequences, sequence, Tree, alone}
-use Rattle.walrus_ir.specs.Unfolding.{SequenceAt, LocatedInstr, AreTreeItems, are_no_items, are_items, AreSequences, are_no_sequences, are_sequences, slots_reached, slots_reached_each, Apart, IsTree}
+use Rattle.walrus_ir.specs.Tree.{Items, no_items, item, Sequences, no_sequences, sequence}
+use Rattle.walrus_ir.specs.Unfolding.{SequenceAt, LocatedInstr, AreTreeItems, are_no_items, are_items, AreSequences, are_no_sequences, are_sequences, slots_reached, slots_reached_each, Apart}
 use Rattle.wasm_body.specs.Flat.{Named}
 use Rattle.wasm_body.specs.FunctionTree.{Head, Instruction, FunctionTree}
 use Rattle.wasm_body.specs.InstructionTable.{operation_of}
-use Rattle.wasm_body.specs.NormalForm.{Typing, instruction, normal, normal_form}
-use Rattle.wasm_body.specs.SourceTree.{Body}
-use Rattle.wasm_body.specs.TextLaws.{IsNamedBody}
+use Rattle.wasm_body.specs.NormalForm.{normal_form}
 use Rattle.wasm_body.specs.TreeOfFunction.{tree_of, instruction_in, head_of, items_in, sequences_in, HasTree}
-use Rattle.wasm_body.proofs.Structure.Along.{Each, HasControl, along, weaker}
+use Rattle.wasm_body.proofs.Structure.Along.{HasControl, along, weaker}
 use Rattle.wasm_insertion.specs.Insertion.{rest_of_piece}
-use Rattle.walrus_insertion.specs.declared.plain_instr.PlainInstr.{PlainInstr}
 use Rattle.walrus_insertion.specs.Edits.{added}
-use Rattle.walrus_insertion.proofs.PlainOperators.{no_slots, inserted_named, inserted_instruction}
+use Rattle.walrus_insertion.specs.BegunBodies.{inserted_operators}
+use Rattle.walrus_insertion.proofs.AddedItems.{before_items, NewItems, all_added}
 use Rattle.walrus_metering.specs.declared.costs.Costs.{Costs}
 use Rattle.walrus_metering.specs.declared.charge.Charge.{Charge}
 use Rattle.walrus_metering.specs.declared.charge.Charge.TheVariants as charge
 use Rattle.walrus_metering.specs.OperatorCosts.{operator_cost}
 use Rattle.walrus_metering.specs.Charges.{charging, charge_of}
-use Rattle.walrus_metering.specs.MeteredInstructions.{instr_goes_straight, cost_from, max_charge, charged_for, instrs_with_charge, metered_instrs, all_metered, metered_sequence}
-use Rattle.walrus_metering.specs.MeteredTrees.{charge_operators, operators_for, MeteredTrees}
-use Rattle.walrus_metering.proofs.PaidItems.{before_items, is_straight_on, items_cost, paying, paid_items, paid_sequences}
-use Rattle.walrus_metering.proofs.ChargedBodies.{charged_body, body_is_charged, body_inserted, whole_form}
-
--- the items of a metered sequence, which are to be these
-record NewItems (new : List InstrSeq) (around : List ℕ) (old : Items SequenceAt LocatedInstr) (wanted : Items Head Instruction) (instrs : List LocatedInstr) : Type 0 where
-  pub items : Items SequenceAt LocatedInstr
-  pub are : AreTreeItems new instrs items
-  pub same : items_in around items ≡ wanted
-  pub reached : (seen : List ℕ) → slots_reached items seen ≡ slots_reached old seen
+use Rattle.walrus_metering.specs.MeteredInstructions.{instr_goes_straight, cost_from, charged_for, instrs_with_charge, metered_instrs, metered_sequence}
+use Rattle.walrus_metering.specs.MeteredTrees.{charge_operators, MeteredTrees}
+use Rattle.walrus_metering.proofs.PaidItems.{items_cost, paying, paid_items, paid_sequences}
+use Rattle.walrus_metering.proofs.ChargedBodies.{body_inserted, whole_form}
 
 record NewSequences (new : List InstrSeq) (around : List ℕ) (old : Sequences SequenceAt LocatedInstr) (wanted : Sequences Head Instruction) (places : List ℕ) : Type 0 where
   pub sequences : Sequences SequenceAt LocatedInstr
@@ -42,23 +33,8 @@ record NewSequences (new : List InstrSeq) (around : List ℕ) (old : Sequences S
   pub same : sequences_in around sequences ≡ wanted
   pub reached : (seen : List ℕ) → slots_reached_each sequences seen ≡ slots_reached_each old seen
 
--- instructions inserted before items
-all_added : {new : List InstrSeq} {around : List ℕ} {old : Items SequenceAt LocatedInstr} {wanted : Items Head Instruction} {instrs : List LocatedInstr}
-    (ps : List PlainInstr) → NewItems new around old wanted instrs → NewItems new around old (before_items (map inserted_named ps) wanted) (map added ps ++ instrs)
-all_added [] n = n
-all_added {new = new} {around = around} {old = old} {wanted = wanted} {instrs = instrs} (p ∷ ps) n =
-    let later = all_added ps n in
-    record {
-      items = item (added p) no_sequences later.items;
-      are = are_items (subst (λ slots. AreSequences new slots no_sequences) (sym (no_slots p)) are_no_sequences) later.are;
-      same =
-          ap (λ i. item i no_sequences (items_in around later.items)) (sym (inserted_instruction around p))
-          ∙ ap (λ l. item (instruction (inserted_named p) []) no_sequences l) later.same;
-      reached = later.reached;
-    }
-
 -- the operators of a charge
-charging_named : (c : Charge) (n : ℕ) → map inserted_named (charging c n) ≡ charge_operators c n
+charging_named : (c : Charge) (n : ℕ) → inserted_operators (charging c n) ≡ charge_operators c n
 charging_named (charge.Call func) n = refl
 charging_named (charge.Add global) n = refl
 
@@ -185,8 +161,6 @@ metered_trees costs c old start m xs b named has =
     let whole : HasTree (new costs c old) start (paid_tree costs c old (normal_form m b)) =
     subst (λ z. HasTree (new costs c old) start (paid_tree costs c old z)) has.is made in
     record {
-      body = charged_body costs c b;
-      charged = body_is_charged costs c b;
       inserted = body_inserted costs c b;
       has_tree = subst (HasTree (new costs c old) start) (ap (λ l. record (normal_form m b) { items = l }) (sym (whole_form costs c m b.sequence each))) whole;
     }

@@ -1,5 +1,5 @@
 -- Items of a tree with a charge before each straight piece.
-use Rattle.std.proofs.Common.{◌≡◌, ℕ, zero, suc, ◌+◌, List, [], ◌∷◌, Bool, true, false, refl, sym, ap, ◌∙◌, subst}
+use Rattle.std.proofs.Common.{◌≡◌, ℕ, zero, suc, ◌+◌, List, [], ◌∷◌, ◌++◌, Bool, true, false, refl, ap, subst}
 use Rattle.walrus_ir.specs.Types.{Signature}
 use Rattle.walrus_ir.specs.Tree.{Items, no_items, item, Sequences, no_sequences, sequence}
 use Rattle.wasm_operators.specs.Operations.{Immediate, index, local, label, handler, outer, number, access, branch_table, clauses, block, heap, value, cast, i32, i64, f32, f64, v128, lane, lanes, zero_byte}
@@ -8,6 +8,7 @@ use Rattle.wasm_body.specs.Flat.{Named}
 use Rattle.wasm_body.specs.FunctionTree.{Head, Instruction}
 use Rattle.wasm_body.specs.NormalForm.{instruction}
 use Rattle.wasm_insertion.specs.Insertion.{goes_straight, rest_of_piece}
+use Rattle.walrus_insertion.proofs.AddedItems.{before_items}
 use Rattle.walrus_metering.specs.declared.costs.Costs.{Costs}
 use Rattle.walrus_metering.specs.declared.charge.Charge.{Charge}
 use Rattle.walrus_metering.specs.OperatorCosts.{operator_cost}
@@ -93,9 +94,10 @@ opens_straight a_plain is k h = absurd (cc h)
 
 -- ---- items
 
-abbrev pub before_items : List Named → Items Head Instruction → Items Head Instruction
-before_items [] is = is
-before_items (p ∷ ps) is = item (instruction p []) no_sequences (before_items ps is)
+pub before_more : (ps : List Named) (q : Named) (is : Items Head Instruction)
+    → before_items ps (item (instruction q []) no_sequences is) ≡ before_items (ps ++ q ∷ []) is
+before_more [] q is = refl
+before_more (p ∷ ps) q is = ap (λ l. item (instruction p []) no_sequences l) (before_more ps q is)
 
 abbrev pub is_straight_on : Instruction → Bool
 is_straight_on i = role_goes_straight (role_of i.op.opcode)

@@ -6,3 +6,5 @@ pub mod MeteredInstructions
 -- the tree of such a function, and how it runs
 pub mod MeteredTrees
 pub mod ChargedRuns
+-- and what is written of it
+pub mod MeteredTexts

@@ -1,65 +1,59 @@
 -- The tree of a function that charges what it executes: the normal form of a metered body (`metered_body` of `wasm_insertion`), with the
 -- operators of a charge in the place of each added one.
-use Rattle.std.specs.Prelude.{◌≡◌, ℕ, List, [], ◌∷◌, map, pos}
+use Rattle.std.specs.Prelude.{ℕ, List, [], ◌∷◌, ◌++◌, map, pos}
 use Rattle.wasm_operators.specs.declared.types.Opcode.TheVariants.{Byte}
 use Rattle.wasm_operators.specs.declared.types.Space.TheVariants.{Funcs, Globals}
 use Rattle.wasm_operators.specs.Operations.{index, i64, operation}
 use Rattle.walrus_ir.specs.declared.seq.InstrSeq.{InstrSeq}
 use Rattle.walrus_ir.specs.Locations.{default_location}
-use Rattle.wasm_body.specs.Control.{Action, Plain}
 use Rattle.wasm_body.specs.Flat.{Named}
 use Rattle.wasm_body.specs.Naming.{NamedOperation}
 use Rattle.wasm_body.specs.NormalForm.{Typing, normal_form}
-use Rattle.wasm_body.specs.SourceTree.{Sequence, Empty, Single, Wrapped, IfThen, IfElse, TryCatch, TryDelegate, Clauses, Ended, Catches, CatchesAll, Wrapper, Body, map_body}
+use Rattle.wasm_body.specs.SourceTree.{Sequence, Empty, Single, Wrapped, IfThen, IfElse, TryCatch, TryDelegate, Clauses, Ended, Catches, CatchesAll, Body, map_body}
 use Rattle.wasm_body.specs.TextLaws.{IsNamedBody}
 use Rattle.wasm_body.specs.Translation.{at_location}
 use Rattle.wasm_body.specs.TreeOfFunction.{HasTree}
 use Rattle.wasm_insertion.specs.Insertion.{Origin, Own, Added, without_origin, InsertedBody, metered_body}
+use Rattle.walrus_insertion.specs.BegunBodies.{with_added}
 use Rattle.walrus_metering.specs.declared.costs.Costs.{Costs}
 use Rattle.walrus_metering.specs.declared.charge.Charge.{Charge}
 use Rattle.walrus_metering.specs.declared.charge.Charge.TheVariants as charge
 use Rattle.walrus_metering.specs.OperatorCosts.{operator_cost}
 use Rattle.walrus_metering.specs.MeteredInstructions.{charged_for, metered_sequence}
 
--- ---- operators in the place of added ones
+-- ---- operators that prepare a charge
 
--- operators that are added before a sequence
-abbrev pub with_added : {A P : Type 0} → List P → Sequence (Origin A P) → Sequence (Origin A P)
-with_added [] s = s
-with_added (p ∷ ps) s = Single (Added p) Plain (with_added ps s)
+-- what prepares an operator: a charge of n has these operators, and one of the source has none
+abbrev pub prepares : {A P : Type 0} → (ℕ → List P) → Origin A ℕ → List P
+prepares operators (Own a) = []
+prepares operators (Added n) = operators n
 
--- The second sequence is the first, with the operators for n in the place of each operator that is added with n.
-mutual
-  pub data Charged {A P : Type 0} (operators : ℕ → List P) : Sequence (Origin A ℕ) → Sequence (Origin A P) → Type 0 where
-    nothing : Charged operators Empty Empty
-    charges : {n : ℕ} {s : Sequence (Origin A ℕ)} {t : Sequence (Origin A P)} → Charged operators s t
-        → Charged operators (Single (Added n) Plain s) (with_added (operators n) t)
-    single : {a : A} {action : Action} {s : Sequence (Origin A ℕ)} {t : Sequence (Origin A P)} → Charged operators s t
-        → Charged operators (Single (Own a) action s) (Single (Own a) action t)
-    wrapped : {a e : A} {w : Wrapper} {b r : Sequence (Origin A ℕ)} {b' r' : Sequence (Origin A P)} → Charged operators b b' → Charged operators r r'
-        → Charged operators (Wrapped (Own a) w b (Own e) r) (Wrapped (Own a) w b' (Own e) r')
-    if_then : {a e : A} {b r : Sequence (Origin A ℕ)} {b' r' : Sequence (Origin A P)} → Charged operators b b' → Charged operators r r'
-        → Charged operators (IfThen (Own a) b (Own e) r) (IfThen (Own a) b' (Own e) r')
-    if_else : {a l e : A} {b c r : Sequence (Origin A ℕ)} {b' c' r' : Sequence (Origin A P)} → Charged operators b b' → Charged operators c c'
-        → Charged operators r r' → Charged operators (IfElse (Own a) b (Own l) c (Own e) r) (IfElse (Own a) b' (Own l) c' (Own e) r')
-    try_catch : {a : A} {b r : Sequence (Origin A ℕ)} {cs : Clauses (Origin A ℕ)} {b' r' : Sequence (Origin A P)} {cs' : Clauses (Origin A P)}
-        → Charged operators b b' → ClausesCharged operators cs cs' → Charged operators r r'
-        → Charged operators (TryCatch (Own a) b cs r) (TryCatch (Own a) b' cs' r')
-    try_delegate : {a e : A} {n : ℕ} {b r : Sequence (Origin A ℕ)} {b' r' : Sequence (Origin A P)} → Charged operators b b' → Charged operators r r'
-        → Charged operators (TryDelegate (Own a) b (Own e) n r) (TryDelegate (Own a) b' (Own e) n r')
+-- A sequence that charges, with the operators that prepare a charge before each one that charges. Here these are the sequence's own, and
+-- those that prepare are added.
+module _ {A P : Type 0} (operators : ℕ → List P) where
+  abbrev mutual
+    pub prepared : Sequence (Origin A ℕ) → Sequence (Origin (Origin A ℕ) P)
+    prepared Empty = Empty
+    prepared (Single a action r) = with_added (prepares operators a) (Single (Own a) action (prepared r))
+    prepared (Wrapped a w b e r) = Wrapped (Own a) w (prepared b) (Own e) (prepared r)
+    prepared (IfThen a b e r) = IfThen (Own a) (prepared b) (Own e) (prepared r)
+    prepared (IfElse a b l c e r) = IfElse (Own a) (prepared b) (Own l) (prepared c) (Own e) (prepared r)
+    prepared (TryCatch a b cs r) = TryCatch (Own a) (prepared b) (prepared_clauses cs) (prepared r)
+    prepared (TryDelegate a b e n r) = TryDelegate (Own a) (prepared b) (Own e) n (prepared r)
 
-  pub data ClausesCharged {A P : Type 0} (operators : ℕ → List P) : Clauses (Origin A ℕ) → Clauses (Origin A P) → Type 0 where
-    ended : {e : A} → ClausesCharged operators (Ended (Own e)) (Ended (Own e))
-    catches_one : {a : A} {t : ℕ} {b : Sequence (Origin A ℕ)} {cs : Clauses (Origin A ℕ)} {b' : Sequence (Origin A P)} {cs' : Clauses (Origin A P)}
-        → Charged operators b b' → ClausesCharged operators cs cs' → ClausesCharged operators (Catches (Own a) t b cs) (Catches (Own a) t b' cs')
-    catches_all : {a e : A} {b : Sequence (Origin A ℕ)} {b' : Sequence (Origin A P)} → Charged operators b b'
-        → ClausesCharged operators (CatchesAll (Own a) b (Own e)) (CatchesAll (Own a) b' (Own e))
+    pub prepared_clauses : Clauses (Origin A ℕ) → Clauses (Origin (Origin A ℕ) P)
+    prepared_clauses (Ended e) = Ended (Own e)
+    prepared_clauses (Catches a t b cs) = Catches (Own a) t (prepared b) (prepared_clauses cs)
+    prepared_clauses (CatchesAll a b e) = CatchesAll (Own a) (prepared b) (Own e)
 
-pub record ChargedBody {A P : Type 0} (operators : ℕ → List P) (b : Body (Origin A ℕ)) (c : Body (Origin A P)) : Type 0 where
-  pub sequence : Charged operators b.sequence c.sequence
-  pub close : A
-  pub is_close : b.close ≡ Own close
-  pub same_close : c.close ≡ Own close
+  abbrev pub prepared_body : Body (Origin A ℕ) → Body (Origin (Origin A ℕ) P)
+  prepared_body b = record { sequence = prepared b.sequence; close = Own b.close }
+
+-- What is shown for an operator of such a body: it is the source's own, or it is added, as one that charges is; it's this operator then.
+abbrev pub charge_shown : {A P : Type 0} → (charges : P) → Origin (Origin A ℕ) P → Origin A P
+charge_shown charges (Own (Own a)) = Own a
+charge_shown charges (Own (Added n)) = Added charges
+charge_shown charges (Added p) = Added p
 
 -- ---- the operators of a charge
 
@@ -70,31 +64,41 @@ nowhere o = at_location o default_location
 abbrev pub const_of : ℕ → Named
 const_of n = nowhere (operation (Byte 0x42) (i64 (pos n) ∷ []))  -- i64.const
 
--- `i64.const n`, `call`; or `global.get`, `i64.const n`, `i64.add`, `global.set`
+-- `i64.const n`; or `global.get`, `i64.const n`, `i64.add`
+abbrev pub preparing_operators : Charge → ℕ → List Named
+preparing_operators (charge.Call func) n = const_of n ∷ []
+preparing_operators (charge.Add global) n =
+    nowhere (operation (Byte 0x23) (index Globals global ∷ [])) ∷ const_of n ∷ nowhere (operation (Byte 0x7c) []) ∷ []
+
+-- and then `call`; or `global.set`
+abbrev pub charging_operator : Charge → Named
+charging_operator (charge.Call func) = nowhere (operation (Byte 0x10) (index Funcs func ∷ []))
+charging_operator (charge.Add global) = nowhere (operation (Byte 0x24) (index Globals global ∷ []))
+
 abbrev pub charge_operators : Charge → ℕ → List Named
-charge_operators (charge.Call func) n = const_of n ∷ nowhere (operation (Byte 0x10) (index Funcs func ∷ [])) ∷ []
-charge_operators (charge.Add global) n =
-    nowhere (operation (Byte 0x23) (index Globals global ∷ []))
-    ∷ const_of n
-    ∷ nowhere (operation (Byte 0x7c) [])
-    ∷ nowhere (operation (Byte 0x24) (index Globals global ∷ []))
-    ∷ []
+charge_operators c n = preparing_operators c n ++ charging_operator c ∷ []
+
+-- those for a cost of n
+abbrev pub prepared_for : Charge → ℕ → List Named
+prepared_for c n = preparing_operators c (charged_for n)
 
 abbrev pub operators_for : Charge → ℕ → List Named
 operators_for c n = charge_operators c (charged_for n)
-
--- ---- the law
 
 -- what a named operator costs, by its opcode
 abbrev pub named_cost : Costs → Named → ℕ
 named_cost costs x = operator_cost costs x.op.opcode
 
--- From a sequence on there is the tree of the metered body: its normal form. It is an insertion into the source.
+-- the metered body, with the operators of a charge in the place of each added one
+abbrev pub charged_body : Costs → Charge → Body Named → Body (Origin Named Named)
+charged_body costs c b = map_body (charge_shown (charging_operator c)) (prepared_body (prepared_for c) (metered_body (named_cost costs) b))
+
+-- ---- the law
+
+-- From a sequence on there is the tree of this body: its normal form. It is an insertion into the source.
 pub record HasMeteredTree (costs : Costs) (charge : Charge) (sequences : List InstrSeq) (start : ℕ) (m : Typing) (b : Body Named) : Type 0 where
-  pub body : Body (Origin Named Named)
-  pub charged : ChargedBody (operators_for charge) (metered_body (named_cost costs) b) body
-  pub inserted : InsertedBody b body
-  pub has_tree : HasTree sequences start (normal_form m (map_body without_origin body))
+  pub inserted : InsertedBody b (charged_body costs charge b)
+  pub has_tree : HasTree sequences start (normal_form m (map_body without_origin (charged_body costs charge b)))
 
 -- Where the tree of a function was the normal form of a body, that of the metered function is the normal form of the metered body.
 abbrev pub MeteredTrees : Type 0

@@ -12,6 +12,6 @@ mod table;
 
 pub use charge::Charge;
 pub use costs::Costs;
-pub use laws::{law_charged_runs, law_metered_trees};
+pub use laws::{law_charged_runs, law_metered_texts, law_metered_trees};
 pub use metering::meter;
 pub use table::{CostsError, MAX_COST};

@@ -98,7 +98,7 @@ opens_role a_catch_all is k h = absurd (cc h)
 opens_role a_try_table is k h = refl
 opens_role a_plain is k h = absurd (cc h)
 
-plain_typed : (m : Typing) (r : Role) (o : NamedOperation) → control_by r o.immediates ≡ Does Plain → block_types o.immediates ≡ [] → IsTypedAs m r o
+pub plain_typed : (m : Typing) (r : Role) (o : NamedOperation) → control_by r o.immediates ≡ Does Plain → block_types o.immediates ≡ [] → IsTypedAs m r o
 plain_typed m an_unreachable o h t = t
 plain_typed m a_nop o h t = t
 plain_typed m a_block o h t = absurd (cc h)
@@ -158,7 +158,7 @@ module _ (m : Typing) where
   abbrev O : Type 0
   O = Origin Named Named
 
-  abbrev IsRight : Named → Control → Type 0
+  abbrev pub IsRight : Named → Control → Type 0
   IsRight a c = HasControl a c × IsTypedAs m (role_of a.op.opcode) a.op
 
   abbrev IsRightOrigin : O → Control → Type 0
@@ -239,7 +239,7 @@ module _ (m : Typing) where
       lifted s h (subst (Grown s) h.edited.is_core (build h.edited.inside h.edited.rest h.edited.edited))
 
   mutual
-    own_inserted : (s : Sequence Named) → Inserted {P = Named} s (map_sequence Own s)
+    pub own_inserted : (s : Sequence Named) → Inserted {P = Named} s (map_sequence Own s)
     own_inserted Empty = empty
     own_inserted (Single a action r) = single (own_inserted r)
     own_inserted (Wrapped a w b e r) = wrapped (own_inserted b) (own_inserted r)
@@ -519,11 +519,11 @@ module _ (m : Typing) where
 
   -- ---- bodies
 
-  right_marks : (xs : List Named) → AreTyped m xs → AllMarked IsRight (map mark_named xs)
+  pub right_marks : (xs : List Named) → AreTyped m xs → AllMarked IsRight (map mark_named xs)
   right_marks [] h = tt
   right_marks (x ∷ xs) h = ((refl, h.0), right_marks xs h.1)
 
-  typed_marks : (xs : List (Marked Named)) → AllMarked IsRight xs → AreTyped m (map (λ x. x.shown) xs)
+  pub typed_marks : (xs : List (Marked Named)) → AllMarked IsRight xs → AreTyped m (map (λ x. x.shown) xs)
   typed_marks [] h = tt
   typed_marks (x ∷ xs) h = (h.0.1, typed_marks xs h.1)
 

@@ -22,7 +22,7 @@ events_twice g f [] = refl
 events_twice g f (Executed a ∷ es) = ap (λ l. Executed (g (f a)) ∷ l) (events_twice g f es)
 events_twice g f (Taken a i t ∷ es) = ap (λ l. Taken (g (f a)) i t ∷ l) (events_twice g f es)
 
-run_twice : {A B C : Type 0} → (g : B → C) (f : A → B) (r : Run A) → show_run (λ a. g (f a)) r ≡ show_run g (show_run f r)
+pub run_twice : {A B C : Type 0} → (g : B → C) (f : A → B) (r : Run A) → show_run (λ a. g (f a)) r ≡ show_run g (show_run f r)
 run_twice g f r = ap (λ l. record { events = l; ending = r.ending }) (events_twice g f r.events)
 
 text_follows : (Stop : List Outcome → Run (Origin Named Named) → Type 0) (ys text : List Named) → ExecuteAlike ys text → (os' : List Outcome) (turns : ℕ)

@@ -500,7 +500,7 @@ says_named x CatchAll h = tt
 says_named x End h = tt
 says_named x (Delegate n) h = tt
 
-named_says : (xs : List Named) → SaysWhatAsks named_asks (map mark_named xs)
+pub named_says : (xs : List Named) → SaysWhatAsks named_asks (map mark_named xs)
 named_says [] = tt
 named_says (x ∷ xs) = (says_named x (control_of x.op) refl, named_says xs)
 
