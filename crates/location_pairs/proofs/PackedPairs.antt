@@ -1,12 +1,15 @@
 -- What is packed is read back, and pairs that are packed alike are the same.
-use Rattle.std.proofs.Common.{◌≡◌, ℕ, ◌+◌, ◌^◌, ◌%◌, ◌<◌, List, [], ◌∷◌, ◌++◌, length, Ok, refl, sym, ap, ◌∙◌, append_assoc, arith}
+use Rattle.std.proofs.Common.{◌≡◌, ℕ, ◌+◌, ◌-◌, ◌^◌, ◌/◌, ◌%◌, ◌<◌, ◌≤◌, Bool, cond, if◌then◌else◌, min, List, [], ◌∷◌, ◌++◌, length, take, drop, get_or, Result, Ok, Err, OnOk, is_ok, inl, inr, refl, sym, ap, ◌∙◌, append_assoc, arith}
+use Rattle.std.proofs.lemmas.Bool.{cases_lt, lt-ltb}
+use Rattle.std.proofs.lemmas.List.{take_all, drop_all}
+use Rattle.std.proofs.Math.Seq.{take-append_seam, drop-append_seam}
 use Rattle.std.specs.List.{AllByRecursion}
 use Rattle.wasm_numbers.specs.Numbers.{unsigned, integer, u64}
 use Rattle.wasm_numbers.proofs.Agreement.{ok_is}
 use Rattle.wasm_numbers.proofs.NumberLaws.{integers_agree}
-use Rattle.wasm_operators.specs.Shortest.{short_number}
+use Rattle.wasm_operators.specs.Shortest.{short_number, short_unsigned}
 use Rattle.wasm_operators.proofs.ShortestNumbers.{unsigned_spelt}
-use Rattle.location_pairs.specs.PackedPairs.{step_to, packed_after, packed_pairs, ArePackable}
+use Rattle.location_pairs.specs.PackedPairs.{step_to, packed_after, packed_pairs, FitPair, ArePackable, last_after}
 
 -- ---- numbers
 
@@ -17,6 +20,32 @@ pub number_once : (n m : ℕ) (r s : List ℕ) → n < 2 ^ 64 → m < 2 ^ 64 →
 number_once n m r s h k e =
     let both : (n, r) ≡ (m, s) = ok_is (n, r) (m, s) (sym (number_read n r h) ∙ ap u64 e ∙ number_read m s k) in
     (ap (λ (p : ℕ × List ℕ). p.0) both, ap (λ (p : ℕ × List ℕ). p.1) both)
+
+-- a number of seven bits is its own byte
+pub one_byte : (n : ℕ) → n < 128 → short_number n ≡ n ∷ []
+unfolding short_unsigned
+one_byte n fits = ap (λ (b : Bool). cond b (n ∷ []) ((n % 128 + 128) ∷ short_unsigned 8 (n / 128))) (lt-ltb n 128 fits)
+
+-- a number that is spelt with such a byte first is that, and what follows it follows the byte
+pub byte_once : (n b : ℕ) (r s : List ℕ) → n < 2 ^ 64 → b < 128 → b ∷ s ≡ short_number n ++ r → (b ≡ n) × (s ≡ r)
+byte_once n b r s h k e = number_once b n s r (omega arith) h (ap (λ (l : List ℕ). l ++ s) (one_byte b k) ∙ e)
+
+-- two such numbers, and what follows them
+pub two_once : (xs : List ℕ) (n m : ℕ) (rest : List ℕ) → n < 2 ^ 64 → m < 2 ^ 64 → 2 ≤ length xs → get_or xs 0 0 < 128 → get_or xs 1 0 < 128
+    → xs ≡ short_number n ++ short_number m ++ rest → (get_or xs 0 0 ≡ n) × (get_or xs 1 0 ≡ m) × (take (length xs - 2) (drop 2 xs) ≡ rest)
+two_once [] n m rest fn fm two small also e = absurd (omega arith)
+two_once (x ∷ []) n m rest fn fm two small also e = absurd (omega arith)
+two_once (x ∷ y ∷ ys) n m rest fn fm two small also e =
+    let first = byte_once n x (short_number m ++ rest) (y ∷ ys) fn small (e ∙ append_assoc (short_number n) (short_number m) rest) in
+    let second = byte_once m y rest ys fm also first.1 in
+    (first.0, second.0, take_all (length (x ∷ y ∷ ys) - 2) ys (omega arith) ∙ second.1)
+
+-- two such numbers are appended
+pub two_appended : {A E : Type 0} (r : Result A E) (old new : List ℕ) (n m x y : ℕ) → n < 128 → m < 128 → x ≡ n → y ≡ m → new ≡ (if is_ok r then old ++ x ∷ y ∷ [] else old)
+    → OnOk r (new ≡ old ++ short_number n ++ short_number m)
+two_appended (Ok a) old new n m x y small also f g e =
+    e ∙ (λ i. old ++ f i ∷ g i ∷ []) ∙ sym (append_assoc old (n ∷ []) (m ∷ [])) ∙ (λ i. old ++ sym (one_byte n small) i ++ sym (one_byte m also) i)
+two_appended (Err e) old new n m x y small also f g h = tt
 
 -- ---- distances
 
@@ -33,9 +62,6 @@ pub location_back : (from to : ℕ) → from < 2 ^ 32 → to < 2 ^ 32 → (from 
 location_back from to f t = omega arith
 
 -- ---- lists of pairs
-
-abbrev pub FitPair : ℕ × ℕ → Type 0
-FitPair p = (p.0 < 2 ^ 32) × (p.1 < 2 ^ 64)
 
 pub same_pair : (p q : ℕ × ℕ) → p.0 ≡ q.0 → p.1 ≡ q.1 → p ≡ q
 same_pair p q a b = λ i. (a i, b i)
@@ -88,3 +114,39 @@ packed_once ps qs h k e =
 pub never_empty : (ps : List (ℕ × ℕ)) → ArePackable ps → packed_pairs ps ≡ [] → ⊥
 unfolding integer
 never_empty ps h e = let no = sym (ap u64 e) ∙ number_read (length ps) (packed_after 0 0 ps) h.0 in cc
+
+-- ---- some pairs, and others after them
+
+pub last_both : (before : ℕ × ℕ) (ps more : List (ℕ × ℕ)) → last_after before (ps ++ more) ≡ last_after (last_after before ps) more
+last_both before [] more = refl
+last_both before (p ∷ ps) more = last_both p ps more
+
+pub packed_both : (before : ℕ × ℕ) (ps more : List (ℕ × ℕ))
+    → packed_after before.0 before.1 (ps ++ more) ≡ packed_after before.0 before.1 ps ++ packed_after (last_after before ps).0 (last_after before ps).1 more
+packed_both before [] more = refl
+packed_both before (p ∷ ps) more =
+    let place = short_number (step_to 64 before.1 p.1) in
+    let location = short_number (step_to 32 before.0 p.0) in
+    ap (λ (b : List ℕ). place ++ location ++ b) (packed_both p ps more)
+    ∙ sym (append_assoc (place ++ location) (packed_after p.0 p.1 ps) (packed_after (last_after p ps).0 (last_after p ps).1 more))
+
+pub all_both : (ps more : List (ℕ × ℕ)) → AllByRecursion FitPair ps → AllByRecursion FitPair more → AllByRecursion FitPair (ps ++ more)
+all_both [] more h k = k
+all_both (p ∷ ps) more h k = (h.0, all_both ps more h.1 k)
+
+-- ---- so many of some pairs, and the others
+
+pub some_taken : (xs rest ps : List (ℕ × ℕ)) (most : ℕ) → xs ++ rest ≡ ps → length xs ≡ min (length ps) most → (xs ≡ take most ps) × (rest ≡ drop most ps)
+some_taken xs rest ps most e len =
+    let front : xs ≡ take (length xs) ps = sym (take-append_seam xs rest) ∙ ap (λ (l : List (ℕ × ℕ)). take (length xs) l) e in
+    let back : rest ≡ drop (length xs) ps = sym (drop-append_seam xs rest) ∙ ap (λ (l : List (ℕ × ℕ)). drop (length xs) l) e in
+    elim (cases_lt (length ps) most) [
+      | inl few ↦
+          let all : length xs ≡ length ps = omega (arith, len) in
+          let whole : take (length xs) ps ≡ ps = take_all (length xs) ps (omega arith) in
+          let none : drop (length xs) ps ≡ [] = drop_all (length xs) ps (omega arith) in
+          (front ∙ whole ∙ sym (take_all most ps (omega arith)), back ∙ none ∙ sym (drop_all most ps (omega arith)))
+      | inr many ↦
+          let same : length xs ≡ most = omega (arith, len) in
+          (front ∙ ap (λ (n : ℕ). take n ps) same, back ∙ ap (λ (n : ℕ). drop n ps) same)
+    ]

@@ -17,6 +17,15 @@ packed_after location place (p ∷ ps) = short_number (step_to 64 place p.1) ++ 
 abbrev pub packed_pairs : List (ℕ × ℕ) → List ℕ
 packed_pairs ps = short_number (length ps) ++ packed_after 0 0 ps
 
+-- a location of 32 bits, and a place of 64
+abbrev pub FitPair : ℕ × ℕ → Type 0
+FitPair p = (p.0 < 2 ^ 32) × (p.1 < 2 ^ 64)
+
 -- fewer than 2^64 pairs, with locations of 32 bits and places of 64
 abbrev pub ArePackable : List (ℕ × ℕ) → Type 0
-ArePackable ps = (length ps < 2 ^ 64) × AllByRecursion (λ p. (p.0 < 2 ^ 32) × (p.1 < 2 ^ 64)) ps
+ArePackable ps = (length ps < 2 ^ 64) × AllByRecursion FitPair ps
+
+-- the last of these pairs, and of the one before them
+abbrev pub last_after : ℕ × ℕ → List (ℕ × ℕ) → ℕ × ℕ
+last_after before [] = before
+last_after before (p ∷ ps) = last_after p ps

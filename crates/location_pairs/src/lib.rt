@@ -3,5 +3,7 @@
 #![tactic(auto)]
 
 mod packing;
+mod unpacking;
 
-pub use packing::{pack, unpack};
+pub use packing::{Packer, pack};
+pub use unpacking::{Unpacker, unpack};

@@ -1,21 +1,28 @@
-//! Packing and unpacking.
-ghost use Rattle.std.specs.Prelude.{◌≡◌, ◌<◌, ◌^◌, ℕ, List, ◌++◌, length, take, OnOk};
+//! Packing: all pairs at once, or some after others.
+ghost use Rattle.std.specs.Prelude.{◌≡◌, ℕ, List, [], ◌++◌, length, take, OnOk, IfOk};
+ghost use Rattle.std.specs.List.{AllByRecursion};
 ghost use Rattle.wasm_operators.specs.Shortest.{short_number};
-ghost use Rattle.location_pairs.specs.PackedPairs.{step_to, ArePackable, packed_after, packed_pairs};
+ghost use Rattle.location_pairs.specs.PackedPairs.{step_to, FitPair, ArePackable, packed_after, packed_pairs, last_after};
+ghost use Rattle.location_pairs.specs.PackedPieces.{HasPacked};
 
-use std::alloc::AllocError;
+use std::alloc::{AllocError, Global};
 use walrus_ir::InstrLocId;
 use wasm_encode::write_number;
-use wasm_numbers::read_u64;
 
 /// A location and a place.
 #[derive(Clone, Copy)]
-struct Last {
-    location: u32,
-    place: usize,
+pub(crate) struct Last {
+    pub location: u32,
+    pub place: usize,
 }
 
 impl Last {
+    /// Those before the first pair.
+    pub const NONE: Last = Last {
+        location: 0,
+        place: 0,
+    };
+
     /// Those of a pair.
     fn of(pair: (InstrLocId, usize)) -> Last
         ensures location { result.location ≡ pair.0 }
@@ -30,6 +37,7 @@ impl Last {
 }
 
 /// Appends a pair, as how far it is from the one before.
+#[inline(always)]
 fn pack_one(last: Last, pair: (InstrLocId, usize), packed: &mut Vec<u8>) -> Result<(), AllocError>
     ensures packed { OnOk result (packed.new.items ≡ packed.old.items
         ++ short_number (step_to 64 last.place pair.1)
@@ -37,8 +45,37 @@ fn pack_one(last: Last, pair: (InstrLocId, usize), packed: &mut Vec<u8>) -> Resu
     ensures unchanged { take (length packed.old.items) packed.new.items ≡ packed.old.items }
 {
     let (location, place) = pair;
-    write_number(packed, place.wrapping_sub(last.place) as u64)?;
-    write_number(packed, location.data().wrapping_sub(last.location) as u64)
+    let distance = place.wrapping_sub(last.place) as u64;
+    let step = location.data().wrapping_sub(last.location) as u64;
+    if distance < 128 && step < 128 {
+        return packed.extend_from_slice(&[distance as u8, step as u8]);
+    }
+    write_number(packed, distance)?;
+    write_number(packed, step)
+}
+
+/// Appends pairs, each as how far it is from the one before; the first from this one. Returns the
+/// last.
+fn pack_after(
+    before: Last,
+    pairs: &[(InstrLocId, usize)],
+    packed: &mut Vec<u8>,
+) -> Result<Last, AllocError>
+    ensures packed { OnOk result (packed.new.items ≡ packed.old.items
+        ++ packed_after before.location before.place pairs.now) }
+    ensures location { IfOk result (λ last. last.location
+        ≡ (last_after (before.location, before.place) pairs.now).0) }
+    ensures place { IfOk result (λ last. last.place
+        ≡ (last_after (before.location, before.place) pairs.now).1) }
+    ensures fit { OnOk result (AllByRecursion FitPair pairs.now) }
+    ensures unchanged { take (length packed.old.items) packed.new.items ≡ packed.old.items }
+{
+    let mut last = before;
+    for pair in pairs {
+        pack_one(last, *pair, packed)?;
+        last = Last::of(*pair);
+    }
+    Ok(last)
 }
 
 /// Appends location pairs in few bytes: their number, and then of each how far its place is from the
@@ -53,76 +90,64 @@ pub fn pack(pairs: &[(InstrLocId, usize)], packed: &mut Vec<u8>) -> Result<(), A
     ensures unchanged { take (length packed.old.items) packed.new.items ≡ packed.old.items }
 {
     write_number(packed, pairs.len() as u64)?;
-    let mut last = Last {
-        location: 0,
-        place: 0,
-    };
-    for pair in pairs {
-        pack_one(last, *pair, packed)?;
-        last = Last::of(*pair);
-    }
+    pack_after(Last::NONE, pairs, packed)?;
     Ok(())
 }
 
-/// The location with this number.
-fn location_of(number: u32) -> InstrLocId
-    ensures { result ≡ number }
-{
-    if number == u32::MAX {
-        return InstrLocId::default();
-    }
-    InstrLocId::new(number)
+/// Location pairs that are packed some at a time. Their number, which comes first, is known at the
+/// end.
+#[derive(Drop)]
+pub struct Packer {
+    /// How many there are.
+    count: usize,
+    /// The last of them.
+    last: Last,
+    /// What follows their number.
+    packed: Vec<u8>,
 }
 
-/// The number at the front of these bytes, and the bytes after it; 0 and none where there is no number.
-fn number_at(packed: &[u8]) -> (u64, &[u8])
-    ensures { (n : ℕ) → n < 2 ^ 64 → (rest : List ℕ) → packed.now ≡ short_number n ++ rest
-        → (result.0 ≡ n) × (result.1.now ≡ rest) }
-{
-    match read_u64(packed) {
-        Ok(read) => read,
-        Err(_) => (0, &[]),
+impl Packer {
+    /// No pairs. It allocates nothing.
+    pub fn new(alloc: Global) -> Packer
+        ensures { HasPacked result [] }
+    {
+        Packer {
+            count: 0,
+            last: Last::NONE,
+            packed: Vec::new(alloc),
+        }
     }
-}
 
-/// The pair after this one, from how far it is from it.
-fn unpack_one(last: Last, packed: &[u8]) -> (Last, &[u8])
-    ensures { (location place : ℕ) → location < 2 ^ 32 → place < 2 ^ 64 → (rest : List ℕ)
-        → packed.now ≡ short_number (step_to 64 last.place place)
-        ++ short_number (step_to 32 last.location location) ++ rest
-        → (result.0.location ≡ location) × (result.0.place ≡ place) × (result.1.now ≡ rest) }
-{
-    let (distance, following) = number_at(packed);
-    let (step, rest) = number_at(following);
-    let next = Last {
-        location: last.location.wrapping_add((step % 0x1_0000_0000) as u32),
-        place: last.place.wrapping_add(distance as usize),
-    };
-    (next, rest)
-}
-
-/// Puts location pairs that `pack` appended to no bytes into a list, in place of what it contains. Other
-/// bytes give any pairs.
-///
-/// # Errors
-///
-/// Out of memory.
-pub fn unpack(packed: &[u8], pairs: &mut Vec<(InstrLocId, usize)>) -> Result<(), AllocError>
-    ensures pairs { (ps : List (ℕ × ℕ)) → ArePackable ps → packed.now ≡ packed_pairs ps
-        → OnOk result (pairs.new.items ≡ ps) }
-    ensures fit { OnOk result (ArePackable pairs.new.items) }
-{
-    pairs.clear();
-    let (count, mut left) = number_at(packed);
-    let mut last = Last {
-        location: 0,
-        place: 0,
-    };
-    for _ in 0..count {
-        let (next, rest) = unpack_one(last, left);
-        pairs.push((location_of(next.location), next.place))?;
-        last = next;
-        left = rest;
+    /// Packs pairs that follow the others.
+    ///
+    /// # Errors
+    ///
+    /// Out of memory.
+    pub fn add(&mut self, pairs: &[(InstrLocId, usize)]) -> Result<(), AllocError>
+        ensures { (before : List (ℕ × ℕ)) → HasPacked self.old before
+            → OnOk result (HasPacked self.new (before ++ pairs.now)) }
+    {
+        let Some(count) = self.count.checked_add(pairs.len()) else {
+            return Err(AllocError);
+        };
+        self.last = pack_after(self.last, pairs, &mut self.packed)?;
+        self.count = count;
+        Ok(())
     }
-    Ok(())
+
+    /// Appends what `pack` appends for all of them.
+    ///
+    /// # Errors
+    ///
+    /// Out of memory. The bytes that were in `packed` before are unchanged, and others may follow them.
+    pub fn append_to(&self, packed: &mut Vec<u8>) -> Result<(), AllocError>
+        ensures packed { (pairs : List (ℕ × ℕ)) → HasPacked self.now pairs
+            → OnOk result (packed.new.items ≡ packed.old.items ++ packed_pairs pairs) }
+        ensures fit { (pairs : List (ℕ × ℕ)) → HasPacked self.now pairs → ArePackable pairs }
+        ensures unchanged { take (length packed.old.items) packed.new.items ≡ packed.old.items }
+    {
+        write_number(packed, self.count as u64)?;
+        packed.extend_from_slice(&self.packed)?;
+        Ok(())
+    }
 }

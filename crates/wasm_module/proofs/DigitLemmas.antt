@@ -1,11 +1,13 @@
 -- Numbers in hexadecimal: how many digits they have, and the digits from the last one on.
-use Rattle.std.proofs.Common.{◌≡◌, ℕ, zero, suc, ◌+◌, ◌-◌, ◌*◌, ◌/◌, ◌%◌, ◌<◌, ◌≤◌, cond, Bool, List, [], ◌∷◌, ◌++◌, length, take, drop, set, refl, sym, ap, subst, ◌∙◌, append_assoc, inl, inr, arith}
+use Rattle.std.proofs.Common.{◌≡◌, ℕ, zero, suc, ◌+◌, ◌-◌, ◌*◌, ◌/◌, ◌%◌, ◌<◌, ◌≤◌, cond, Bool, List, [], ◌∷◌, ◌++◌, length, length-append, length-take, length-set, take, drop, set, refl, sym, ap, subst, ◌∙◌, append_assoc, inl, inr, arith}
 use Rattle.std.specs.Prelude.{◌^◌}
 use Rattle.std.proofs.lemmas.Bool.{lt-ltb, le-ltb, cases_lt}
-use Rattle.std.proofs.lemmas.List.{append-nil, length_push, take-set-le, drop-set}
+use Rattle.std.proofs.lemmas.List.{append-nil, length_push, take-set-le, drop-set, take-take, drop-take, drop_at, length-take-le, take_more_set}
+use Rattle.std.proofs.lemmas.Slice.{take-put_mid}
+use borrow.Rule.Slice.PartMut.{mid_of, put_mid}
 use Rattle.std.proofs.lemmas.Nat.{pow-add, shr_below, le-div}
 use Rattle.std.proofs.Math.Nat.{pow-le-pow_right}
-use Rattle.std.proofs.Math.Seq.{take-add}
+use Rattle.std.proofs.Math.Seq.{take-add, take-append_seam, take-append-add}
 use Rattle.wasm_module.specs.MapText.{hex_digit, hex_digits_within, hexadecimal}
 
 -- ---- the definition at smaller and greater numbers
@@ -135,3 +137,81 @@ all_digits old buffer at end number left is kept d =
 -- a place before those that are kept doesn't change
 pub kept_before : (old buffer : List ℕ) (at place digit : ℕ) → at ≤ place → take at buffer ≡ take at old → take at (set buffer place digit) ≡ take at old
 kept_before old buffer at place digit later kept = take-set-le at buffer place digit later ∙ kept
+
+-- ---- all but the last two digits
+
+same_within : (more n : ℕ) → n < 2 ^ (4 * more + 4) → hex_digits_within (suc more) n ≡ hex_digits_within more n
+same_within zero n small =
+    let few : n < 16 = small in one_digit 1 n few ∙ sym (one_digit 0 n few)
+same_within (suc more) n small =
+    elim (cases_lt n 16) [
+      | inl few ↦ one_digit (suc (suc more)) n few ∙ sym (one_digit (suc more) n few)
+      | inr great ↦
+          let e : 4 * suc more + 4 ≡ 4 * more + 4 + 4 = omega arith in
+          let upper : n / 16 < 2 ^ (4 * more + 4) = shr_below n (4 * more + 4) 4 (subst (λ (m : ℕ). n < 2 ^ m) e small) in
+          more_digits (suc more) n great ∙ ap (λ (l : List ℕ). l ++ hex_digit (n % 16) ∷ []) (same_within more (n / 16) upper) ∙ sym (more_digits more n great)
+    ]
+
+pub front_digits : (n : ℕ) → 256 ≤ n → n < 2 ^ 64 → hexadecimal n ≡ hexadecimal (n / 256) ++ hex_digit (n / 16 % 16) ∷ hex_digit (n % 16) ∷ []
+front_digits n great fits =
+    let front = n / 256 in
+    let before = hex_digit (n / 16 % 16) in
+    let last = hex_digit (n % 16) in
+    let same : n / 16 / 16 ≡ front = omega arith in
+    let small : front < 2 ^ 56 = omega arith in
+    let most : front < 2 ^ 60 = omega arith in
+    let enough : hex_digits_within 13 front ≡ hexadecimal front = sym (same_within 14 front most ∙ same_within 13 front small) in
+    more_digits 14 n (omega arith)
+    ∙ ap (λ (l : List ℕ). l ++ last ∷ [])
+    (more_digits 13 (n / 16) (omega arith) ∙ ap (λ (m : ℕ). hex_digits_within 13 m ++ before ∷ []) same ∙ ap (λ (l : List ℕ). l ++ before ∷ []) enough)
+    ∙ append_assoc (hexadecimal front) (before ∷ []) (last ∷ [])
+
+pub front_len : (n : ℕ) → 256 ≤ n → n < 2 ^ 64 → length (hexadecimal n) ≡ length (hexadecimal (n / 256)) + 2
+front_len n great fits = ap (λ (l : List ℕ). length l) (front_digits n great fits) ∙ length-append (hexadecimal (n / 256)) (hex_digit (n / 16 % 16) ∷ hex_digit (n % 16) ∷ [])
+
+-- the first of these digits are those of the front
+pub front_taken : (digits : List ℕ) (n len : ℕ) → 256 ≤ n → n < 2 ^ 64 → len ≡ length (hexadecimal n) → take len digits ≡ hexadecimal n → take (len - 2) digits ≡ hexadecimal (n / 256)
+front_taken digits n len great fits is there =
+    let front = hexadecimal (n / 256) in
+    let both = hex_digit (n / 16 % 16) ∷ hex_digit (n % 16) ∷ [] in
+    let count : len - 2 ≡ length front = omega (arith, is, front_len n great fits) in
+    sym (take-take (len - 2) len digits (omega arith)) ∙ ap (λ (l : List ℕ). take (len - 2) l) (there ∙ front_digits n great fits)
+    ∙ ap (λ (k : ℕ). take k (front ++ both)) count ∙ take-append_seam front both
+
+-- the digits that were put after the place `at`, among those after it
+pub digits_put : (old buffer : List ℕ) (at end number : ℕ) → take end buffer ≡ take at old ++ hexadecimal number → at ≤ length old → end ≡ at + length (hexadecimal number)
+    → end ≤ at + 16 → take (end - at) (mid_of at (at + 16 - at) buffer) ≡ hexadecimal number
+digits_put old buffer at end number written room ends few =
+    let front : length (take at old) ≡ at = length-take-le at old room in
+    let parts : at + (end - at) ≡ end = omega arith in
+    take-take (end - at) (at + 16 - at) (drop at buffer) (omega arith) ∙ sym (drop-take at (end - at) buffer)
+    ∙ ap (λ (k : ℕ). drop at (take k buffer)) parts ∙ ap (λ (l : List ℕ). drop at l) written ∙ drop_at (take at old) (hexadecimal number) at front
+
+pub one_is : 49 ∷ [] ≡ hexadecimal 1
+unfolding hex_digits_within
+one_is = refl
+
+-- the digits of a front, in place of what follows the place `at`, and then two more
+pub front_put :
+    (old digits : List ℕ) (at len number : ℕ) → 256 ≤ number → number < 2 ^ 64 → at + 16 ≤ length old → length digits ≡ 16 → len ≤ 14 → take len digits ≡ hexadecimal (number / 256) →
+    take (at + len + 2) (set (set (put_mid at (at + 16 - at) old digits) (at + len) (hex_digit (number / 16 % 16))) (at + len + 1) (hex_digit (number % 16))) ≡ take at old ++ hexadecimal number
+front_put old digits at len number great fits room count few are =
+    let front = put_mid at (at + 16 - at) old digits in
+    let before = hex_digit (number / 16 % 16) in
+    let last = hex_digit (number % 16) in
+    let one = set front (at + len) before in
+    let all : take (at + 16) front ≡ take at old ++ digits = take-put_mid at (at + 16 - at) old digits (at + 16) (omega (arith, count)) (omega arith) in
+    let long : at + 16 ≤ length front =
+    omega (arith, length-take (at + 16) front, ap (λ (l : List ℕ). length l) all, length-append (take at old) digits, length-take-le at old (omega arith), count) in
+    let begin : length (take at old) ≡ at = length-take-le at old (omega arith) in
+    let some : take (at + len) front ≡ take at old ++ take len digits =
+    sym (take-take (at + len) (at + 16) front (omega arith)) ∙ ap (λ (l : List ℕ). take (at + len) l) all
+    ∙ ap (λ (n : ℕ). take (n + len) (take at old ++ digits)) (sym begin) ∙ take-append-add (take at old) digits len in
+    let second : take (at + len + 1) one ≡ take (at + len) front ++ before ∷ [] = take_more_set front (at + len) before (omega arith) in
+    let within : at + len + 1 < length one = omega (arith, length-set front (at + len) before) in
+    let next : at + len + 2 ≡ at + len + 1 + 1 = omega arith in
+    ap (λ (n : ℕ). take n (set one (at + len + 1) last)) next ∙ take_more_set one (at + len + 1) last within
+    ∙ ap (λ (l : List ℕ). l ++ last ∷ []) (second ∙ ap (λ (l : List ℕ). l ++ before ∷ []) (some ∙ ap (λ (l : List ℕ). take at old ++ l) are))
+    ∙ append_assoc (take at old ++ hexadecimal (number / 256)) (before ∷ []) (last ∷ [])
+    ∙ append_assoc (take at old) (hexadecimal (number / 256)) (before ∷ last ∷ [])
+    ∙ ap (λ (l : List ℕ). take at old ++ l) (sym (front_digits number great fits))

@@ -4,16 +4,14 @@ use Rattle.std.specs.List.{between}
 use Rattle.std.proofs.lemmas.List.{take-append-le, drop_at}
 use Rattle.std.proofs.lemmas.Slice.{between_is, between_to_end}
 use Rattle.std.proofs.lemmas.Option.{same_Some}
-use Rattle.wasm_sections.specs.declared.code.Bodies.{Bodies}
 use Rattle.wasm_sections.specs.declared.code.Body.{Body}
 use Rattle.wasm_module.specs.declared.changing.kept_bodies.KeptBodies.{KeptBodies}
 use Rattle.wasm_module.specs.declared.changing.kept_bodies.KeptBody.{KeptBody}
 use Rattle.wasm_module.specs.declared.parsed.ParsedModule.{ParsedModule}
-use Rattle.wasm_sections.specs.CodeSections.{BodyAt, body_at, TakesBody}
-use Rattle.wasm_module.specs.RewrittenCode.{FunctionChange, IsChanged, AreChanged}
+use Rattle.wasm_sections.specs.CodeSections.{BodyAt, body_at}
 use Rattle.wasm_module.specs.KeptParts.{AreWithin}
-use Rattle.wasm_module.specs.KeptCode.{kept_source, bodies_in, raw_in, raws_in, IsKept, AreKept, AreKeptAs, KeepsAtMost, KeepsChanged}
-use Rattle.wasm_module.specs.WrittenModules.{RawWriting, count_bodies}
+use Rattle.wasm_module.specs.KeptCode.{kept_source, bodies_in, raw_in, raws_in, IsKept, AreKeptAs, KeepsAtMost}
+use Rattle.wasm_module.specs.WrittenModules.{RawWriting}
 
 -- ---- lists of them
 
@@ -171,63 +169,3 @@ pub stay_kept :
     (writes : RawWriting) (source : ParsedModule) (b : Body) (raw : List ℕ) (old new : KeptBodies) → KeepsAtMost b raw old new → writes source b.func (body_at b) raw →
     AreKeptAs writes source old → AreKeptAs writes source new
 stay_kept writes source b raw old new most here every f c r k = kept_either writes source b raw old f c r every here (most source f c r k)
-
--- ---- the functions of bodies, changed one after the other
-
-module _ {State : Type 0} (changes : FunctionChange State) (source : ParsedModule) where
-  changed_more :
-      (before middle after : State) (f : ℕ) (bs : List BodyAt) (raws : List (List ℕ)) (n : ℕ) (b : BodyAt) (raw : List ℕ) → AreChanged changes source before f bs raws middle →
-      n ≡ f + length bs → IsChanged (changes middle after) source n b raw →
-      AreChanged changes source before f (bs ++ b ∷ []) (raws ++ raw ∷ []) after
-  changed_more before middle after f [] [] n b raw h e r =
-      let same : n ≡ f = omega arith in
-      let there = subst (λ (k : ℕ). IsChanged (changes middle after) source k b raw) same r in
-      (after, subst (λ (s : State). IsChanged (changes s after) source f b raw) (sym h) there, refl)
-  changed_more before middle after f [] (w ∷ raws) n b raw h e r = absurd h
-  changed_more before middle after f (a ∷ bs) [] n b raw h e r = absurd h
-  changed_more before middle after f (a ∷ bs) (w ∷ raws) n b raw h e r =
-      let next : n ≡ f + 1 + length bs = omega arith in
-      (h.0, h.1, changed_more h.0 middle after (f + 1) bs raws n b raw h.2 next r)
-
-  -- The bodies before the next one are changed, and kept.
-  pub record KeptSoFar (before : State) (kept : KeptBodies) (next : ℕ) (now : State) : Type 0 where
-    pub first_is : kept.first ≡ source.imported
-    pub next_is : next ≡ source.imported + length kept.bodies.items
-    pub are_changed : AreChanged changes source before source.imported (bodies_in kept.bodies.items) (raws_in kept.raws.items kept.bodies.items) now
-
-  pub none_kept :
-      (before : State) (kept : KeptBodies) (next : ℕ) → kept.first ≡ source.imported → kept.bodies.items ≡ [] → next ≡ source.imported → KeptSoFar before kept next before
-  none_kept before kept next f none n = record {
-    first_is = f;
-    next_is = let len : length kept.bodies.items ≡ 0 = ap (λ (ks : List KeptBody). length ks) none in omega arith;
-    are_changed =
-        subst (λ (ks : List KeptBody). AreChanged changes source before source.imported (bodies_in ks) (raws_in kept.raws.items ks) before) (sym none) refl;
-  }
-
-  pub one_kept :
-      (before middle after : State) (s t : Bodies) (r : Option Body) (b : Body) (old new : KeptBodies) → KeptSoFar before old s.next middle → r ≡ Some b → TakesBody s r t →
-      KeepsChanged (changes middle after) source b old new → KeptSoFar before new t.next after
-  one_kept before middle after s t r b old new p i takes k =
-      let taken : TakesBody s (Some b) t = subst (λ (o : Option Body). TakesBody s o t) i takes in
-      let bs = bodies_in old.bodies.items in
-      let raws = raws_in old.raws.items old.bodies.items in
-      let place : b.func ≡ source.imported + length bs =
-      let f = taken.0 in let n = p.next_is in let len = bodies_len old.bodies.items in omega arith in
-      let more = changed_more before middle after source.imported bs raws b.func (body_at b) k.raw p.are_changed place k.is_changed in
-      let with_bodies =
-      subst (λ (l : List BodyAt). AreChanged changes source before source.imported l (raws ++ k.raw ∷ []) after) (sym k.bodies) more in
-      record {
-        first_is = k.first ∙ p.first_is;
-        next_is = let n = p.next_is in let m = taken.1 in let len = k.len in omega arith;
-        are_changed =
-            subst (λ (l : List (List ℕ)). AreChanged changes source before source.imported (bodies_in new.bodies.items) l after) (sym k.raws) with_bodies;
-      }
-
-  pub all_kept :
-      (before : State) (kept : KeptBodies) (next : ℕ) (after : State) → length kept.bodies.items ≡ count_bodies source → KeptSoFar before kept next after →
-      AreKept changes source before kept after
-  all_kept before kept next after n p = record {
-    first_is = p.first_is;
-    are_all = n;
-    are_changed = p.are_changed;
-  }

@@ -7,6 +7,7 @@ use Rattle.std.proofs.lemmas.Option.{same_Some}
 use Rattle.std.proofs.lemmas.Slice.Eq.{bytes_eq-Decides}
 use Rattle.location_pairs.specs.PackedPairs.{ArePackable, packed_pairs}
 use Rattle.location_pairs.proofs.PackedPairs.{packed_once, never_empty}
+use Rattle.location_pairs.proofs.UnpackedPairs.{unpacked, unpacked_again, unpacked_fit}
 use Rattle.wasm_body.specs.Pairs.{Pair}
 use Rattle.wasm_sections.specs.declared.code.Body.{Body}
 use Rattle.wasm_module.specs.declared.changing.kept_bodies.KeptBodies.{KeptBodies}
@@ -88,6 +89,12 @@ same_or_not bytes ps false e some pack read =
 -- what is unpacked was packed
 pub unpacked_are : (bytes : List ℕ) (ps : List Pair) → bytes ≢ [] → IsPack bytes → ((qs : List Pair) → ArePackable qs → bytes ≡ packed_pairs qs → ps ≡ qs) → bytes ≡ packed_pairs ps
 unpacked_are bytes ps some pack read = same_or_not bytes ps (bytes_eq bytes (packed_pairs ps)) refl some pack read
+
+-- what is kept is nothing, or some pairs
+pub pairs_in : (bytes : List ℕ) → bytes ≢ [] → IsPack bytes → (ps : List Pair) × ArePackable ps × (bytes ≡ packed_pairs ps)
+pairs_in bytes some pack =
+    let ps = unpacked bytes in
+    (ps, unpacked_fit bytes, unpacked_are bytes ps some pack (λ qs h e. ap unpacked e ∙ unpacked_again qs h))
 
 pub packs_longer : (all longer : List ℕ) (ks : List KeptBody) → take (length all) longer ≡ all → ArePacks all ks → ArePacks longer ks
 packs_longer all longer ks front h n k e =
@@ -203,17 +210,6 @@ module _ (has : Bool) (b : Body) (raw : List ℕ) (pairs : List Pair) (old new :
       with_one_of source f c r (packed_pairs ps) ps k.at k.function_is k.fit refl
       (triple_at (bodies_in ks) (raws_in old.raws.items ks) (packs_in old.pairs.items ks) (body_at b) c raw r (pack_if has pairs) (packed_pairs ps) k.at one other body bytes pack)
 
--- a large body is kept without its pairs
-pub keeps_large : (b : Body) (raw : List ℕ) (old new : KeptBodies) → new.first ≡ old.first → b.func ≡ old.first + length old.bodies.items
-    → bodies_in new.bodies.items ≡ bodies_in old.bodies.items ++ body_at b ∷ []
-    → raws_in new.raws.items new.bodies.items ≡ raws_in old.raws.items old.bodies.items ++ raw ∷ []
-    → packs_in new.pairs.items new.bodies.items ≡ packs_in old.pairs.items old.bodies.items ++ [] ∷ [] → KeepsAtMostWith false b [] [] old new
-keeps_large b raw old new first next bodies raws packs source f c r ps k =
-    elim (keeps_one_with false b raw [] old new first next (λ no. absurd cc) bodies raws packs source f c r ps k) [
-      | inl h ↦ inl h
-      | inr e ↦ let no : false ≡ true = e.0 in absurd cc
-    ]
-
 pub keeps_none_with : (has : Bool) (b : Body) (raw : List ℕ) (pairs : List Pair) (old new : KeptBodies) → new.bodies.items ≡ [] → KeepsAtMostWith has b raw pairs old new
 keeps_none_with has b raw pairs old new none source f c r ps k =
     let no : None ≡ Some c = sym (ap (λ (ks : List KeptBody). slice_get (bodies_in ks) k.at) none) ∙ k.body_is in
@@ -244,17 +240,4 @@ pub stay_kept_with :
 stay_kept_with writes source has b raw pairs written old new most most_with here same every = record {
   raws = stay_kept (with_some_pairs writes) source b raw old new most (written, here) every.raws;
   pairs = λ f c r ps k. kept_either_with writes source has b raw pairs written old f c r ps every.pairs here same (most_with source f c r ps k);
-}
-
--- the same of a large body
-pub stay_kept_large :
-    (writes : BodyWriting) (source : ParsedModule) (b : Body) (raw : List ℕ) (written : List Pair) (old new : KeptBodies) → KeepsAtMost b raw old new → KeepsAtMostWith false b [] [] old new →
-    writes source b.func (body_at b) raw written → StayKept writes source old new
-stay_kept_large writes source b raw written old new most most_with here every = record {
-  raws = stay_kept (with_some_pairs writes) source b raw old new most (written, here) every.raws;
-  pairs = λ f c r ps k.
-      elim (most_with source f c r ps k) [
-        | inl h ↦ every.pairs f c r ps h
-        | inr e ↦ let no : false ≡ true = e.0 in absurd cc
-      ];
 }

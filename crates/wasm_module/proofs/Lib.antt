@@ -17,8 +17,9 @@ pub mod NameLemmas
 pub mod DataLemmas
 -- function types that are written, and the first one with given lists
 pub mod TypeLemmas
--- a module that is written from bodies that are kept
+-- a module that is written from bodies that are kept, as they were written or as functions were changed
 pub mod WriterLemmas
+pub mod ChangedLemmas
 -- the items of a module that is read, one more at a time
 pub mod ReadingLemmas
 pub mod TypeSectionLemmas

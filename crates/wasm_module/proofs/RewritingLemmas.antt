@@ -28,7 +28,7 @@ use Rattle.wasm_module.specs.declared.parsed.ParsedModule.{ParsedModule}
 use Rattle.wasm_sections.specs.CodeSections.{BodyAt}
 use Rattle.wasm_sections.specs.Declarations.{parameters_of_type, HaveLocals, first_numbers}
 use Rattle.wasm_sections.specs.LocalsBelow.{locals_below}
-use Rattle.wasm_module.specs.RewrittenCode.{Extends, Enters, Entered, IsRewrittenAs, IsRewritten, IsRewrittenWith, IsAccepted, IsParsed, OneChange, IsChanged}
+use Rattle.wasm_module.specs.RewrittenCode.{Extends, Enters, Entered, IsRewrittenAs, IsRewritten, IsRewrittenWith, IsAccepted, IsParsed, OneChange, IsChangedWith}
 use Rattle.wasm_module.proofs.ModuleLemmas.{Alike, extends_then, extends_kept}
 
 -- no location function
@@ -274,7 +274,8 @@ written_alone by f old new old_pairs new_pairs e p a =
 pub changed :
     (changes : OneChange) (source a now : ParsedModule) (function : ℕ) (b : BodyAt) (made new : FunctionParts) (locals : List (ValType ℕ)) (raw : List ℕ) (pairs : List Pair) →
     Extends source a → IsParsed a function b now made → changes function made new now.module.locals locals →
-    IsRawBodyOf (emit_input now.spaces.numbers (record now.module { locals = locals }) new) new.builder raw pairs → IsChanged changes source function b raw
+    IsRawBodyOf (emit_input now.spaces.numbers (record now.module { locals = locals }) new) new.builder raw pairs →
+    IsChangedWith changes source function b raw pairs
 changed changes source a now function b made new locals raw pairs e p c r = record {
   now = now;
   parsed = made;
@@ -282,6 +283,5 @@ changed changes source a now function b made new locals raw pairs e p c r = reco
   changed = new;
   locals = locals;
   is_changed = c;
-  pairs = pairs;
   is_raw_body = r;
 }

@@ -7,10 +7,9 @@ use Rattle.wasm_sections.specs.declared.code.Body.{Body}
 use Rattle.wasm_module.specs.declared.changing.kept_bodies.KeptBodies.{KeptBodies}
 use Rattle.wasm_module.specs.declared.changing.kept_bodies.KeptBody.{KeptBody}
 use Rattle.wasm_module.specs.declared.parsed.ParsedModule.{ParsedModule}
-use Rattle.wasm_sections.specs.CodeSections.{BodyAt, IsCode, code_section, body_at}
+use Rattle.wasm_sections.specs.CodeSections.{BodyAt, body_at}
 use Rattle.wasm_module.specs.KeptParts.{IsPack}
-use Rattle.wasm_module.specs.RewrittenCode.{OneChange, FunctionChange, IsChanged, AreChanged}
-use Rattle.wasm_sections.specs.Sections.{SectionAt}
+use Rattle.wasm_module.specs.RewrittenCode.{OneChange, FunctionChange, IsChangedWith, AreChanged}
 use Rattle.wasm_body.specs.Pairs.{Pair}
 use Rattle.wasm_module.specs.WrittenModules.{BodyWriting, RawWriting, with_some_pairs, count_bodies}
 
@@ -62,12 +61,20 @@ abbrev pub IsPackOf : KeptBodies → ParsedModule → (function : ℕ) → BodyA
 IsPackOf kept source function b raw bytes =
     ((pairs : List Pair) → ArePackable pairs → bytes ≡ packed_pairs pairs → IsKeptWith kept source function b raw pairs) × IsPack bytes
 
--- For each function of the source that isn't imported the bytes of its body are kept, as the changes made them: asked for once
--- for each, in order, from the state `before` to the state `after`.
+-- These are what is kept of these location pairs, for one body after the other.
+abbrev pub ArePacksOf : (packs : List (List ℕ)) → (pairs : List (List Pair)) → Type 0
+ArePacksOf [] [] = Unit {0}
+ArePacksOf (pack ∷ packs) (ps ∷ pairs) = ArePackable ps × (pack ≡ packed_pairs ps) × ArePacksOf packs pairs
+ArePacksOf _ _ = ⊥
+
+-- For each function of the source that isn't imported the bytes of its body and its location pairs are kept, as the changes made
+-- them: asked for once for each, in order, from the state `before` to the state `after`.
 pub record AreKept {State : Type 0} (changes : FunctionChange State) (source : ParsedModule) (before : State) (kept : KeptBodies) (after : State) : Type 0 where
   pub first_is : kept.first ≡ source.imported
   pub are_all : length kept.bodies.items ≡ count_bodies source
-  pub are_changed : AreChanged changes source before source.imported (bodies_in kept.bodies.items) (raws_in kept.raws.items kept.bodies.items) after
+  pub pairs : List (List Pair)
+  pub packs_are : ArePacksOf (packs_in kept.pairs.items kept.bodies.items) pairs
+  pub are_changed : AreChanged changes source before source.imported (bodies_in kept.bodies.items) (raws_in kept.raws.items kept.bodies.items) pairs after
 
 -- Each body that is kept is written in this way, for the function and the body of the source for which it is kept.
 abbrev pub AreKeptAs : RawWriting → (source : ParsedModule) → KeptBodies → Type 0
@@ -117,21 +124,14 @@ KeepsAtMostWith has_pairs b raw pairs old new =
 abbrev pub pack_if : (has_pairs : Bool) → List Pair → List ℕ
 pack_if has_pairs pairs = if has_pairs then packed_pairs pairs else []
 
--- The contents of the code section that is written: those of the source's code section, each function's body as the changes made
--- it, asked for once for each, in order, from the state `before` to the state `after`; each after its size.
-pub record IsChangedCode {State : Type 0} (changes : FunctionChange State) (source : ParsedModule) (before : State) (s : SectionAt) (code : List ℕ) (after : State) : Type 0 where
-  pub bodies : List BodyAt
-  pub are_bodies : IsCode s.end s.contents bodies
-  pub are_all : length bodies ≡ count_bodies source
-  pub raws : List (List ℕ)
-  pub are_changed : AreChanged changes source before source.imported bodies raws after
-  pub code_is : code ≡ code_section raws
-
--- One body more is kept: the next one, as the bytes that a change makes of it.
+-- One body more is kept: the next one, as the bytes that a change makes of it, with their location pairs.
 pub record KeepsChanged (changes : OneChange) (source : ParsedModule) (b : Body) (old new : KeptBodies) : Type 0 where
   pub raw : List ℕ
-  pub is_changed : IsChanged changes source b.func (body_at b) raw
+  pub pairs : List Pair
+  pub is_changed : IsChangedWith changes source b.func (body_at b) raw pairs
   pub first : new.first ≡ old.first
   pub bodies : bodies_in new.bodies.items ≡ bodies_in old.bodies.items ++ body_at b ∷ []
   pub raws : raws_in new.raws.items new.bodies.items ≡ raws_in old.raws.items old.bodies.items ++ raw ∷ []
+  pub fit : ArePackable pairs
+  pub packs : packs_in new.pairs.items new.bodies.items ≡ packs_in old.pairs.items old.bodies.items ++ packed_pairs pairs ∷ []
   pub len : length new.bodies.items ≡ length old.bodies.items + 1

@@ -112,16 +112,19 @@ abbrev pub OneChange : Type 1
 OneChange = (function : ℕ) → (old new : FunctionParts) → (old_locals new_locals : List (ValType ℕ)) → Type 0
 
 -- The body of this function of the source is parsed, its function and its locals are changed, and these bytes are the raw body of
--- the changed function with the changed locals.
-pub record IsChanged (changes : OneChange) (source : ParsedModule) (function : ℕ) (b : BodyAt) (raw : List ℕ) : Type 0 where
+-- the changed function with the changed locals, with these location pairs.
+pub record IsChangedWith (changes : OneChange) (source : ParsedModule) (function : ℕ) (b : BodyAt) (raw : List ℕ) (pairs : List Pair) : Type 0 where
   pub now : ParsedModule
   pub parsed : FunctionParts
   pub is_parsed : IsParsed source function b now parsed
   pub changed : FunctionParts
   pub locals : List (ValType ℕ)
   pub is_changed : changes function parsed changed now.module.locals locals
-  pub pairs : List Pair
   pub is_raw_body : IsRawBodyOf (emit_input now.spaces.numbers (record now.module { locals = locals }) changed) changed.builder raw pairs
+
+-- The same, whatever the pairs are.
+abbrev pub IsChanged : OneChange → (source : ParsedModule) (function : ℕ) (b : BodyAt) (raw : List ℕ) → Type 0
+IsChanged changes source function b raw = (pairs : List Pair) × IsChangedWith changes source function b raw pairs
 
 -- The function is changed in this way, and its locals stay as they are.
 abbrev pub keeps_locals : ((function : ℕ) → (old new : FunctionParts) → Type 0) → OneChange
@@ -138,11 +141,11 @@ abbrev pub alike : {State : Type 0} → (State → (function : ℕ) → (old new
 alike {State} changes before after function old new old_locals new_locals =
     keeps_locals (changes before) function old new old_locals new_locals × (after ≡ before)
 
--- The bodies of the functions from this one on are changed in order, each once, and written as these bytes: the first in the
--- state `before`, and each other one in the state after the one before it. The last state is `after`.
-abbrev pub AreChanged : {State : Type 0} → FunctionChange State → ParsedModule → (before : State) → (function : ℕ) → List BodyAt → (raws : List (List ℕ)) → (after : State) → Type 0
-AreChanged {State} changes source before function [] [] after = before ≡ after
-AreChanged {State} changes source before function (b ∷ bs) (raw ∷ raws) after =
-    (middle : State) × IsChanged (changes before middle) source function b raw
-    × AreChanged changes source middle (function + 1) bs raws after
-AreChanged {State} changes source before function _ _ after = ⊥
+-- The bodies of the functions from this one on are changed in order, each once, and written as these bytes with these location
+-- pairs: the first in the state `before`, and each other one in the state after the one before it. The last state is `after`.
+abbrev pub AreChanged : {State : Type 0} → FunctionChange State → ParsedModule → (before : State) → (function : ℕ) → List BodyAt → (raws : List (List ℕ)) → (pairs : List (List Pair)) → (after : State) → Type 0
+AreChanged {State} changes source before function [] [] [] after = before ≡ after
+AreChanged {State} changes source before function (b ∷ bs) (raw ∷ raws) (ps ∷ pairs) after =
+    (middle : State) × IsChangedWith (changes before middle) source function b raw ps
+    × AreChanged changes source middle (function + 1) bs raws pairs after
+AreChanged {State} changes source before function _ _ _ after = ⊥

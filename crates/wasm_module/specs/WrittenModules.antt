@@ -135,10 +135,6 @@ BodyWriting = ParsedModule → (function : ℕ) → BodyAt → (raw : List ℕ) 
 abbrev pub RawWriting : Type 1
 RawWriting = ParsedModule → (function : ℕ) → BodyAt → (raw : List ℕ) → Type 0
 
--- whatever the pairs are
-abbrev pub with_any_pairs : RawWriting → BodyWriting
-with_any_pairs writes source function b raw pairs = writes source function b raw
-
 -- with some pairs
 abbrev pub with_some_pairs : BodyWriting → RawWriting
 with_some_pairs writes source function b raw = (pairs : List Pair) × writes source function b raw pairs

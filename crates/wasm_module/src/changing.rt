@@ -6,7 +6,7 @@ ghost use Rattle.std.specs.Prelude.{◌≡◌, List, OnOk, IfOk};
 ghost use Rattle.wasm_module.specs.declared.parsed.ParsedModule.{ParsedModule as Parsed};
 ghost use Rattle.wasm_sections.specs.CodeSections.{body_at};
 ghost use Rattle.wasm_module.specs.KeptCode.{AreKept, KeepsChanged};
-ghost use Rattle.wasm_module.specs.RewrittenCode.{Extends, IsChanged};
+ghost use Rattle.wasm_module.specs.RewrittenCode.{Extends, IsChangedWith};
 ghost use Rattle.wasm_module.specs.WrittenModules.{IsLinked};
 ghost use Rattle.wasm_sections.specs.Omissions.{OmitsNothing};
 ghost use Rattle.wasm_sections.specs.Sections.{SectionAt, IsModule, Each};
@@ -52,8 +52,9 @@ impl<'a> ParsedModule<'a> {
     ) -> Result<LocalFunction, ModuleError>
         ensures extends { OnOk result (Extends self.old self.new) }
         ensures changed { (source : Parsed) → Extends source self.old → OnOk result
-            (IsChanged (C.changes (C.state change.old) (C.state change.new))
-            source body.entry.func (body_at body.entry) memory.new.scratch.raw.items) }
+            (IsChangedWith (C.changes (C.state change.old) (C.state change.new))
+            source body.entry.func (body_at body.entry) memory.new.scratch.raw.items
+            memory.new.scratch.pairs.items) }
     {
         let mut function = self.parse(body, &mut memory.instrs)?;
         change.change(body.func, &mut function, &mut self.module.locals)?;
@@ -62,7 +63,7 @@ impl<'a> ParsedModule<'a> {
     }
 
     /// Changes the function of a body, and the custom sections along with it, and keeps its new
-    /// body. Returns what it takes in the code section, its size included.
+    /// body with its location pairs. Returns what it takes in the code section, its size included.
     fn change_body<C: ChangeFunction>(
         &mut self,
         change: &mut C,
@@ -113,8 +114,8 @@ impl<'a> ParsedModule<'a> {
 
     /// Changes the functions that have a body, and these sections. Names of locals and of labels
     /// and metadata of code are changed along with the functions. The change is asked once for each
-    /// function, in order; `write_module` writes the bodies that are kept from this pass, which take
-    /// the memory of their bytes and some two bytes more for each operator.
+    /// function, in order; `write_module` writes the bodies that are kept from this pass with their
+    /// location pairs, which take the memory of their bytes and some two bytes more for each operator.
     ///
     /// # Errors
     ///

@@ -1,11 +1,15 @@
 //! Keeping the bodies of a module as they are written in the first pass over it, so that the second
 //! needn't write them again.
 
-ghost use Rattle.std.specs.Prelude.{◌≡◌, ℕ, List, [], true, false, OnOk, IfOk};
-ghost use Rattle.walrus_emit_state.specs.Emission.{Output};
+ghost use Rattle.std.specs.Prelude.{◌≡◌, ℕ, List, [], ◌∷◌, ◌++◌, true, refl, OnOk, IfOk};
+ghost use Rattle.std.proofs.Common.{◌∙◌};
+ghost use Rattle.location_pairs.specs.PackedPairs.{ArePackable};
+ghost use Rattle.location_pairs.specs.PackedPieces.{HasPacked};
+ghost use Rattle.wasm_body.specs.Pairs.{Pair};
 ghost use Rattle.wasm_module.specs.declared.parsed.ParsedModule.{ParsedModule as Parsed};
-ghost use Rattle.wasm_module.specs.KeptCode.{IsKept, kept_or, KeepsAtMost, KeepsAtMostWith};
-ghost use Rattle.wasm_module.specs.Pieces.{counts_nothing, counts_both, KeepsPiece, keeps_nothing, keeps_both};
+ghost use Rattle.wasm_module.specs.KeptCode.{IsKept, bodies_in, raws_in, packs_in, pack_if, kept_or, KeepsAtMost, KeepsAtMostWith};
+ghost use Rattle.wasm_module.specs.Pieces.{KeepsPiece, keeps_nothing, keeps_both};
+ghost use Rattle.wasm_module.specs.PackedPieces.{PacksPiece, packs_nothing, packs_both};
 ghost use Rattle.wasm_module.specs.WantedPairs.{wants_pairs};
 ghost use Rattle.wasm_sections.specs.CodeSections.{body_at};
 
@@ -14,7 +18,8 @@ use crate::body_writer::{BodyWriter, Measured, Needed};
 use crate::changing::kept_bodies::KeptBodies;
 use crate::large_bodies::Counter;
 use crate::parsed::ParsedModule;
-use std::alloc::Global;
+use location_pairs::Packer;
+use std::alloc::{AllocError, Global};
 use walrus_body::LocalFunction;
 use walrus_flat::ByteSink;
 use walrus_ir::InstrLocId;
@@ -27,8 +32,7 @@ pub struct Keeping {
     /// The most bytes of code that are kept. Of a module with more none are.
     pub most: usize,
     /// Whether location pairs are kept as well, for a second pass with a listener that needs them.
-    /// They take some two bytes for each operator. Those of bodies of more than 64 KB are never kept.
-    /// `Kept::with_pairs` writes them.
+    /// They take some two bytes for each operator. `Kept::with_pairs` writes them.
     pub pairs: bool,
 }
 
@@ -134,7 +138,9 @@ impl<'a> Keeper<'a> {
 
     /// A sink that takes a large body to be kept.
     pub fn large(&self, body: Body<'a>) -> LargeBody<'a>
-        ensures { result.raw.items ≡ [] }
+        ensures raw { result.raw.items ≡ [] }
+        ensures none_packed { HasPacked result.packer [] }
+        ensures has_pairs { result.has_pairs ≡ self.now.keeping.pairs }
     {
         let bytes = body.bytes();
         let (raw, is_whole) = match Vec::with_capacity(self.alloc, bytes.len()) {
@@ -143,6 +149,8 @@ impl<'a> Keeper<'a> {
         };
         LargeBody {
             raw,
+            has_pairs: self.keeping.pairs,
+            packer: Packer::new(self.alloc),
             room: self.room(),
             is_whole,
             counter: Counter {
@@ -155,46 +163,103 @@ impl<'a> Keeper<'a> {
 
     /// Keeps a large body that a sink took, if it can.
     pub fn keep_large(&mut self, body: Body<'a>, large: &LargeBody<'a>)
+        requires packed { large.now.is_whole ≡ true → large.now.has_pairs ≡ true
+            → (ps : List Pair) × HasPacked large.now.packer ps }
         ensures raws { (raw : List ℕ) → (large.now.is_whole ≡ true → large.now.raw.items ≡ raw)
             → KeepsAtMost body.entry raw self.old.kept self.new.kept }
-        ensures pairs { KeepsAtMostWith false body.entry [] [] self.old.kept self.new.kept }
+        ensures pairs { (raw : List ℕ) (ps : List Pair)
+            → (large.now.is_whole ≡ true → large.now.raw.items ≡ raw)
+            → (large.now.is_whole ≡ true → large.now.has_pairs ≡ true
+            → HasPacked large.now.packer ps)
+            → KeepsAtMostWith large.now.has_pairs body.entry raw ps self.old.kept self.new.kept }
     {
         if !large.is_whole || !self.kept.is_next(body.func) {
             self.give_up();
             return;
         }
-        match self.kept.keep_bytes(body, &large.raw) {
+        match large.keep_in(body, &mut self.kept) {
             Ok(()) => {}
             Err(_) => self.give_up(),
         }
     }
 }
 
-/// Takes a large body to be kept, if there is room for it, and counts and compares its bytes in any
-/// case.
+/// Takes a large body to be kept, and its location pairs if they are kept, if there is room for it; and
+/// counts and compares its bytes in any case.
 #[derive(Drop)]
 pub(crate) struct LargeBody<'a> {
     /// Its bytes so far, while `is_whole`.
     raw: Vec<u8>,
+    /// Whether its location pairs are kept.
+    pub has_pairs: bool,
+    /// These so far, likewise.
+    packer: Packer,
     /// How many bytes more can be kept.
     room: usize,
     is_whole: bool,
     counter: Counter<'a>,
 }
 
-impl LargeBody<'_> {
-    /// Keeps the next bytes, if there is room for them.
-    fn keep(&mut self, bytes: &[u8])
+impl<'a> LargeBody<'a> {
+    /// Packs the next location pairs, if they are kept. Returns whether it could.
+    fn pack(&mut self, pairs: &[(InstrLocId, usize)]) -> bool
+        ensures packed { result ≡ true → self.old.has_pairs ≡ true → (before : List Pair)
+            → HasPacked self.old.packer before → HasPacked self.new.packer (before ++ pairs.now) }
+        ensures raw { self.new.raw ≡ self.old.raw }
+        ensures has_pairs { self.new.has_pairs ≡ self.old.has_pairs }
+        ensures is_whole { self.new.is_whole ≡ self.old.is_whole }
+        ensures counter { self.new.counter ≡ self.old.counter }
+    {
+        if !self.has_pairs {
+            return true;
+        }
+        self.packer.add(pairs).is_ok()
+    }
+
+    /// Keeps the next bytes and the next location pairs, if there is room for them.
+    fn keep(&mut self, bytes: &[u8], pairs: &[(InstrLocId, usize)])
         ensures kept { KeepsPiece self.old.is_whole self.new.is_whole self.old.raw.items
             self.new.raw.items bytes.now }
+        ensures packed { PacksPiece self.old.has_pairs self.old.is_whole self.new.is_whole
+            self.old.packer self.new.packer pairs.now }
+        ensures has_pairs { self.new.has_pairs ≡ self.old.has_pairs }
         ensures counter { self.new.counter ≡ self.old.counter }
     {
         if !self.is_whole {
             return;
         }
         match self.room.checked_sub(bytes.len()) {
-            Some(room) if self.raw.extend_from_slice(bytes).is_ok() => self.room = room,
+            Some(room) if self.raw.extend_from_slice(bytes).is_ok() && self.pack(pairs) => {
+                self.room = room
+            }
             _ => self.is_whole = false,
+        }
+    }
+
+    /// Keeps it among others, the next one.
+    ///
+    /// # Errors
+    ///
+    /// Out of memory.
+    fn keep_in(&self, source: Body<'a>, kept: &mut KeptBodies<'a>) -> Result<(), AllocError>
+        requires packed { self.now.has_pairs ≡ true
+            → (ps : List Pair) × HasPacked self.now.packer ps }
+        ensures packs { (ps : List Pair)
+            → (self.now.has_pairs ≡ true → HasPacked self.now.packer ps)
+            → OnOk result (packs_in kept.new.pairs.items kept.new.bodies.items
+            ≡ packs_in kept.old.pairs.items kept.old.bodies.items
+            ++ pack_if self.now.has_pairs ps ∷ []) }
+        ensures fit { self.now.has_pairs ≡ true → (ps : List Pair) → HasPacked self.now.packer ps
+            → ArePackable ps }
+        ensures first { OnOk result (kept.new.first ≡ kept.old.first) }
+        ensures bodies { OnOk result (bodies_in kept.new.bodies.items
+            ≡ bodies_in kept.old.bodies.items ++ body_at source.entry ∷ []) }
+        ensures raws { OnOk result (raws_in kept.new.raws.items kept.new.bodies.items
+            ≡ raws_in kept.old.raws.items kept.old.bodies.items ++ self.now.raw.items ∷ []) }
+    {
+        match self.has_pairs {
+            true => kept.keep_packed(source, &self.raw, &self.packer),
+            false => kept.keep_bytes(source, &self.raw),
         }
     }
 
@@ -205,19 +270,30 @@ impl LargeBody<'_> {
 }
 
 impl<'a> ByteSink for LargeBody<'a> {
-    ghost takes = { λ a b o. KeepsPiece a.is_whole b.is_whole a.raw.items b.raw.items o.bytes };
+    ghost takes = { λ a b o. KeepsPiece a.is_whole b.is_whole a.raw.items b.raw.items o.bytes
+        × PacksPiece a.has_pairs a.is_whole b.is_whole a.packer b.packer o.pairs
+        × (b.has_pairs ≡ a.has_pairs) };
 
     const MOST: usize = PIECE;
 
     fn take(&mut self, bytes: &mut Vec<u8>, pairs: &mut Vec<(InstrLocId, usize)>) -> bool {
-        self.keep(bytes);
+        self.keep(bytes, pairs);
         self.counter.take(bytes, pairs)
     }
 
-    ghost nothing = { λ s. keeps_nothing s.is_whole s.raw.items };
+    ghost nothing = { λ s. (
+      keeps_nothing s.is_whole s.raw.items,
+      packs_nothing s.has_pairs s.is_whole s.packer,
+      refl,
+    ) };
 
-    ghost one_by_one = { λ a b c first second. keeps_both a.is_whole b.is_whole c.is_whole
-        a.raw.items b.raw.items c.raw.items first.bytes second.bytes };
+    ghost one_by_one = { λ a b c first second p q. (
+      keeps_both a.is_whole b.is_whole c.is_whole a.raw.items b.raw.items c.raw.items first.bytes
+          second.bytes p.0 q.0,
+      packs_both a.has_pairs b.has_pairs a.is_whole b.is_whole c.is_whole a.packer b.packer c.packer
+          first.pairs second.pairs p.2 p.1 q.1,
+      q.2 ∙ p.2,
+    ) };
 }
 
 /// How the bodies of a module are written of which some are kept: these as they were written, and all
@@ -262,14 +338,13 @@ fn give<S: ByteSink>(
 }
 
 /// Gives the bytes of a body that begins at this place of the source to a sink, in pieces.
-fn give_in_pieces<S: ByteSink>(
+pub(crate) fn give_in_pieces<S: ByteSink>(
     bytes: &[u8],
     at: usize,
     scratch: &mut Scratch,
     sink: &mut S,
 ) -> Result<(), ModuleError>
-    ensures { OnOk result ((took : Output) × (took.bytes ≡ bytes.now)
-        × S.takes sink.old sink.new took) }
+    ensures { OnOk result (S.takes sink.old sink.new (record { bytes = bytes.now; pairs = [] })) }
 {
     let mut left = bytes;
     'left: while !left.is_empty() {

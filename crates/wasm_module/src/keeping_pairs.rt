@@ -1,18 +1,22 @@
 //! Writing the bodies of a module of which some are kept with their location pairs.
 
-ghost use Rattle.std.specs.Prelude.{◌≡◌, true, IfOk};
+ghost use Rattle.std.specs.Prelude.{◌≡◌, List, [], true, OnOk, IfOk, IfSome};
+ghost use Rattle.location_pairs.specs.PackedPairs.{ArePackable, packed_pairs};
+ghost use Rattle.walrus_emit_state.specs.Emission.{Output};
+ghost use Rattle.wasm_body.specs.Pairs.{Pair};
 ghost use Rattle.wasm_module.specs.declared.parsed.ParsedModule.{ParsedModule as Parsed};
 ghost use Rattle.wasm_module.specs.KeptCode.{IsKeptWith, kept_with_or};
 ghost use Rattle.wasm_sections.specs.CodeSections.{body_at};
 
 use crate::bodies::Scratch;
 use crate::body_writer::{BodyWriter, Measured, Needed};
-use crate::changing::kept_bodies::KeptBodies;
-use crate::keeping::Kept;
+use crate::changing::kept_bodies::{KeptBodies, KeptBytes};
+use crate::keeping::{Kept, give_in_pieces};
 use crate::parsed::ParsedModule;
+use location_pairs::Unpacker;
 use walrus_body::LocalFunction;
 use walrus_flat::ByteSink;
-use wasm_sections::{Body, ModuleError};
+use wasm_sections::{Body, ModuleError, ModuleFault};
 
 /// How the bodies of a module are written of which some are kept with their location pairs: these as
 /// they were written, and all others by `B`.
@@ -34,7 +38,69 @@ impl<'a, B: Drop> Kept<'a, B> {
     }
 }
 
+/// The most location pairs that are given to a sink at once.
+const SOME_PAIRS: u64 = 4096;
+
+/// Gives location pairs that are kept, packed, of a body that begins at this place of the source, to a
+/// sink, some at a time.
+fn give_pairs<S: ByteSink>(
+    packed: &[u8],
+    at: usize,
+    scratch: &mut Scratch,
+    sink: &mut S,
+) -> Result<(), ModuleError>
+    ensures { (ps : List Pair) → ArePackable ps → packed.now ≡ packed_pairs ps
+        → OnOk result (S.takes sink.old sink.new (record { bytes = []; pairs = ps })) }
+{
+    let Scratch { raw, pairs, .. } = scratch;
+    let mut unpacker = Unpacker::new(packed);
+    'left: while unpacker.len() > 0 {
+        unpacker.unpack_some(SOME_PAIRS, pairs)?;
+        raw.clear();
+        if !sink.take(raw, pairs) {
+            return Err(ModuleError {
+                fault: ModuleFault::Memory,
+                at,
+            });
+        }
+    }
+    Ok(())
+}
+
+/// Gives what is kept of a body that begins at this place of the source to a sink: its location pairs,
+/// if they are needed, and then its bytes, in pieces.
+fn give_kept<S: ByteSink>(
+    kept: KeptBytes<'_>,
+    needs_pairs: bool,
+    at: usize,
+    scratch: &mut Scratch,
+    sink: &mut S,
+) -> Result<(), ModuleError>
+    ensures { (ps : List Pair) → ArePackable ps → kept.entry.pairs.now ≡ packed_pairs ps
+        → OnOk result ((took : Output) × (took.bytes ≡ kept.entry.raw.now)
+        × (needs_pairs ≡ true → took.pairs ≡ ps) × S.takes sink.old sink.new took) }
+{
+    if !needs_pairs {
+        return give_in_pieces(kept.raw, at, scratch, sink);
+    }
+    give_pairs(kept.pairs, at, scratch, sink)?;
+    give_in_pieces(kept.raw, at, scratch, sink)
+}
+
 impl<B> KeptWithPairs<'_, B> {
+    /// What is kept for a body, if it is kept with its location pairs.
+    fn kept_for(&self, body: Body<'_>) -> Option<KeptBytes<'_>>
+        ensures { (source : Parsed) → IfSome result (λ kept. (ps : List Pair) × ArePackable ps
+            × (kept.pairs.now ≡ packed_pairs ps)
+            × IsKeptWith self.now.kept source body.entry.func (body_at body.entry) kept.raw.now ps) }
+    {
+        let kept = self.kept.kept_for(body)?;
+        if kept.pairs.is_empty() {
+            return None;
+        }
+        Some(kept)
+    }
+
     /// Puts what is kept for a body into the scratch, if its function isn't needed. Returns whether it
     /// did.
     fn put(
@@ -79,7 +145,13 @@ impl<B: BodyWriter> BodyWriter for KeptWithPairs<'_, B> {
         body: Body<'a>,
         scratch: &mut Scratch,
     ) -> Result<Measured, ModuleError> {
-        self.bodies.measure_large_body(parsed, body, scratch)
+        match self.kept_for(body) {
+            Some(kept) => Ok(Measured {
+                len: kept.raw.len(),
+                is_same: kept.raw == body.bytes(),
+            }),
+            None => self.bodies.measure_large_body(parsed, body, scratch),
+        }
     }
 
     fn write_large_body<'a, S: ByteSink>(
@@ -90,7 +162,11 @@ impl<B: BodyWriter> BodyWriter for KeptWithPairs<'_, B> {
         scratch: &mut Scratch,
         sink: &mut S,
     ) -> Result<(), ModuleError> {
-        self.bodies
-            .write_large_body(parsed, body, needs_pairs, scratch, sink)
+        match self.kept_for(body) {
+            Some(kept) => give_kept(kept, needs_pairs, body.start(), scratch, sink),
+            None => self
+                .bodies
+                .write_large_body(parsed, body, needs_pairs, scratch, sink),
+        }
     }
 }

@@ -4,7 +4,8 @@
 ghost use Rattle.std.specs.Prelude.{◌≡◌, ℕ, List, [], Ok};
 ghost use Rattle.wasm_module.specs.declared.changing.kept_bodies.KeptBodies.{KeptBodies as Kept};
 ghost use Rattle.wasm_module.specs.declared.parsed.ParsedModule.{ParsedModule as Parsed};
-ghost use Rattle.wasm_module.specs.KeptCode.{IsKept, AreKept, AreKeptAs, AreKeptWithAs, kept_or, kept_with_or, StaysWritten, IsChangedCode};
+ghost use Rattle.wasm_module.specs.ChangedModules.{IsChangedCode, IsChangedModule};
+ghost use Rattle.wasm_module.specs.KeptCode.{IsKeptWith, AreKept, AreKeptAs, AreKeptWithAs, kept_or, kept_with_or, StaysWritten};
 ghost use Rattle.wasm_module.specs.ModuleCode.{HasCode};
 ghost use Rattle.wasm_module.specs.RewrittenCode.{Extends, IsRewrittenWith};
 ghost use Rattle.wasm_module.specs.ReadModules.{HasOneSpelling};
@@ -15,7 +16,7 @@ ghost use Rattle.wasm_sections.specs.declared.omissions.OmittedSections.{Omitted
 ghost use Rattle.wasm_sections.specs.Components.{Components, module_of};
 ghost use Rattle.wasm_sections.specs.Sections.{SectionAt, IsModule};
 ghost use Rattle.wasm_module.specs.ToldModules.{module_told};
-ghost use Rattle.wasm_module.specs.WrittenModules.{with_any_pairs, with_some_pairs, IsWrittenCode, IsWrittenModule};
+ghost use Rattle.wasm_module.specs.WrittenModules.{with_some_pairs, IsWrittenCode, IsWrittenModule};
 
 use crate::body_writer::{BodyWriter, ChangeFunction};
 
@@ -25,8 +26,20 @@ use crate::body_writer::{BodyWriter, ChangeFunction};
 pub fn law_changed_code<C: ChangeFunction>()
     ensures { (source now : Parsed) (before after : C.State) (kept : Kept) (s : SectionAt)
         (code : List ℕ) → Extends source now → AreKept C.changes source before kept after
-        → IsWrittenCode (with_any_pairs (IsKept kept)) now s code
+        → IsWrittenCode (IsKeptWith kept) now s code
         → IsChangedCode C.changes source before s code after }
+{}
+
+/// The module that is written thus has the bodies of these functions, and a listener is told of them,
+/// each with the location pairs of the raw body of the changed function. So the location map that
+/// `write_module_with_map` writes has the lines of these pairs.
+pub fn law_changed_module<C: ChangeFunction>()
+    ensures { (source now : Parsed) (before after : C.State) (kept : Kept) (changes : NewSections)
+        (omitted : Omitted) (new : List ℕ) → Extends source now
+        → AreKept C.changes source before kept after
+        → (w : IsWrittenModule (IsKeptWith kept) now changes omitted new)
+        → IsChangedModule C.changes source before changes omitted new
+        (module_told (IsKeptWith kept) now changes omitted new w) after }
 {}
 
 /// What `write_module` writes from what `rewrite_with` kept, and of other bodies as these write them, is

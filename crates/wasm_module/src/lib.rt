@@ -33,7 +33,7 @@ pub use changing::kept_bodies::KeptBodies;
 pub use custom::{Note, NoteKind};
 pub use keeping::{Keeping, Kept};
 pub use keeping_pairs::KeptWithPairs;
-pub use laws::{law_changed_code, law_kept_module, law_rewritten_before};
+pub use laws::{law_changed_code, law_changed_module, law_kept_module, law_rewritten_before};
 pub use map_sink::{MapLines, MapSink, WrittenBody};
 pub use parsed::ParsedModule;
 pub use rewriting::RewrittenModule;

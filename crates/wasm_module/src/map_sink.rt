@@ -1,14 +1,17 @@
 //! Listeners, which are told of each body while a module is written: none, the writer of a location
 //! map, or a caller's own.
 
-ghost use Rattle.std.specs.Prelude.{◌≡◌, ◌≤◌, ◌+◌, ◌++◌, Bool, true, false, List, length, take, OnOk, IfOk};
+ghost use Rattle.std.specs.Prelude.{◌≡◌, ◌≤◌, ◌+◌, ◌++◌, Bool, true, false, List, take, OnOk, IfOk};
 ghost use Rattle.std.proofs.Common.{◌∙◌};
 ghost use Rattle.std.specs.Io.KnownBytes.{Appends};
 ghost use Rattle.wasm_body.specs.Pairs.{Pair};
-ghost use Rattle.wasm_module.specs.MapText.{hexadecimal, map_line, pair_line, body_lines};
+ghost use Rattle.wasm_module.specs.MapText.{map_line, pair_line, body_lines};
 ghost use Rattle.wasm_module.specs.Pieces.{lines_then};
 ghost use Rattle.wasm_module.specs.ToldBodies.{ToldBody, told_by};
 
+mod digits;
+
+use crate::map_sink::digits::{Front, LINES, put_number};
 use std::io;
 use std::io::Write;
 use walrus_ir::InstrLocId;
@@ -42,8 +45,8 @@ pub trait MapSink {
     fn needs_pairs(&self) -> bool
         ensures { result ≡ needs self.now };
 
-    /// Tells of a body, before it is written. Of a large body it first tells with no pairs, and then,
-    /// before each piece of its bytes, with those of that piece.
+    /// Tells of a body, before it is written. Of a large body it first tells with no pairs, and then
+    /// with its pairs, some at a time, those of each operator before the operator is written.
     ///
     /// # Errors
     ///
@@ -78,57 +81,27 @@ impl MapSink for NoMap {
     ghost joins = { λ a b c body more p q. tt };
 }
 
-/// The digits of hexadecimal numbers.
-const DIGITS: [u8; 16] = *b"0123456789abcdef";
-
 /// The most bytes of a line: two numbers of at most 16 digits, a space and the end of the line.
 const LONGEST_LINE: usize = 34;
 
-/// How many bytes of lines are gathered before they are written.
-const LINES: usize = 512;
-
-/// How many hexadecimal digits a number has.
-#[inline(always)]
-fn digit_count(number: u64) -> usize
-    ensures count { result ≡ length (hexadecimal number) }
-    ensures few { result ≤ 16 }
-{
-    if number < 16 {
-        return 1;
-    }
-    number.ilog2() as usize / 4 + 1
-}
-
-/// Puts a number in hexadecimal at a place of a buffer that has room for 16 digits there. Returns the
-/// place after it.
-#[inline(always)]
-fn put_digits(buffer: &mut [u8; LINES], at: usize, number: u64) -> usize
-    requires { at + 16 ≤ 512 }
-    ensures fits { result ≤ at + 16 }
-    ensures written { take result buffer.new ≡ take at buffer.old ++ hexadecimal number }
-{
-    let end = at + digit_count(number);
-    let mut left = number;
-    let mut place = end;
-    while place > at {
-        place -= 1;
-        buffer[place] = DIGITS[(left % 16) as usize];
-        left /= 16;
-    }
-    end
+/// The fronts of the two numbers of a line.
+#[derive(Clone, Copy)]
+struct Fronts {
+    old: Front,
+    new: Front,
 }
 
 /// Puts a line of a location map at a place of a buffer that has room for it. Returns the place after
 /// it.
 #[inline(always)]
-fn put_line(buffer: &mut [u8; LINES], at: usize, old: u32, new: usize) -> usize
+fn put_line(buffer: &mut [u8; LINES], at: usize, old: u32, new: usize, fronts: &mut Fronts) -> usize
     requires { at + 34 ≤ 512 }
     ensures fits { result ≤ at + 34 }
     ensures written { take result buffer.new ≡ take at buffer.old ++ map_line old new }
 {
-    let space = put_digits(buffer, at, old as u64);
+    let space = put_number(buffer, at, old as u64, &mut fronts.old);
     buffer[space] = b' ';
-    let end = put_digits(buffer, space + 1, new as u64);
+    let end = put_number(buffer, space + 1, new as u64, &mut fronts.new);
     buffer[end] = b'\n';
     end + 1
 }
@@ -145,6 +118,7 @@ fn put_pair(
     at: usize,
     start: usize,
     pair: (InstrLocId, usize),
+    fronts: &mut Fronts,
 ) -> io::Result<usize>
     requires { at + 34 ≤ 512 }
     ensures fits { IfOk result (λ end. end ≤ at + 34) }
@@ -156,7 +130,7 @@ fn put_pair(
         return Ok(at);
     }
     match start.checked_add(place) {
-        Some(new) => Ok(put_line(buffer, at, location.data(), new)),
+        Some(new) => Ok(put_line(buffer, at, location.data(), new, fronts)),
         None => Err(io::Error::from(io::ErrorKind::FileTooLarge)),
     }
 }
@@ -167,9 +141,13 @@ fn write_lines<M: Write>(body: WrittenBody<'_>, map: &mut M) -> io::Result<()>
         (body_lines (told_by body.entry))) }
 {
     let mut buffer = [0u8; LINES];
+    let mut fronts = Fronts {
+        old: Front::one(),
+        new: Front::one(),
+    };
     let mut end = 0;
     for pair in body.pairs {
-        end = put_pair(&mut buffer, end, body.start, *pair)?;
+        end = put_pair(&mut buffer, end, body.start, *pair, &mut fronts)?;
         if end > LINES - LONGEST_LINE {
             map.write_all(&buffer[..end])?;
             end = 0;

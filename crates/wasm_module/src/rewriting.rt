@@ -274,7 +274,8 @@ impl<'a> ParsedModule<'a> {
             (StayKept (B.writes bodies.now) source keeper.old.kept keeper.new.kept) }
     {
         let mut sink = keeper.large(body);
-        match bodies.write_large_body(self, body, false, scratch, &mut sink) {
+        let has_pairs = sink.has_pairs;
+        match bodies.write_large_body(self, body, has_pairs, scratch, &mut sink) {
             Ok(()) => {
                 keeper.keep_large(body, &sink);
                 Ok(sink.measured())

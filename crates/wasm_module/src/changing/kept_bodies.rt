@@ -3,6 +3,8 @@
 ghost use Rattle.std.specs.Prelude.{◌≡◌, ◌+◌, ◌≤◌, length};
 ghost use Rattle.wasm_module.specs.KeptParts.{AreWithin, ArePacks};
 
+mod packed_bodies;
+
 use crate::bodies::Scratch;
 use crate::body_writer::{BodyWriter, Needed};
 use crate::parsed::ParsedModule;
@@ -66,6 +68,7 @@ impl<'a> KeptBodies<'a> {
     ghost use Rattle.wasm_sections.specs.CodeSections.{body_at};
     ghost use Rattle.wasm_module.specs.KeptCode.{bodies_in, raws_in, raw_in, packs_in, packed_in, pack_if, IsKept, IsKeptWith, IsPackOf};
     ghost use Rattle.wasm_module.specs.KeptParts.{IsPackAt};
+    ghost use Rattle.wasm_module.specs.WantedPairs.{wants_pairs};
 
     /// None, of a module whose first function with a body has this index. It allocates nothing.
     pub(crate) fn none(alloc: Global, first: usize) -> KeptBodies<'a>
@@ -301,30 +304,50 @@ impl<'a> KeptBodies<'a> {
         Ok(true)
     }
 
-    /// The first, or where pairs are needed the second.
+    /// Puts the raw body alone of a body that is kept with its location pairs into the scratch. Returns
+    /// whether it is.
+    fn put_raw(&self, body: Body<'_>, scratch: &mut Scratch) -> Result<bool, ModuleError>
+        ensures { (source : Parsed) → IfOk result (λ is_put. is_put ≡ true → (pairs : List Pair)
+            × IsKeptWith self.now source body.entry.func (body_at body.entry)
+            scratch.new.raw.items pairs) }
+    {
+        let Some(kept) = self.kept_for(body) else {
+            return Ok(false);
+        };
+        if kept.pairs.is_empty() {
+            return Ok(false);
+        }
+        scratch.raw.clear();
+        scratch.raw.extend_from_slice(kept.raw)?;
+        Ok(true)
+    }
+
+    /// The same, with its location pairs if they are needed.
     fn put_needed(
         &self,
         body: Body<'_>,
         needed: Needed,
         scratch: &mut Scratch,
     ) -> Result<bool, ModuleError>
-        ensures { (source : Parsed) → IfOk result (λ is_put. is_put ≡ true → IsKept self.now source
-            body.entry.func (body_at body.entry) scratch.new.raw.items) }
+        ensures { (source : Parsed) → IfOk result (λ is_put. is_put ≡ true → (pairs : List Pair)
+            × IsKeptWith self.now source body.entry.func (body_at body.entry)
+            scratch.new.raw.items pairs
+            × (wants_pairs needed ≡ true → scratch.new.pairs.items ≡ pairs)) }
     {
         match needed {
-            Needed::Nothing => self.put(body, scratch),
+            Needed::Nothing => self.put_raw(body, scratch),
             Needed::Pairs | Needed::Function => self.put_with_pairs(body, scratch),
         }
     }
 }
 
-/// Each body is written as it is kept. One that isn't kept, of another module than the one that was
-/// changed, has the fault `BodyCount`.
+/// Each body is written as it is kept, with the location pairs that are kept for it. One that isn't
+/// kept, of another module than the one that was changed, or is kept without them has the fault
+/// `BodyCount`.
 impl BodyWriter for KeptBodies<'_> {
-    ghost use Rattle.wasm_module.specs.KeptCode.{IsKept};
-    ghost use Rattle.wasm_module.specs.WrittenModules.{with_any_pairs};
+    ghost use Rattle.wasm_module.specs.KeptCode.{IsKeptWith};
 
-    ghost writes = { λ kept. with_any_pairs (IsKept kept) };
+    ghost writes = { IsKeptWith };
 
     ghost returns = { λ kept source function b made. ⊥ };
 

@@ -1,4 +1,4 @@
-use Rattle.std.proofs.Common.{ℕ, List, inl, inr, refl, sym, subst, rules}
+use Rattle.std.proofs.Common.{[], inl, inr, refl, rules}
 use Rattle.wasm_sections.specs.CodeSections.{body_at}
 use Rattle.wasm_module.specs.KeptCode.{IsKept}
 use Rattle.wasm_module.proofs.KeptLemmas.{on_then}
@@ -10,16 +10,9 @@ returns-in-Some-clause-extends g c = then_ok c.give_in_pieces.result (extends_sa
 
 pub returns-in-Some-clause-written : goal.returns-in-Some-clause-written
 returns-in-Some-clause-written g c = λ source e.
-    let kept : IsKept c.args.self.now.kept source c.args.body.func (body_at c.args.body) c.in-Some.kept.raw.now = search rules in
-    on_then c.give_in_pieces.result _ _
-    (λ made. (
-      made.0,
-      made.0.pairs,
-      inl (subst (λ (l : List ℕ). IsKept c.args.self.now.kept source c.args.body.func (body_at c.args.body) l) (sym made.1) kept),
-      λ wanted. refl,
-      made.2,
-    ))
-    c.give_in_pieces.ensures
+    let raw = c.in-Some.kept.raw.now in
+    let kept : IsKept c.args.self.now.kept source c.args.body.func (body_at c.args.body) raw = search rules in
+    on_then c.give_in_pieces.result _ _ (λ took. (record { bytes = raw; pairs = [] }, [], inl kept, λ wanted. refl, took)) c.give_in_pieces.ensures
 
 pub returns-in_default-clause-written : goal.returns-in_default-clause-written
 returns-in_default-clause-written g c = λ source e.

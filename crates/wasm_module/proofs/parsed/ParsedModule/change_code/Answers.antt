@@ -2,7 +2,7 @@ use Rattle.std.proofs.Common.{◌≡◌, length, ap, ◌∙◌, arith}
 use Rattle.wasm_sections.specs.declared.code.Bodies.{Bodies}
 use Rattle.wasm_module.specs.WrittenModules.{count_bodies}
 use Rattle.wasm_module.proofs.ModuleLemmas.{extends_same, extends_then}
-use Rattle.wasm_module.proofs.KeptLemmas.{none_kept, one_kept, all_kept}
+use Rattle.wasm_module.proofs.ChangedLemmas.{none_kept, one_kept, all_kept}
 use Rattle.wasm_module.proofs.parsed.ParsedModule.change_code.Goals as goal
 
 pub bodies-init : goal.bodies-init

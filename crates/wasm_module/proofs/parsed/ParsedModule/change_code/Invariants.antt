@@ -1,5 +1,5 @@
 use Rattle.wasm_module.specs.RewrittenCode.{Extends}
-use Rattle.wasm_module.proofs.KeptLemmas.{KeptSoFar}
+use Rattle.wasm_module.proofs.ChangedLemmas.{KeptSoFar}
 use Rattle.wasm_module.proofs.parsed.ParsedModule.change_code.Given as goal
 
 abbrev pub invariant-bodies : goal.invariant-bodies

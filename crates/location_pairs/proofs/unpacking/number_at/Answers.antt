@@ -2,7 +2,7 @@ use Rattle.std.proofs.Common.{◌≡◌, ℕ, List, sym, ap, ◌∙◌}
 use Rattle.wasm_numbers.specs.Numbers.{u64}
 use Rattle.wasm_numbers.proofs.Agreement.{ok_is}
 use Rattle.location_pairs.proofs.PackedPairs.{number_read}
-use Rattle.location_pairs.proofs.packing.number_at.Goals as goal
+use Rattle.location_pairs.proofs.unpacking.number_at.Goals as goal
 
 pub returns-in-Ok : goal.returns-in-Ok
 returns-in-Ok c = λ n h rest e.

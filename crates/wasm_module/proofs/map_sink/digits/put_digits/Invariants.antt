@@ -1,6 +1,6 @@
 use Rattle.std.proofs.Common.{◌≡◌, ◌-◌, take}
 use Rattle.wasm_module.proofs.DigitLemmas.{DigitsFrom}
-use Rattle.wasm_module.proofs.map_sink.put_digits.Given as goal
+use Rattle.wasm_module.proofs.map_sink.digits.put_digits.Given as goal
 
 abbrev pub invariant-loop-place : goal.invariant-loop-place
 invariant-loop-place l = record {

@@ -1,5 +1,5 @@
 use Rattle.wasm_module.proofs.DigitLemmas.{len_of_small, len_by_log}
-use Rattle.wasm_module.proofs.map_sink.digit_count.Goals as goal
+use Rattle.wasm_module.proofs.map_sink.digits.digit_count.Goals as goal
 
 pub returns-then-number-lt16-clause-count : goal.returns-then-number-lt16-clause-count
 returns-then-number-lt16-clause-count c = len_of_small c.args.number c.if-number-lt16.true

@@ -1,7 +1,7 @@
 use Rattle.std.proofs.Common.{◌≡◌, ◌+◌, ◌-◌, ◌%◌, ◌<◌, ◌≤◌, ℕ, length, refl, subst, arith}
 use Rattle.wasm_module.specs.MapText.{hex_digit}
 use Rattle.wasm_module.proofs.DigitLemmas.{DigitsFrom, one_more_digit, all_digits, kept_before}
-use Rattle.wasm_module.proofs.map_sink.put_digits.Goals as goal
+use Rattle.wasm_module.proofs.map_sink.digits.put_digits.Goals as goal
 
 pub loop-place-preserved : goal.loop-place-preserved
 loop-place-preserved c =
