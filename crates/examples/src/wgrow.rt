@@ -2,6 +2,9 @@
 //!
 //! It is run as `examples wgrow IN.wasm >OUT.wasm`. The module that it writes imports one function
 //! more, `host.grow`, which takes and returns nothing, and calls it before each `memory.grow`.
+ghost use Rattle.wasm_module.specs.RewrittenCode.{keeps_locals};
+ghost use Rattle.inserted_code.specs.InsertedCode.{Inserts};
+
 use module_tools::Tool;
 use std::alloc::Global;
 use walrus_body::LocalFunction;
@@ -14,12 +17,12 @@ use wasm_module::{ChangeFunction, Changes, ModuleError, ParsedModule};
 pub(crate) struct Grows(FunctionId);
 
 impl ChangeFunction for Grows {
-    // Nothing is said of what it does, so nothing has to be proved of it.
     ghost State = { Unit {0} };
 
     ghost state = { λ _. tt };
 
-    ghost changes = { λ _ _ _ _ _ _ _. Unit {0} };
+    // Instructions are inserted, so what is written is that of `law_inserted_code`.
+    ghost changes = { λ _ _. keeps_locals (λ _ old new. Inserts old new) };
 
     fn change(
         &mut self,

@@ -3,13 +3,17 @@
 //! It is run as `examples wloops IN.wasm >OUT.wasm`. The loops are numbered over the whole module, from 0 on,
 //! in the order of the bodies and then of the `loop` operators. Each gets a global of type i64, which
 //! is exported as `loop_0`, `loop_1` and so on, and to which it adds 1 before all else that it does.
+ghost use Rattle.wasm_module.specs.RewrittenCode.{keeps_locals};
+ghost use Rattle.inserted_code.specs.InsertedCode.{Inserts};
+
 use module_tools::Tool;
 use std::alloc::{AllocError, Global};
 use walrus_body::LocalFunction;
 use walrus_facts::{Listener, Listening};
+use walrus_insertion::{Place, Probe, insert};
 use walrus_ir::{
-    BinaryOp, Binop, Const, FunctionId, GlobalGet, GlobalId, GlobalSet, IdHashSet, Instr,
-    InstrLocId, InstrSeq, InstrSeqId, ModuleLocals, Value, dfs_in_order,
+    BlockKind, FunctionId, GlobalId, IdHashSet, Instr, InstrLocId, InstrSeqId, ModuleLocals, Value,
+    dfs_in_order,
 };
 use wasm_module::{ChangeFunction, Changes, ModuleError, ParsedModule};
 
@@ -38,18 +42,12 @@ fn loop_bodies(function: &LocalFunction) -> Result<Vec<InstrSeqId>, ModuleError>
     Ok(loops.0.0)
 }
 
-/// Adds 1 to a global of type i64 before all else. The new instructions come from no place of the
-/// source, so that they have the default location.
-fn add_count(block: &mut InstrSeq, global: GlobalId) -> Result<(), AllocError> {
-    let nowhere = InstrLocId::default();
-    let value = Value::I64(1);
-    let op = BinaryOp::I64Add;
-    let instrs = &mut block.instrs;
-    instrs.insert(0, (Instr::GlobalSet(GlobalSet { global }), nowhere))?;
-    instrs.insert(0, (Instr::Binop(Binop { op }), nowhere))?;
-    instrs.insert(0, (Instr::Const(Const { value }), nowhere))?;
-    instrs.insert(0, (Instr::GlobalGet(GlobalGet { global }), nowhere))?;
-    Ok(())
+/// Adds 1 to a global of type i64.
+fn push_count(probe: &mut Probe, counter: GlobalId) -> Result<(), AllocError> {
+    probe.global_get(counter)?;
+    probe.i64_const(1)?;
+    probe.i64_add()?;
+    probe.global_set(counter)
 }
 
 /// Lets each loop count its turns. Functions are changed in order, each once, so that the next loop
@@ -58,12 +56,12 @@ fn add_count(block: &mut InstrSeq, global: GlobalId) -> Result<(), AllocError> {
 pub(crate) struct CountTurns(usize);
 
 impl ChangeFunction for CountTurns {
-    // Nothing is said of what it does, so nothing has to be proved of it.
     ghost State = { Unit {0} };
 
     ghost state = { λ _. tt };
 
-    ghost changes = { λ _ _ _ _ _ _ _. Unit {0} };
+    // Instructions are inserted, so what is written is that of `law_inserted_code`.
+    ghost changes = { λ _ _. keeps_locals (λ _ old new. Inserts old new) };
 
     fn change(
         &mut self,
@@ -71,12 +69,19 @@ impl ChangeFunction for CountTurns {
         function: &mut LocalFunction,
         _locals: &mut ModuleLocals,
     ) -> Result<(), ModuleError> {
-        for body in loop_bodies(function)? {
-            if function.has_block(body) {
-                add_count(function.block_mut(body), GlobalId::new(self.0))?;
-            }
-            self.0 = self.0.saturating_add(1);
-        }
+        let mut next = self.0;
+        insert(
+            function.builder_mut(),
+            |place: &Place<'_>, probe: &mut Probe| {
+                if !place.is_start() || !matches!(place.kind, BlockKind::Loop) {
+                    return Ok(());
+                }
+                let counter = GlobalId::new(next);
+                next = next.saturating_add(1);
+                push_count(probe, counter)
+            },
+        )?;
+        self.0 = next;
         Ok(())
     }
 }

@@ -3,7 +3,7 @@ ghost use Rattle.std.specs.Prelude.{◌≡◌, ◌≤◌, ◌<◌, ◌+◌, ◌^
 
 use crate::maps::push_new;
 use crate::scenario::Selection;
-use crate::{body_calls, contexts, function_calls, no_memory, read_back, runs};
+use crate::{body_calls, contexts, function_calls, insertions, no_memory, read_back, runs};
 use std::alloc::{AllocError, Global};
 use std::io;
 use walrus_body::{
@@ -209,7 +209,8 @@ fn run_over(selection: Selection<'_>, demo: &Demo<'_>) -> io::Result<()> {
     function_calls::run(selection, demo)?;
     runs::run(selection, demo)?;
     read_back::run(selection, demo)?;
-    no_memory::run(selection, demo)
+    no_memory::run(selection, demo)?;
+    insertions::run(selection, demo)
 }
 
 /// Makes the new indices of the module.

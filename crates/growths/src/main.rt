@@ -12,6 +12,7 @@ mod contexts;
 mod control;
 mod entries;
 mod function_calls;
+mod insertions;
 mod items;
 mod maps;
 mod no_memory;

@@ -1,23 +1,23 @@
 -- What the tools change of a function's first sequence.
-use Rattle.std.specs.Prelude.{ℕ, [], ◌∷◌, pos}
+use Rattle.std.specs.Prelude.{ℕ, List, [], ◌∷◌, pos}
 use Rattle.walrus_ir.specs.declared.seq.InstrSeq.{InstrSeq}
 use Rattle.walrus_ir.specs.declared.instr.Instr.TheVariants as instr
 use Rattle.wasm_types.specs.declared.binary.BinaryOp.TheVariants.{I64Add}
 use Rattle.walrus_ir.specs.declared.value.Value.TheVariants.{I64}
 use Rattle.walrus_ir.specs.Function.{Function, with_sequence}
 use Rattle.walrus_ir.specs.Locations.{default_location}
+use Rattle.walrus_insertion.specs.declared.plain_instr.PlainInstr.{PlainInstr}
+use Rattle.walrus_insertion.specs.declared.plain_instr.PlainInstr.TheVariants as plain
 use Rattle.walrus_body.specs.LocalFunctions.{first_slot}
 
--- the sequence that adds 1 to a global before all else: what is added has no place in the source
-abbrev pub counted : ℕ → InstrSeq → InstrSeq
-counted global was = record was {
-  instrs =
-      (instr.GlobalGet (record { global = global }), default_location)
-      ∷ (instr.Const (record { value = I64 (pos 1) }), default_location)
-      ∷ (instr.Binop (record { op = I64Add }), default_location)
-      ∷ (instr.GlobalSet (record { global = global }), default_location)
-      ∷ was.instrs;
-}
+-- the instructions that add 1 to a global of type i64
+abbrev pub counting_instrs : ℕ → List PlainInstr
+counting_instrs global =
+    plain.GlobalGet (record { global = global })
+    ∷ plain.Const (record { value = I64 (pos 1) })
+    ∷ plain.Binop (record { op = I64Add })
+    ∷ plain.GlobalSet (record { global = global })
+    ∷ []
 
 -- the sequence that only traps
 abbrev pub trapping : InstrSeq → InstrSeq

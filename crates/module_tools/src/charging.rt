@@ -26,14 +26,15 @@ pub struct ChargeCode {
 
 impl ChangeFunction for ChargeCode {
     ghost use Rattle.module_tools.specs.declared.charging.ChargeCode.{ChargeCode};
-    ghost use Rattle.module_tools.specs.FunctionChanges.{ChargesCode};
+    ghost use Rattle.inserted_code.specs.InsertedCode.{Charges};
     ghost use Rattle.wasm_module.specs.RewrittenCode.{alike};
 
     ghost State = { ChargeCode };
 
     ghost state = { λ self. self };
 
-    ghost changes = { alike (λ code function. ChargesCode code.costs code.charge) };
+    // What is written is that of `law_charged_code`.
+    ghost changes = { alike (λ code function. Charges code.costs code.charge) };
 
     fn change(
         &mut self,

@@ -10,8 +10,8 @@ ghost use Rattle.wasm_sections.specs.Sections.{SectionAt, IsModule};
 ghost use Rattle.wasm_module.specs.AddedItems.{AddsExport, ChangesNumbersAlone};
 ghost use Rattle.module_tools.specs.Counters.{counter_bytes, HasCounter};
 ghost use Rattle.wasm_module.specs.declared.parsed.ParsedModule.{ParsedModule as Parsed};
-ghost use Rattle.wasm_module.specs.KeptCode.{AreKeptAs};
-ghost use Rattle.wasm_module.specs.RewrittenCode.{Extends, IsChanged, keeps_locals};
+ghost use Rattle.wasm_module.specs.KeptCode.{AreKeptBodies};
+ghost use Rattle.wasm_module.specs.RewrittenCode.{Extends, IsChangedWith, keeps_locals};
 ghost use Rattle.module_tools.specs.declared.counting.CountCalls.{CountCalls as Counter};
 ghost use Rattle.module_tools.specs.FunctionChanges.{CountsCalls};
 
@@ -42,6 +42,7 @@ impl ChangeFunction for CountCalls {
 
     ghost state = { λ self. self };
 
+    // What is written is that of `law_begun_code`.
     ghost changes = { alike (λ count. CountsCalls count.0) };
 
     fn change(
@@ -127,7 +128,7 @@ pub fn count_calls<'a>(
     ensures { IfOk result (λ made. (source : Parsed) × (counter : Counter)
         × HasCounter parsed.old source made.changes (codes "calls") counter.0
         × Extends source parsed.new
-        × AreKeptAs (IsChanged (keeps_locals (CountsCalls counter.0))) source made.bodies
+        × AreKeptBodies (IsChangedWith (keeps_locals (CountsCalls counter.0))) source made.bodies
         × OmitsNothing made.omitted) }
 {
     match call_counter(alloc, parsed) {

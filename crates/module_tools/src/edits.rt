@@ -1,8 +1,9 @@
 //! What tools change of a function: the sequence that it begins with.
 ghost use Rattle.std.specs.Prelude.{OnOk};
 ghost use Rattle.walrus_body.specs.LocalFunctions.{HasEntry};
-ghost use Rattle.module_tools.specs.Sequences.{counted, trapping};
-ghost use Rattle.module_tools.specs.FunctionChanges.{ChangesFirst, ChargesCode, TrapsIf};
+ghost use Rattle.inserted_code.specs.InsertedCode.{BeginsWith, Charges};
+ghost use Rattle.module_tools.specs.Sequences.{counting_instrs, trapping};
+ghost use Rattle.module_tools.specs.FunctionChanges.{ChangesFirst, TrapsIf};
 
 use std::alloc::AllocError;
 use walrus_body::LocalFunction;
@@ -12,7 +13,7 @@ use walrus_metering::{Charge, Costs, meter};
 /// Lets a function add 1 to a global of type i64, before all else that it does.
 pub(crate) fn count_call(function: &mut LocalFunction, global: GlobalId) -> Result<(), AllocError>
     requires { HasEntry function.old.builder }
-    ensures { OnOk result (ChangesFirst (counted global) function.old function.new) }
+    ensures { OnOk result (BeginsWith (counting_instrs global) function.old function.new) }
 {
     let entry = function.entry_block();
     let nowhere = InstrLocId::default();
@@ -32,7 +33,7 @@ pub(crate) fn charge_code(
     costs: &Costs,
     charge: &Charge,
 ) -> Result<(), AllocError>
-    ensures { OnOk result (ChargesCode costs.now charge.now function.old function.new) }
+    ensures { OnOk result (Charges costs.now charge.now function.old function.new) }
 {
     meter(function.builder_mut(), costs, charge)
 }

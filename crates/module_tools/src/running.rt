@@ -3,6 +3,11 @@
 ghost use Rattle.std.specs.Prelude.{◌≡◌, ◌≤◌, true, Ok, IfOk, OnOk};
 ghost use Rattle.std.specs.Process.{exit_status};
 ghost use Rattle.module_validator.specs.ModuleRules.{module_validity};
+ghost use Rattle.wasm_module.specs.declared.parsed.ParsedModule.{ParsedModule as Parsed};
+ghost use Rattle.wasm_module.specs.KeptCode.{AreKept, AreKeptAs};
+ghost use Rattle.wasm_module.specs.RewrittenCode.{Extends, IsRewrittenWith};
+ghost use Rattle.wasm_module.specs.WrittenModules.{with_some_pairs};
+ghost use Rattle.wasm_sections.specs.Omissions.{OmitsNothing};
 
 use crate::charging::ChargeBy;
 use crate::checking::{check_bodies, refused};
@@ -134,7 +139,13 @@ fn rewritten_with_pairs<'a, R: Eprint + Clock>(
     parsed: &mut ParsedModule<'a>,
     changes: Changes,
     progress: &'a Progress<'a, R>,
-) -> Result<RewrittenModule<'a, Watched<'a, R, KeptWithPairs<'a, Rewriting>>>, ModuleError> {
+) -> Result<RewrittenModule<'a, Watched<'a, R, KeptWithPairs<'a, Rewriting>>>, ModuleError>
+    ensures extends { OnOk result (Extends parsed.old parsed.new) }
+    ensures kept { (source : Parsed) → Extends source parsed.old → IfOk result
+        (λ made. AreKeptAs (with_some_pairs IsRewrittenWith) source made.bodies.bodies.kept) }
+    ensures changes { IfOk result (λ made. made.changes ≡ changes) }
+    ensures omitted { IfOk result (λ made. OmitsNothing made.omitted) }
+{
     let keeping = Keeping::CODE_WITH_PAIRS;
     match parsed.rewrite_keeping(Watched::first(progress, Rewriting), changes, keeping) {
         Ok(module) => {
@@ -151,7 +162,13 @@ fn rewritten<'a, R: Eprint + Clock>(
     parsed: &mut ParsedModule<'a>,
     changes: Changes,
     progress: &'a Progress<'a, R>,
-) -> Result<RewrittenModule<'a, Watched<'a, R, Kept<'a, Rewriting>>>, ModuleError> {
+) -> Result<RewrittenModule<'a, Watched<'a, R, Kept<'a, Rewriting>>>, ModuleError>
+    ensures extends { OnOk result (Extends parsed.old parsed.new) }
+    ensures kept { (source : Parsed) → Extends source parsed.old → IfOk result
+        (λ made. AreKeptAs (with_some_pairs IsRewrittenWith) source made.bodies.bodies.kept) }
+    ensures changes { IfOk result (λ made. made.changes ≡ changes) }
+    ensures omitted { IfOk result (λ made. OmitsNothing made.omitted) }
+{
     match parsed.rewrite_with(Watched::first(progress, Rewriting), changes) {
         Ok(module) => {
             let (bodies, rest) = module.take_bodies();
@@ -168,7 +185,13 @@ fn changed<'a, R: Eprint + Clock, C: ChangeFunction + Drop>(
     change: C,
     changes: Changes,
     progress: &'a Progress<'a, R>,
-) -> Result<RewrittenModule<'a, Watched<'a, R, KeptBodies<'a>>>, ModuleError> {
+) -> Result<RewrittenModule<'a, Watched<'a, R, KeptBodies<'a>>>, ModuleError>
+    ensures extends { OnOk result (Extends parsed.old parsed.new) }
+    ensures changed { IfOk result (λ made. (after : C.State)
+        × AreKept C.changes parsed.old (C.state change) made.bodies.bodies after) }
+    ensures changes { IfOk result (λ made. made.changes ≡ changes) }
+    ensures omitted { IfOk result (λ made. OmitsNothing made.omitted) }
+{
     let mut change = WatchedChange::new(progress, change);
     match parsed.change_all(&mut change, changes) {
         Ok(module) => {

@@ -3,8 +3,8 @@
 ghost use Rattle.std.specs.Prelude.{◌≡◌, ◌==◌, [], IfOk, OnOk};
 ghost use Rattle.std.specs.HashSet.{contains};
 ghost use Rattle.wasm_sections.specs.Omissions.{OmitsNothing};
-ghost use Rattle.wasm_module.specs.KeptCode.{AreKeptAs};
-ghost use Rattle.wasm_module.specs.RewrittenCode.{Extends, IsChanged, keeps_locals};
+ghost use Rattle.wasm_module.specs.KeptCode.{AreKeptBodies};
+ghost use Rattle.wasm_module.specs.RewrittenCode.{Extends, IsChangedWith, keeps_locals};
 ghost use Rattle.wasm_module.specs.WrittenModules.{new_contents_in};
 ghost use Rattle.module_tools.specs.FunctionChanges.{Snips};
 
@@ -70,7 +70,8 @@ pub fn snip<'a>(
     functions: IdHashSet<FunctionId>,
 ) -> Result<RewrittenModule<'a, KeptBodies<'a>>, ModuleError>
     ensures snips { IfOk result
-        (λ made. AreKeptAs (IsChanged (keeps_locals (Snips functions))) parsed.old made.bodies) }
+        (λ made. AreKeptBodies (IsChangedWith (keeps_locals (Snips functions))) parsed.old
+        made.bodies) }
     ensures none_given { IfOk result (λ made. new_contents_in made ≡ []) }
     ensures none_omitted { IfOk result (λ made. OmitsNothing made.omitted) }
     ensures extends { OnOk result (Extends parsed.old parsed.new) }

@@ -144,7 +144,23 @@ fn check_section(
     }
 }
 
-/// Checks that a module with these bytes, which is valid, is within limits that engines have: of the WebAssembly JavaScript interface
+/// The faults of modules that are above a limit.
+const FAULTS: [ModuleFault; 7] = [
+    TOO_MANY_TYPES,
+    TOO_MANY_ITEMS,
+    LONG_TYPE,
+    DEEP_TYPE,
+    LARGE_BODY,
+    MANY_LOCALS,
+    LARGE_MODULE,
+];
+
+/// Whether a fault is that of a module that is above a limit of engines.
+pub fn is_engine_limit(fault: ModuleFault) -> bool {
+    FAULTS.contains(&fault)
+}
+
+/// Checks that a module with these bytes is within limits that engines have: of the WebAssembly JavaScript interface
 /// those of the module's size, of numbers of items, of types, of bodies and of locals. The sizes of tables and what is in an
 /// operator aren't checked.
 ///

@@ -22,7 +22,7 @@ mod tables;
 mod types;
 mod validation;
 
-pub use engine_limits::check_engine_limits;
+pub use engine_limits::{check_engine_limits, is_engine_limit};
 pub use laws::law_code_validity;
 pub use module_context::validity_words;
 pub use refused_operand::mismatch;

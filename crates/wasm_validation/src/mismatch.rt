@@ -4,6 +4,7 @@ ghost use Rattle.std.specs.Prelude.{◌+◌, ◌<◌, ◌^◌, length};
 
 use crate::body_validator::BodyValidator;
 use std::alloc::{AllocError, Global};
+use std::fmt;
 use walrus_validators::OpCheck;
 use wasm_context::{Context, TypeList};
 use wasm_locals::LocalTypes;
@@ -29,6 +30,20 @@ pub enum OperandKind {
     Value,
 }
 
+impl fmt::Display for OperandKind {
+    fn fmt<W: fmt::Write>(&self, f: &mut fmt::Formatter<W>) -> fmt::Result {
+        f.write_str(match self {
+            OperandKind::I32 => "i32",
+            OperandKind::I64 => "i64",
+            OperandKind::F32 => "f32",
+            OperandKind::F64 => "f64",
+            OperandKind::V128 => "v128",
+            OperandKind::Reference => "a reference",
+            OperandKind::Value => "a value",
+        })
+    }
+}
+
 /// An operand that an operator refuses.
 #[derive(Clone, Copy, Debug, PartialEq, Eq)]
 pub struct Mismatch {
@@ -36,6 +51,17 @@ pub struct Mismatch {
     pub expected: OperandKind,
     /// What it finds; `None` if the sequence has no operand left.
     pub found: Option<OperandKind>,
+}
+
+impl fmt::Display for Mismatch {
+    fn fmt<W: fmt::Write>(&self, f: &mut fmt::Formatter<W>) -> fmt::Result {
+        let expected = self.expected;
+        match self.found {
+            None => write!(f, "expected {expected}, found nothing"),
+            Some(found) if found == expected => write!(f, "expected {expected} of another type"),
+            Some(found) => write!(f, "expected {expected}, found {found}"),
+        }
+    }
 }
 
 /// An operand of each kind of number, and of vectors.

@@ -14,9 +14,9 @@ use Rattle.wasm_sections.specs.declared.fault.ModuleError.{ModuleError}
 use Rattle.wasm_sections.specs.CodeSections.{BodyAt, body_at, TakesBody}
 use Rattle.wasm_module.specs.declared.parsed.ParsedModule.{ParsedModule}
 use Rattle.wasm_module.specs.declared.changing.kept_bodies.KeptBodies.{KeptBodies}
-use Rattle.wasm_module.specs.KeptCode.{IsKept, AreKeptAs, kept_or}
+use Rattle.wasm_module.specs.KeptCode.{AreKeptAs, kept_or}
 use Rattle.wasm_module.specs.RewrittenCode.{Extends, IsRewrittenWith}
-use Rattle.wasm_module.specs.WrittenModules.{BodyWriting, with_any_pairs, with_some_pairs, IsWrittenModule}
+use Rattle.wasm_module.specs.WrittenModules.{BodyWriting, with_some_pairs, IsWrittenModule}
 use Rattle.wasm_module.specs.ToldModules.{module_told}
 use Rattle.wasm_module.specs.ToldBodies.{ToldBody}
 use Rattle.wasm_module.specs.AcceptedModules.{AcceptsBodies}
@@ -25,7 +25,7 @@ use Rattle.wasm_module.specs.Refusals.{IsRefusedBody}
 use Rattle.wasm_module.proofs.CheckedLemmas.{CheckedSoFar}
 use Rattle.wasm_module.proofs.PassedLemmas.{one_passed}
 use Rattle.wasm_module.proofs.RewritingLemmas.{rewritten_with_then}
-use Rattle.wasm_module.proofs.WriterLemmas.{module_as, module_told_as, kept_module, kept_module_as, kept_told}
+use Rattle.wasm_module.proofs.WriterLemmas.{module_with, kept_module_as}
 use Rattle.wrewrite_c.specs.declared.options.Options.{Options}
 use Rattle.wrewrite_c.specs.declared.outcome.Named.{Named}
 use Rattle.wrewrite_c.specs.declared.outcome.Stop.{Stop}
@@ -86,48 +86,37 @@ on_ok : {A E P Q : Type 0} (r : Result A E) → (P → Q) → OnOk r P → OnOk 
 on_ok (Ok x) f p = f p
 on_ok (Err e) f p = tt
 
--- of a module that has changed since: what is written for it then is written for it as it was
-from_before :
-    (v w : BodyWriting) (parsed now : ParsedModule) (wanted : Options) (new lines : List ℕ) →
-    ((changes : Changes) (omitted : OmittedSections) (h : IsWrittenModule v now changes omitted new) →
-    (m : IsWrittenModule w parsed changes omitted new) × (module_told w parsed changes omitted new m ≡ module_told v now changes omitted new h)) →
-    IsMadeFrom v now wanted new lines → IsMadeFrom w parsed wanted new lines
-from_before v w parsed now wanted new lines before h =
-    let m = before h.changes h.omitted h.is_written in
-    record {
-      changes = h.changes;
-      none_given = h.none_given;
-      omitted = h.omitted;
-      leaves_out = h.leaves_out;
-      is_written = m.0;
-      lines_are = h.lines_are ∙ sym (ap (lines_if wanted.has_map) m.1);
-    }
-
 -- the same lines are appended
 appended : (P Q : (new lines : List ℕ) → Type 0) (new old_lines new_lines : List ℕ) → ((lines : List ℕ) → P new lines → Q new lines) → IsMadeAfter P new old_lines new_lines → IsMadeAfter Q new old_lines new_lines
 appended P Q new old_lines new_lines f h = (h.0, h.1, f h.0 h.2)
 
-pub made_rewritten :
-    {A E : Type 0} (r : Result A E) (parsed now : ParsedModule) (wanted : Options) (new old_lines new_lines : List ℕ) → Extends parsed now →
-    OnOk r (IsMadeAfter (IsMadeFrom IsRewrittenWith now wanted) new old_lines new_lines) → OnOk r (IsMadeAfter (IsMadeFrom IsRewrittenWith parsed wanted) new old_lines new_lines)
-made_rewritten r parsed now wanted new old_lines new_lines x h =
-    let each = λ (f : ℕ) (b : BodyAt) (raw : List ℕ) (ps : List Pair) (r : IsRewrittenWith now f b raw ps). rewritten_with_then parsed now f b raw ps x r in
-    on_ok r (appended (IsMadeFrom IsRewrittenWith now wanted) (IsMadeFrom IsRewrittenWith parsed wanted) new old_lines new_lines (λ lines. from_before IsRewrittenWith IsRewrittenWith parsed now wanted new lines
-    (λ changes omitted w. (
-      module_as IsRewrittenWith IsRewrittenWith parsed now x each changes omitted new w,
-      module_told_as IsRewrittenWith IsRewrittenWith parsed now x each changes omitted new w,
-    )))) h
+-- of a module that has changed since: what is written for it then is written for it as it was
+pub made_before :
+    {A E : Type 0} (r : Result A E) (v w : BodyWriting) (parsed now : ParsedModule) (wanted : Options) (new old_lines new_lines : List ℕ) → Extends parsed now →
+    ((f : ℕ) (b : BodyAt) (raw : List ℕ) (ps : List Pair) → v now f b raw ps → w parsed f b raw ps) → OnOk r (IsMadeAfter (IsMadeFrom v now wanted) new old_lines new_lines) →
+    OnOk r (IsMadeAfter (IsMadeFrom w parsed wanted) new old_lines new_lines)
+made_before r v w parsed now wanted new old_lines new_lines x each h =
+    on_ok r (appended (IsMadeFrom v now wanted) (IsMadeFrom w parsed wanted) new old_lines new_lines (λ lines made.
+    let before = module_with v w parsed now x each made.changes made.omitted new made.is_written in
+    record {
+      changes = made.changes;
+      none_given = made.none_given;
+      omitted = made.omitted;
+      leaves_out = made.leaves_out;
+      is_written = before.0;
+      lines_are = made.lines_are ∙ sym (ap (lines_if wanted.has_map) before.1);
+    })) h
 
 no_lines : (has_map : Bool) (bodies others : List ToldBody) → has_map ≡ false → lines_if has_map bodies ≡ lines_if has_map others
 no_lines true bodies others e = absurd cc
 no_lines false bodies others e = refl
 
 -- with no map, of which bodies were kept
-pub made_once :
+pub made_without_map :
     {A E : Type 0} (r : Result A E) (parsed now : ParsedModule) (kept : KeptBodies) (wanted : Options) (new old_lines new_lines : List ℕ) → wanted.has_map ≡ false → Extends parsed now →
     AreKeptAs (with_some_pairs IsRewrittenWith) parsed kept → OnOk r (IsMadeAfter (IsMadeFrom (kept_or kept IsRewrittenWith) now wanted) new old_lines new_lines) →
     OnOk r (IsMadeAfter (IsMadeFrom IsRewrittenWith parsed wanted) new old_lines new_lines)
-made_once r parsed now kept wanted new old_lines new_lines none x k h =
+made_without_map r parsed now kept wanted new old_lines new_lines none x k h =
     let before = λ (f : ℕ) (b : BodyAt) (raw : List ℕ) (ps : List Pair) (q : IsRewrittenWith now f b raw ps). rewritten_with_then parsed now f b raw ps x q in
     on_ok r (appended (IsMadeFrom (kept_or kept IsRewrittenWith) now wanted) (IsMadeFrom IsRewrittenWith parsed wanted) new old_lines new_lines (λ lines m.
     let written = kept_module_as IsRewrittenWith parsed now kept x k before m.changes m.omitted new m.is_written in
@@ -141,16 +130,6 @@ made_once r parsed now kept wanted new old_lines new_lines none x k h =
       is_written = written;
       lines_are = m.lines_are ∙ no_lines wanted.has_map told others none;
     })) h
-
-pub made_of_kept :
-    {A E : Type 0} (r : Result A E) (writes : ParsedModule → (function : ℕ) → BodyAt → (raw : List ℕ) → Type 0) (parsed now : ParsedModule) (kept : KeptBodies) (wanted : Options)
-    (new old_lines new_lines : List ℕ) → Extends parsed now → AreKeptAs writes parsed kept →
-    OnOk r (IsMadeAfter (IsMadeFrom (with_any_pairs (IsKept kept)) now wanted) new old_lines new_lines) →
-    OnOk r (IsMadeAfter (IsMadeFrom (with_any_pairs writes) parsed wanted) new old_lines new_lines)
-made_of_kept r writes parsed now kept wanted new old_lines new_lines x k h =
-    on_ok r (appended (IsMadeFrom (with_any_pairs (IsKept kept)) now wanted) (IsMadeFrom (with_any_pairs writes) parsed wanted) new old_lines new_lines
-    (λ lines. from_before (with_any_pairs (IsKept kept)) (with_any_pairs writes) parsed now wanted new lines
-    (λ changes omitted w. (kept_module writes parsed now kept changes omitted new x k w, kept_told writes parsed now kept changes omitted new x k w)))) h
 
 -- ---- functions that are added, one after the other
 

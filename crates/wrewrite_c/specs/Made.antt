@@ -7,11 +7,11 @@ use Rattle.wasm_sections.specs.declared.omissions.OmittedSections.{OmittedSectio
 use Rattle.wasm_sections.specs.Omissions.{omits_name, names_debug}
 use Rattle.wasm_module.specs.declared.parsed.ParsedModule.{ParsedModule}
 use Rattle.wasm_module.specs.ReadFrom.{IsModuleOf}
-use Rattle.wasm_module.specs.RewrittenCode.{IsChanged, keeps_locals}
+use Rattle.wasm_module.specs.RewrittenCode.{IsChangedWith, keeps_locals}
 use Rattle.wasm_module.specs.MapText.{map_lines}
 use Rattle.wasm_module.specs.ToldBodies.{ToldBody}
 use Rattle.wasm_module.specs.ToldModules.{module_told}
-use Rattle.wasm_module.specs.WrittenModules.{BodyWriting, with_any_pairs, IsWrittenModule}
+use Rattle.wasm_module.specs.WrittenModules.{BodyWriting, IsWrittenModule}
 use Rattle.module_tools.specs.declared.snipping.Snipping.{Snipping}
 use Rattle.module_tools.specs.FunctionChanges.{Snips}
 use Rattle.wrewrite_c.specs.declared.options.Options.{Options}
@@ -80,7 +80,7 @@ AddsIndex index old new = (other : ℕ) → contains (λ x y. x == y) new other 
 pub record IsSnippedFrom (indices : List ℕ) (parsed : ParsedModule) (wanted : Options) (new lines : List ℕ) : Type 0 where
   pub snipping : Snipping
   pub has_functions : HasFunctions indices snipping.0
-  pub is_made : IsMadeFrom (with_any_pairs (IsChanged (keeps_locals (Snips snipping.0)))) parsed wanted new lines
+  pub is_made : IsMadeFrom (IsChangedWith (keeps_locals (Snips snipping.0))) parsed wanted new lines
 
 -- The same for the module that these bytes spell.
 abbrev pub IsSnippedOf : (indices source : List ℕ) (wanted : Options) (new lines : List ℕ) → Type 0

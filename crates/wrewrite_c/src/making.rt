@@ -4,9 +4,9 @@ ghost use Rattle.std.specs.Prelude.{◌≡◌, ◌++◌, ℕ, List, [], false, O
 ghost use Rattle.std.specs.HashSet.{IsEmpty};
 ghost use Rattle.module_tools.specs.FunctionChanges.{Snips};
 ghost use Rattle.wasm_sections.specs.Omissions.{OmitsNothing};
-ghost use Rattle.wasm_module.specs.RewrittenCode.{IsRewrittenWith, IsChanged, keeps_locals};
+ghost use Rattle.wasm_module.specs.RewrittenCode.{IsRewrittenWith, IsChangedWith, keeps_locals};
 ghost use Rattle.wasm_module.specs.ToldModules.{module_told};
-ghost use Rattle.wasm_module.specs.WrittenModules.{with_any_pairs, new_contents_in, IsWrittenModule};
+ghost use Rattle.wasm_module.specs.WrittenModules.{new_contents_in, IsWrittenModule};
 ghost use Rattle.wrewrite_c.specs.Made.{lines_if, IsMadeAfter, IsMadeFrom, IsMadeOf, IsSnippedFrom, IsSnippedOf, HasFunctions, AddsIndex};
 ghost use Rattle.wrewrite_c.specs.Outcomes.{IsOfModule, IsMissing, IsMissingIn, LacksFunctionIn, LacksFunction};
 
@@ -94,7 +94,7 @@ fn finish<B: BodyWriter>(
 
 /// Rewrites a module that was read, of which no location map is wanted: bodies are written as they were
 /// kept.
-fn rewrite_once(
+fn rewrite_without_map(
     parsed: &mut ParsedModule<'_>,
     wanted: Options,
     made: &mut Made,
@@ -146,7 +146,7 @@ fn rewrite_parsed(
 {
     match wanted.has_map {
         true => rewrite_twice(parsed, wanted, made),
-        false => rewrite_once(parsed, wanted, made),
+        false => rewrite_without_map(parsed, wanted, made),
     }
 }
 
@@ -236,7 +236,7 @@ fn snip_functions(
 ) -> Result<(), ModuleError>
     requires { made.old.bytes.items ≡ [] }
     ensures written { OnOk result (IsMadeAfter
-        (IsMadeFrom (with_any_pairs (IsChanged (keeps_locals (Snips functions)))) parsed.old wanted)
+        (IsMadeFrom (IsChangedWith (keeps_locals (Snips functions))) parsed.old wanted)
         made.new.bytes.items made.old.lines.items made.new.lines.items) }
     ensures no_map { wanted.has_map ≡ false → made.new.lines.items ≡ made.old.lines.items }
 {

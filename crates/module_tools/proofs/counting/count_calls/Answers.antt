@@ -1,7 +1,8 @@
 use Rattle.std.proofs.Common.{◌≡◌, List, ℕ, sym, subst}
 use Rattle.std.specs.Prelude.{codes}
 use Rattle.wasm_sections.specs.declared.changes.Changes.{Changes}
-use Rattle.wasm_module.proofs.WriterLemmas.{kept_alike, if_both, if_pair}
+use Rattle.wasm_module.proofs.ChangedLemmas.{kept_alike}
+use Rattle.wasm_module.proofs.WriterLemmas.{if_both, if_pair}
 use Rattle.module_tools.specs.declared.counting.CountCalls.{CountCalls}
 use Rattle.module_tools.specs.Counters.{HasCounter}
 use Rattle.module_tools.specs.FunctionChanges.{CountsCalls}
