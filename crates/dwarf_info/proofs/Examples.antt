@@ -3,3 +3,4 @@ pub mod AbbreviationsRead
 pub mod ValuesRead
 pub mod UnitsRead
 pub mod EffectsComputed
+pub mod StepsComputed

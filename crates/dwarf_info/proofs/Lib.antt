@@ -6,5 +6,11 @@ pub mod Search
 -- abbreviations
 pub mod Declarations
 pub mod Tables
+-- entries, and their steps
+pub mod AttributesRead
+pub mod WithoutLocals
+pub mod Stepping
+pub mod Taking
+pub mod OtherBytes
 -- values for given bytes
 pub mod Examples

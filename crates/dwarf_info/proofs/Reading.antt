@@ -46,7 +46,7 @@ read_first one t before (b ∷ bytes) =
     let k : length x.1 < length (b ∷ bytes) = t.shorter before (b ∷ bytes) x.0 x.1 e in
     ap (in_front_of x.0 x.1) (same_limit one t (length bytes) (length x.1) x.0 x.1 (omega arith) (omega arith)))
 
-front_front : {A : Type 0} (xs : List A) (x : A) (r : Result (List A × List ℕ) DebugFault) → with_front xs (r >>= λ ys. Ok (x ∷ ys.0, ys.1)) ≡ with_front (xs ++ x ∷ []) r
+pub front_front : {A : Type 0} (xs : List A) (x : A) (r : Result (List A × List ℕ) DebugFault) → with_front xs (r >>= λ ys. Ok (x ∷ ys.0, ys.1)) ≡ with_front (xs ++ x ∷ []) r
 front_front xs x (Ok ys) = ap (λ zs. Ok (zs, ys.1)) (sym (append_assoc xs (x ∷ []) ys.0))
 front_front xs x (Err e) = refl
 
@@ -54,7 +54,7 @@ front_front xs x (Err e) = refl
 pub record ReadSoFar {A : Type 0} (one : Option A → DebugReader (Option A)) (all : List ℕ) (done : List A) (before : Option A) (rest : List ℕ) : Type 0 where
   pub whole : up_to_end one None all ≡ with_front done (up_to_end one before rest)
 
-front_none : {A : Type 0} (r : Result (List A × List ℕ) DebugFault) → r ≡ with_front [] r
+pub front_none : {A : Type 0} (r : Result (List A × List ℕ) DebugFault) → r ≡ with_front [] r
 front_none (Ok ys) = refl
 front_none (Err e) = refl
 

@@ -1,11 +1,12 @@
 -- Looking up in a list whose keys ascend.
-use Rattle.std.proofs.Common.{◌≡◌, ℕ, zero, suc, ◌<◌, ◌≤◌, true, false, cond, ltb, eqb, List, [], ◌∷◌, ◌++◌, length, map, drop, get_or, Option, Some, None, option_map, Bor, refl, sym, ap, subst, ◌∙◌, arith}
+use Rattle.std.proofs.Common.{◌≡◌, ℕ, zero, suc, ◌+◌, ◌<◌, ◌≤◌, true, false, cond, ltb, eqb, List, [], ◌∷◌, ◌++◌, length, map, drop, get_or, Option, Some, None, option_map, Bor, refl, sym, ap, subst, ◌∙◌, arith}
 use Rattle.std.specs.Prelude.{IfSome}
 use Rattle.std.specs.Option.{option_copied}
 use Rattle.std.specs.List.{AllWithin, AllByRecursion, find}
 use Rattle.std.specs.List.Sorted.{IsNonDecreasingBy}
 use Rattle.std.proofs.lemmas.Bool.{ltb-true, eq-eqb, ne_eqb}
-use Rattle.code_moves.proofs.Bisection.{RiseFrom, rise}
+use Rattle.std.proofs.lemmas.List.{drop_all}
+use Rattle.code_moves.proofs.Bisection.{RiseFrom, rise, others_from}
 use Rattle.dwarf_info.specs.Sound.{Ascend}
 
 module _ {X : Type 0} (key : X → ℕ) where
@@ -81,6 +82,17 @@ module _ {X : Type 0} (key : X → ℕ) where
   -- as it is read
   pub finds_read : (from : ℕ) (xs : List X) → Ascend key from xs → (i : ℕ) (x : X) (k : ℕ) → i < length xs → x ≡ get_or xs i x → key x ≡ k → find (λ x. eqb (key x) k) xs ≡ Some x
   finds_read from xs up i x k within read is = finds_at from xs up i x k within (ap key (sym read) ∙ is) ∙ ap (λ (y : X). Some y) (sym read)
+
+  -- ---- where a bisection ends
+
+  module _ (from : ℕ) (xs : List X) (up : Ascend key from xs) (k at : ℕ) (passed : AllWithin (λ x. ltb (key x) k ≡ true) xs 0 at) where
+    pub finds_no_more : length xs ≤ at → find (λ x. eqb (key x) k) xs ≡ None
+    finds_no_more few = finds_passing xs k at passed ∙ ap (find (λ x. eqb (key x) k)) (drop_all at xs few)
+
+    pub finds_greater : (x : X) → at < length xs → x ≡ get_or xs at x → k < key x → find (λ x. eqb (key x) k) xs ≡ None
+    finds_greater x within read before =
+        let left = others_from xs xs at x refl within read in
+        finds_passing xs k at passed ∙ (ap (find (λ x. eqb (key x) k)) left ∙ finds_none_from from xs up at x (drop (at + 1) xs) left k before)
 
 -- ---- lists that are lengthened
 

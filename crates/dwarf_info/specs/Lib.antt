@@ -12,7 +12,13 @@ pub mod InMemory
 pub mod Units
 -- what becomes of attributes
 pub mod Effects
+-- entries, and the steps of all
+pub mod Entries
+pub mod Steps
+pub mod Taken
+pub mod OtherBytes
 -- values of the code
 pub mod Views
 pub mod UnitViews
 pub mod Contexts
+pub mod EntryViews

@@ -9,12 +9,15 @@ mod effect;
 mod entries;
 mod following;
 mod form;
+mod law;
 mod moved;
 mod scope;
 mod unit;
+mod values;
 
 pub use abbreviations::Abbreviations;
 pub use entries::move_units;
 pub use following::{Shifts, follow_length, follow_units, moved_distance, moved_offset};
+pub use law::law_other_bytes;
 pub use moved::{CodeRange, ListPlace, ListUse, MovedEntries};
 pub use unit::UnitSection;

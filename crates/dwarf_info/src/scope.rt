@@ -22,6 +22,23 @@ pub enum Scope {
 }
 
 impl Scope {
+    ghost use Rattle.dwarf_info.specs.Steps.{is_dropped};
+    ghost use Rattle.dwarf_info.specs.Taken.{is_ranges};
+
+    /// Whether it is a function that isn't in the module.
+    pub fn is_dropped(self) -> bool
+        ensures { result ≡ is_dropped self }
+    {
+        matches!(self, Scope::Dropped)
+    }
+
+    /// Whether it is a function whose code is given by ranges alone.
+    pub fn is_ranges(self) -> bool
+        ensures { result ≡ is_ranges self }
+    {
+        matches!(self, Scope::Ranges)
+    }
+
     // of a function
     fn of_function(moves: &Moves, low: Option<u64>, has_ranges: bool) -> Scope
         ensures { result ≡ scope_of_function moves.now.bodies.items low has_ranges }
