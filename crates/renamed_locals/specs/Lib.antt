@@ -1,0 +1,2 @@
+-- operators with other locals, and the law
+pub mod RenamedLocals
