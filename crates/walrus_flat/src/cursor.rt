@@ -6,8 +6,8 @@ use crate::control::{Control, control_at_front};
 use std::marker::Model;
 use wasm_ops::{CommonOperator, Operator, ReadError, Reader, law_front};
 
-/// The bytes of a body that aren't read yet, and the place of the first of them: a `Reader` of which
-/// the bytes are at hand.
+/// The bytes of a body that aren't read yet, as a slice, and the place of the first of them. A `Reader` is
+/// made of them where an operator isn't one of the common ones.
 #[derive(Drop)]
 pub(crate) struct Cursor<'a> {
     rest: &'a [u8],

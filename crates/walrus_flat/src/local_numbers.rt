@@ -35,7 +35,7 @@ impl NumberedLocals {
     }
 }
 
-/// The numbers of a function's locals, with the table at hand.
+/// The numbers of a function's locals, and their table as a slice, so that a look-up takes one step less.
 #[derive(Clone, Copy)]
 pub(crate) struct LocalNumbers<'a> {
     pub numbered: &'a NumberedLocals,
