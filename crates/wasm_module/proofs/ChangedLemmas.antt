@@ -226,7 +226,7 @@ module _ (writes : BodyWriting) (now : ParsedModule) where
 
 -- if each body that is written is one of these, and they are as many, all are these
 module _ (bs : List BodyAt) (raws : List (List ℕ)) (pss : List (List Pair)) (source : ParsedModule) (as_many : length bs ≡ length raws) where
-  all_of :
+  pub all_of :
       (cs : List BodyAt) (rs : List (List ℕ)) (qss : List (List Pair)) → AreWritten (IsOneOf bs raws pss) source source.imported cs rs qss → length cs ≡ length bs →
       (cs ≡ bs) × (rs ≡ raws)
   all_of cs rs qss h len =

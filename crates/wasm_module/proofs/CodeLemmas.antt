@@ -154,7 +154,7 @@ module _ (writes : BodyWriting) (source : ParsedModule) where
     -- All bodies are written, with a greater count, and then those that are added.
     pub all_bodies :
         (now : ParsedModule) (s : SectionAt) (text : List ℕ) (left : Bodies) (count more : ℕ) (given added : List ℕ) (old middle new : Option (List ℕ)) (at between end : ℕ) (before after : L) →
-        Extends source now → u32 s.contents ≡ Ok (count, text) → count ≡ count_bodies now → count < 2 ^ 32 →
+        Extends source now → u32 s.contents ≡ Ok (count, text) → count ≡ count_bodies now → count + more < 2 ^ 32 →
         CodeSoFar s.end text left count (count + more) old middle at between before after → left.left.rest.now ≡ [] → u32 given ≡ Ok (more, added) → Puts middle new between end added →
         PutsCode writes source records needs s given old new at end before after
     all_bodies now s text left count more given added old middle new at between end before after x e n small p done g q =
@@ -180,10 +180,11 @@ module _ (writes : BodyWriting) (source : ParsedModule) where
           has_items = record {
             count = count;
             items = entries p.raws;
-            first_is = short_read count (entries p.raws) small;
+            first_is = short_read count (entries p.raws) (omega arith);
             more = more;
             others = added;
             second_is = g;
+            few = small;
             contents_are = refl;
           };
           puts = puts_same old new at end ((front ++ entries p.raws) ++ added) (front ++ (entries p.raws ++ added)) (append_assoc front (entries p.raws) added)

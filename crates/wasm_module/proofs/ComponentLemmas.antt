@@ -50,8 +50,8 @@ module _ (R : Components → Components → Type 0) where
       let a = bind_ok (step m end text) (λ y. repeated step n y.0 end y.1) x e in
       both m a.0.0 x.0 (h m end text a.0 a.1) (repeated_leads same both step h n a.0.0 end a.0.1 x a.2)
 
-  either_leads : (m : Components) (b : Bool) (p q : Part Components) → PartLeads m p → PartLeads m q → PartLeads m (if b then p else q)
-  either_leads m true p q f g = f
+  either_leads : (m : Components) (b : Bool) (p q : Part Components) → (b ≡ true → PartLeads m p) → PartLeads m q → PartLeads m (if b then p else q)
+  either_leads m true p q f g = f refl
   either_leads m false p q f g = g
 
   pub whole_leads : (m : Components) (part : Part Components) → PartLeads m part → SectionLeads m (whole_part part)
@@ -94,13 +94,10 @@ module _ (R : Components → Components → Type 0) where
 
   -- ---- what such a relation has to allow
 
-  pub record Allows : Type 0 where
+  -- of sections other than those of types, imports and functions, and the code section
+  pub record AllowsOthers : Type 0 where
     pub same : (m : Components) → R m m
     pub both : (a b c : Components) → R a b → R b c → R a c
-    pub functions :
-        (m : Components) (index type : ℕ) → function_type_of m index ≡ Ok type → nat_lt (length m.functions) (2 ^ 32) ≡ true →
-        R m (record m { functions = m.functions ++ type ∷ [] })
-    pub imported : (m : Components) (imported : ℕ) → R m (record m { imported = imported })
     pub tags : (m : Components) (tags : List ℕ) → R m (record m { tags = tags })
     pub tables : (m : Components) (count : ℕ) → R m (record m { tables = count })
     pub memories : (m : Components) (count : ℕ) → R m (record m { memories = count })
@@ -109,12 +106,15 @@ module _ (R : Components → Components → Type 0) where
     pub datas : (m : Components) (count : ℕ) → R m (record m { datas = count })
     pub data_count : (m : Components) (count : Option (ℕ × ℕ)) → R m (record m { data_count = count })
 
-  module _ (allows : Allows) where
-    function_leads : (m : Components) (index : ℕ) → ItemLeads m (with_one_function m index)
-    function_leads m index n e =
-        let a = bind_ok (function_type_of m index) (λ type. one_more_in spaces.Funcs m (record m { functions = m.functions ++ type ∷ [] })) n e in
-        one_more_leads spaces.Funcs m (record m { functions = m.functions ++ a.0 ∷ [] }) (allows.functions m index a.0 a.1) n a.2
+  -- of all
+  pub record Allows : Type 0 where
+    pub others : AllowsOthers
+    pub functions :
+        (m : Components) (index type : ℕ) → function_type_of m index ≡ Ok type → nat_lt (length m.functions) (2 ^ 32) ≡ true →
+        R m (record m { functions = m.functions ++ type ∷ [] })
+    pub imported : (m : Components) (imported : ℕ) → R m (record m { imported = imported })
 
+  module _ (allows : AllowsOthers) where
     tag_leads : (m : Components) (index : ℕ) → ItemLeads m (with_one_tag m index)
     tag_leads m index n e =
         let a = bind_ok (function_type_of m index) (λ type. one_more_in spaces.Tags m (record m { tags = m.tags ++ type ∷ [] })) n e in
@@ -132,27 +132,13 @@ module _ (R : Components → Components → Type 0) where
     element_leads : (m : Components) → ItemLeads m (with_one_element m)
     element_leads m = one_more_leads spaces.Elements m (record m { elements = m.elements + 1 }) (λ room. allows.elements m (m.elements + 1))
 
-    import_leads : (m : Components) (it : Imported) → ItemLeads m (with_one_import m it)
-    import_leads m (imported.Func index) n e =
-        let a = bind_ok (with_one_function m index) (λ c. Ok (record c { imported = length c.functions })) n e in
-        subst (λ (c : Components). R m c) (ok_same (record a.0 { imported = length a.0.functions }) n a.2)
-        (allows.both m a.0 (record a.0 { imported = length a.0.functions }) (function_leads m index a.0 a.1) (allows.imported a.0 (length a.0.functions)))
-    import_leads m (imported.Tag index) n e = tag_leads m index n e
-    import_leads m imported.Table n e = table_leads m n e
-    import_leads m imported.Memory n e = memory_leads m n e
-    import_leads m imported.Global n e = global_leads m n e
-
-    import_step_leads : (m : Components) → PartLeads m (import_step m)
-    import_step_leads m =
-        then_leads m name_part (λ from. name_part >=> λ name. checked imported_part (with_one_import m))
-        (λ from. then_leads m name_part (λ name. checked imported_part (with_one_import m))
-        (λ name. checked_leads m imported_part (with_one_import m) (import_leads m)))
-
     export_step_leads : (m : Components) → PartLeads m (export_step m)
     export_step_leads m = then_leads m (known_export_part (count_in m)) (λ u. just m) (λ u. just_leads m (allows.same m))
 
-    item_step_leads : (id : ℕ) (m : Components) → PartLeads m (item_step id m)
-    item_step_leads id m =
+    item_step_leads :
+        (id : ℕ) → ((id == 2) ≡ true → (m : Components) → PartLeads m (import_step m)) → ((id == 3) ≡ true → (m : Components) → PartLeads m (checked number (with_one_function m))) →
+        (m : Components) → PartLeads m (item_step id m)
+    item_step_leads id imports functions m =
         let from_13 : Part Components = if id == 13 then checked tag_part (with_one_tag m) else checked data_segment_part (λ x. with_one_data m) in
         let from_9 : Part Components = if id == 9 then checked element_segment_part (λ x. with_one_element m) else from_13 in
         let from_7 : Part Components = if id == 7 then export_step m else from_9 in
@@ -160,14 +146,14 @@ module _ (R : Components → Components → Type 0) where
         let from_5 : Part Components = if id == 5 then checked limits_part (λ x. with_one_memory m) else from_6 in
         let from_4 : Part Components = if id == 4 then checked table_part (λ x. with_one_table m) else from_5 in
         let from_3 : Part Components = if id == 3 then checked number (with_one_function m) else from_4 in
-        either_leads m (id == 2) (import_step m) from_3 (import_step_leads m)
-        (either_leads m (id == 3) (checked number (with_one_function m)) from_4 (checked_leads m number (with_one_function m) (function_leads m))
-        (either_leads m (id == 4) (checked table_part (λ x. with_one_table m)) from_5 (checked_leads m table_part (λ x. with_one_table m) (λ x. table_leads m))
-        (either_leads m (id == 5) (checked limits_part (λ x. with_one_memory m)) from_6 (checked_leads m limits_part (λ x. with_one_memory m) (λ x. memory_leads m))
-        (either_leads m (id == 6) (checked global_part (λ x. with_one_global m)) from_7 (checked_leads m global_part (λ x. with_one_global m) (λ x. global_leads m))
-        (either_leads m (id == 7) (export_step m) from_9 (export_step_leads m)
-        (either_leads m (id == 9) (checked element_segment_part (λ x. with_one_element m)) from_13 (checked_leads m element_segment_part (λ x. with_one_element m) (λ x. element_leads m))
-        (either_leads m (id == 13) (checked tag_part (with_one_tag m)) (checked data_segment_part (λ x. with_one_data m)) (checked_leads m tag_part (with_one_tag m) (tag_leads m))
+        either_leads m (id == 2) (import_step m) from_3 (λ is. imports is m)
+        (either_leads m (id == 3) (checked number (with_one_function m)) from_4 (λ is. functions is m)
+        (either_leads m (id == 4) (checked table_part (λ x. with_one_table m)) from_5 (λ is. checked_leads m table_part (λ x. with_one_table m) (λ x. table_leads m))
+        (either_leads m (id == 5) (checked limits_part (λ x. with_one_memory m)) from_6 (λ is. checked_leads m limits_part (λ x. with_one_memory m) (λ x. memory_leads m))
+        (either_leads m (id == 6) (checked global_part (λ x. with_one_global m)) from_7 (λ is. checked_leads m global_part (λ x. with_one_global m) (λ x. global_leads m))
+        (either_leads m (id == 7) (export_step m) from_9 (λ is. export_step_leads m)
+        (either_leads m (id == 9) (checked element_segment_part (λ x. with_one_element m)) from_13 (λ is. checked_leads m element_segment_part (λ x. with_one_element m) (λ x. element_leads m))
+        (either_leads m (id == 13) (checked tag_part (with_one_tag m)) (checked data_segment_part (λ x. with_one_data m)) (λ is. checked_leads m tag_part (with_one_tag m) (tag_leads m))
         (data_step_leads m (allows.same m) (allows.datas m (m.datas + 1))))))))))
 
     -- ---- sections
@@ -183,25 +169,53 @@ module _ (R : Components → Components → Type 0) where
         subst (λ (p : Components × List ℕ). R m p.0) (ok_same (record m { data_count = Some (a.0.0, end - length text) }, a.0.1) x a.2)
         (allows.data_count m (Some (a.0.0, end - length text)))
 
-    items_lead : (id : ℕ) (m : Components) → PartLeads m (items_part id m)
-    items_lead id m =
-        then_leads m number (λ n. repeated (item_step id) n m)
-        (λ n. repeated_leads allows.same allows.both (item_step id) (item_step_leads id) n m)
-
-    -- each section, if the type section and the code section are
-    pub contents_lead :
-        (id : ℕ) (m : Components) → ((id == 1) ≡ true → SectionLeads m (type_section_part m)) → ((id == 10) ≡ true → SectionLeads m (whole_part (code_part m))) →
+    -- each section, if those of types, imports, functions and code are
+    pub other_contents_lead :
+        (id : ℕ) (m : Components) → ((id == 1) ≡ true → SectionLeads m (type_section_part m)) → ((id == 2) ≡ true → (n : Components) → PartLeads n (import_step n)) →
+        ((id == 3) ≡ true → (n : Components) → PartLeads n (checked number (with_one_function n))) → ((id == 10) ≡ true → SectionLeads m (whole_part (code_part m))) →
         SectionLeads m (contents_of id m)
-    contents_lead id m types code =
+    other_contents_lead id m types imports functions code =
         let from_12 : (end : ℕ) → (text : List ℕ) → Result Components ModuleError =
         if id == 12 then whole_part (data_count_part m) else whole_part (items_part id m) in
         let from_10 : (end : ℕ) → (text : List ℕ) → Result Components ModuleError = if id == 10 then whole_part (code_part m) else from_12 in
         let from_8 : (end : ℕ) → (text : List ℕ) → Result Components ModuleError = if id == 8 then whole_part (start_part m) else from_10 in
         let from_1 : (end : ℕ) → (text : List ℕ) → Result Components ModuleError = if id == 1 then type_section_part m else from_8 in
+        let items : PartLeads m (items_part id m) =
+        then_leads m number (λ n. repeated (item_step id) n m)
+        (λ n. repeated_leads allows.same allows.both (item_step id) (item_step_leads id imports functions) n m) in
         either_section m (id == 0) (custom_section m) from_1 (λ is. custom_leads m)
         (λ no. either_section m (id == 1) (type_section_part m) from_8 types
         (λ no. either_section m (id == 8) (whole_part (start_part m)) from_10
         (λ is. whole_leads m (start_part m) (then_leads m (index_part (count_in m spaces.Funcs) spaces.Funcs) (λ u. just m) (λ u. just_leads m (allows.same m))))
         (λ no. either_section m (id == 10) (whole_part (code_part m)) from_12 code
         (λ no. either_section m (id == 12) (whole_part (data_count_part m)) (whole_part (items_part id m)) (λ is. whole_leads m (data_count_part m) (data_count_leads m))
-        (λ no. whole_leads m (items_part id m) (items_lead id m))))))
+        (λ no. whole_leads m (items_part id m) items)))))
+
+  module _ (allows : Allows) where
+    function_leads : (m : Components) (index : ℕ) → ItemLeads m (with_one_function m index)
+    function_leads m index n e =
+        let a = bind_ok (function_type_of m index) (λ type. one_more_in spaces.Funcs m (record m { functions = m.functions ++ type ∷ [] })) n e in
+        one_more_leads spaces.Funcs m (record m { functions = m.functions ++ a.0 ∷ [] }) (allows.functions m index a.0 a.1) n a.2
+
+    import_leads : (m : Components) (it : Imported) → ItemLeads m (with_one_import m it)
+    import_leads m (imported.Func index) n e =
+        let a = bind_ok (with_one_function m index) (λ c. Ok (record c { imported = length c.functions })) n e in
+        subst (λ (c : Components). R m c) (ok_same (record a.0 { imported = length a.0.functions }) n a.2)
+        (allows.others.both m a.0 (record a.0 { imported = length a.0.functions }) (function_leads m index a.0 a.1) (allows.imported a.0 (length a.0.functions)))
+    import_leads m (imported.Tag index) n e = tag_leads allows.others m index n e
+    import_leads m imported.Table n e = table_leads allows.others m n e
+    import_leads m imported.Memory n e = memory_leads allows.others m n e
+    import_leads m imported.Global n e = global_leads allows.others m n e
+
+    import_step_leads : (m : Components) → PartLeads m (import_step m)
+    import_step_leads m =
+        then_leads m name_part (λ from. name_part >=> λ name. checked imported_part (with_one_import m))
+        (λ from. then_leads m name_part (λ name. checked imported_part (with_one_import m))
+        (λ name. checked_leads m imported_part (with_one_import m) (import_leads m)))
+
+    -- each section, if the type section and the code section are
+    pub contents_lead :
+        (id : ℕ) (m : Components) → ((id == 1) ≡ true → SectionLeads m (type_section_part m)) → ((id == 10) ≡ true → SectionLeads m (whole_part (code_part m))) →
+        SectionLeads m (contents_of id m)
+    contents_lead id m types code =
+        other_contents_lead allows.others id m types (λ is. import_step_leads) (λ is n. checked_leads n number (with_one_function n) (function_leads n)) code

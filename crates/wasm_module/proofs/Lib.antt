@@ -39,6 +39,16 @@ pub mod VisitedLemmas
 pub mod SameModuleLemmas
 pub mod ReadAgainLemmas
 pub mod Again
+-- the sections of a module that is written, their order, their contents and its bodies; and what sections spell
+pub mod WrittenSectionLemmas
+pub mod RankLemmas
+pub mod SectionOrderLemmas
+pub mod SectionContentLemmas
+pub mod SameFunctionLemmas
+pub mod WrittenBodyLemmas
+pub mod ChangedBodyLemmas
+pub mod SpelledModuleLemmas
+pub mod ReadAsWrittenLemmas
 -- numbers in hexadecimal, and the lines of a location map
 pub mod DigitLemmas
 pub mod MapLineLemmas

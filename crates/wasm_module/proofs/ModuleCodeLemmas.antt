@@ -134,17 +134,19 @@ few_more functions type room = let long = length-append functions (type ∷ []) 
 
 allowed : Allows KeepsCode
 allowed = record {
-  same = λ m. record { code = refl; few = λ f. f };
-  both = λ a b c p q. record { code = q.code ∙ p.code; few = λ f. q.few (p.few f) };
+  others = record {
+    same = λ m. record { code = refl; few = λ f. f };
+    both = λ a b c p q. record { code = q.code ∙ p.code; few = λ f. q.few (p.few f) };
+    tags = λ m l. record { code = refl; few = λ f. f };
+    tables = λ m k. record { code = refl; few = λ f. f };
+    memories = λ m k. record { code = refl; few = λ f. f };
+    globals = λ m k. record { code = refl; few = λ f. f };
+    elements = λ m k. record { code = refl; few = λ f. f };
+    datas = λ m k. record { code = refl; few = λ f. f };
+    data_count = λ m o. record { code = refl; few = λ f. f };
+  };
   functions = λ m index type found room. record { code = refl; few = λ f. few_more m.functions type room };
   imported = λ m k. record { code = refl; few = λ f. f };
-  tags = λ m l. record { code = refl; few = λ f. f };
-  tables = λ m k. record { code = refl; few = λ f. f };
-  memories = λ m k. record { code = refl; few = λ f. f };
-  globals = λ m k. record { code = refl; few = λ f. f };
-  elements = λ m k. record { code = refl; few = λ f. f };
-  datas = λ m k. record { code = refl; few = λ f. f };
-  data_count = λ m o. record { code = refl; few = λ f. f };
 }
 
 other_section : (id : ℕ) (m : Components) (end : ℕ) (text : List ℕ) (n : Components) → (id == 10) ≡ false → contents_of id m end text ≡ Ok n → KeepsCode m n
@@ -231,10 +233,10 @@ all_read (suc most) r m end (b ∷ bytes) n (s ∷ ss) enough e p =
 -- ---- the code section among them
 
 -- one section more, which is a code section or isn't
-with_code : (s : SectionAt) (ss : List SectionAt) → (s.id == 10) ≡ true → sections_with 10 (s ∷ ss) ≡ s ∷ sections_with 10 ss
+pub with_code : (s : SectionAt) (ss : List SectionAt) → (s.id == 10) ≡ true → sections_with 10 (s ∷ ss) ≡ s ∷ sections_with 10 ss
 with_code s ss is = ap (λ (b : Bool). if b then s ∷ sections_with 10 ss else sections_with 10 ss) is
 
-without_code : (s : SectionAt) (ss : List SectionAt) → (s.id == 10) ≡ false → sections_with 10 (s ∷ ss) ≡ sections_with 10 ss
+pub without_code : (s : SectionAt) (ss : List SectionAt) → (s.id == 10) ≡ false → sections_with 10 (s ∷ ss) ≡ sections_with 10 ss
 without_code s ss isnt = ap (λ (b : Bool). if b then s ∷ sections_with 10 ss else sections_with 10 ss) isnt
 
 -- the rank after a section with this id

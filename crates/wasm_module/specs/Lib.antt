@@ -12,6 +12,8 @@ pub mod Refusals
 -- the bytes that are written for a section and after it, and the module that is written; and what a listener is told of it
 pub mod WrittenModules
 pub mod ToldModules
+-- the sections of the module that is written, and what is read of it
+pub mod WrittenSections
 -- one more import
 pub mod ImportedFunctions
 -- items that are added after those of a section

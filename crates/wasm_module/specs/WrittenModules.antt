@@ -113,7 +113,7 @@ IsLinked s = s.id ≡ 0 → (name : List ℕ) × BeginsWithName s.contents name 
 
 -- ---- bodies
 
--- The contents of a section that has the items of two, one after the other: their number is the sum.
+-- The contents of a section that has the items of two, one after the other: their number is the sum, and has 32 bits.
 pub record HasItemsOf (first second contents : List ℕ) : Type 0 where
   pub count : ℕ
   pub items : List ℕ
@@ -121,6 +121,7 @@ pub record HasItemsOf (first second contents : List ℕ) : Type 0 where
   pub more : ℕ
   pub others : List ℕ
   pub second_is : u32 second ≡ Ok (more, others)
+  pub few : count + more < 2 ^ 32
   pub contents_are : contents ≡ short_number (count + more) ++ (items ++ others)
 
 -- how many functions have a body: those that aren't imported

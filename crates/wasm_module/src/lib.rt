@@ -17,6 +17,7 @@ mod keeping_pairs;
 mod large_bodies;
 mod laws;
 mod laws_again;
+mod laws_sections;
 mod map_sink;
 mod missing;
 mod numbers;

@@ -40,20 +40,22 @@ found_type types index type (Some Other) is e = absurd cc
 
 allowed : Allows KeepsTypes
 allowed = record {
-  same = λ m. record { types = refl; functions = λ all. all };
-  both = kept_both;
+  others = record {
+    same = λ m. record { types = refl; functions = λ all. all };
+    both = kept_both;
+    tags = λ m l. record { types = refl; functions = λ all. all };
+    tables = λ m k. record { types = refl; functions = λ all. all };
+    memories = λ m k. record { types = refl; functions = λ all. all };
+    globals = λ m k. record { types = refl; functions = λ all. all };
+    elements = λ m k. record { types = refl; functions = λ all. all };
+    datas = λ m k. record { types = refl; functions = λ all. all };
+    data_count = λ m o. record { types = refl; functions = λ all. all };
+  };
   functions = λ m index type found room. record {
     types = refl;
     functions = λ all. one_more_holds (IsFunctionType m.types) m.functions type all (found_type m.types index type (slice_get m.types index) refl found);
   };
   imported = λ m k. record { types = refl; functions = λ all. all };
-  tags = λ m l. record { types = refl; functions = λ all. all };
-  tables = λ m k. record { types = refl; functions = λ all. all };
-  memories = λ m k. record { types = refl; functions = λ all. all };
-  globals = λ m k. record { types = refl; functions = λ all. all };
-  elements = λ m k. record { types = refl; functions = λ all. all };
-  datas = λ m k. record { types = refl; functions = λ all. all };
-  data_count = λ m o. record { types = refl; functions = λ all. all };
 }
 
 code_leads : (m : Components) → PartLeads KeepsTypes m (code_part m)

@@ -23,7 +23,7 @@ use Rattle.wasm_module.proofs.SameModuleLemmas.{nothing_after, code_alone}
 -- ---- sections that a text begins with
 
 -- a section of another file, whatever follows it
-begins_again :
+pub begins_again :
     (end end' : ℕ) (text : List ℕ) (s : SectionAt) (following others : List ℕ) → BeginsSection end text s following →
     BeginsSection end' (s.whole ++ others) (record s { end = end' - length others }) others
 begins_again end end' text s following others begins =
@@ -39,10 +39,10 @@ begins_again end end' text s following others begins =
     }
 
 -- a section that is written
-abbrev written_at : (end id : ℕ) (contents others : List ℕ) → SectionAt
+abbrev pub written_at : (end id : ℕ) (contents others : List ℕ) → SectionAt
 written_at end id contents others = record { id = id; contents = contents; end = end - length others; whole = section id contents }
 
-begins_new : (end id : ℕ) (contents others : List ℕ) → FitsSize contents → BeginsSection end (section id contents ++ others) (written_at end id contents others) others
+pub begins_new : (end id : ℕ) (contents others : List ℕ) → FitsSize contents → BeginsSection end (section id contents ++ others) (written_at end id contents others) others
 begins_new end id contents others fits = record {
   sized = (short_number (length contents) ++ contents) ++ others;
   id_is = refl;

@@ -51,7 +51,7 @@ returns-clause-written g c = λ source e.
     let text = c.in_ok-count.source.left.rest.now in
     let all : at.counter ≡ count = omega arith in
     let known : count ≡ count_bodies c.args.self.now = omega (arith, c.body_count.ensures) in
-    let small : count < 2 ^ 32 = omega arith in
+    let small : count + more < 2 ^ 32 = omega (arith, c.in_ok-end.ensures.fits) in
     let so_far = subst (λ (n : ℕ). CodeSoFar writes source g.T.MapSink.records g.T.MapSink.needs section.end text at.source n (count + more) old middle c.args.at at.end c.args.sink.now at.sink) all (at.invariant.so_far source e) in
     if_so c.put.result c.put.ensures (λ end q.
     all_bodies writes source g.T.MapSink.records g.T.MapSink.needs c.args.self.now section text at.source count more (added_bodies c.args.rewritten.now.changes) c.in_ok-more.added.now old middle (contents c.put.new.out) c.args.at at.end end c.args.sink.now at.sink e
