@@ -18,6 +18,7 @@ use crate::body_writer::{BodyWriter, Measured, Needed, Rewriting};
 use crate::changing::kept_bodies::KeptBodies;
 use crate::custom::{Followed, Followers, Note, contents_for, follows_code};
 use crate::keeping::{Keeper, Keeping, Kept};
+use crate::keeping_pairs::KeptWithPairs;
 use crate::parsed::ParsedModule;
 use wasm_sections::{
     Body, Changes, ModuleError, OmittedSections, Section, SectionKind, number_len,
@@ -117,6 +118,20 @@ impl<'a> RewrittenModule<'a, ()> {
             code,
             notes,
         }
+    }
+}
+
+impl<'a, B: Drop> RewrittenModule<'a, Kept<'a, B>> {
+    /// The same module, whose bodies that are kept with their location pairs are written as they are
+    /// kept, also where a listener needs the pairs.
+    pub fn with_pairs(self) -> RewrittenModule<'a, KeptWithPairs<'a, B>>
+        ensures kept { result.bodies.kept ≡ self.entry.bodies.kept }
+        ensures bodies { result.bodies.bodies ≡ self.entry.bodies.bodies }
+        ensures changes { result.changes ≡ self.entry.changes }
+        ensures omitted { result.omitted ≡ self.entry.omitted }
+    {
+        let (bodies, rest) = self.take_bodies();
+        rest.with_bodies(bodies.with_pairs())
     }
 }
 
@@ -500,5 +515,29 @@ impl<'a> ParsedModule<'a> {
     {
         let changes = Changes::new(self.alloc);
         self.rewrite_with(Rewriting, changes)
+    }
+
+    /// The same, with the location pairs of the bodies kept too, so that `write_module_with_map` needn't
+    /// rewrite them again.
+    ///
+    /// # Errors
+    ///
+    /// Those of `rewrite_all`.
+    pub fn rewrite_all_with_pairs(
+        &mut self,
+    ) -> Result<RewrittenModule<'a, KeptWithPairs<'a, Rewriting>>, ModuleError>
+        ensures extends { OnOk result (Extends self.old self.new) }
+        ensures kept { (source : Parsed) → Extends source self.old → IfOk result
+            (λ made. AreKeptWithAs IsRewrittenWith source made.bodies.kept) }
+        ensures none_given { IfOk result (λ made. new_contents_in made ≡ []) }
+        ensures omitted { IfOk result (λ made. OmitsNothing made.omitted) }
+        ensures linked { (all : List SectionAt) → IsModule self.old.bytes.now all
+            → OnOk result (Each IsLinked all) }
+    {
+        let changes = Changes::new(self.alloc);
+        match self.rewrite_keeping(Rewriting, changes, Keeping::CODE_WITH_PAIRS) {
+            Ok(made) => Ok(made.with_pairs()),
+            Err(error) => Err(error),
+        }
     }
 }
