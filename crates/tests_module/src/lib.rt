@@ -1,5 +1,5 @@
-//! Tests of whole modules: what is in them, and what is written of them after a caller's changes; and
-//! of the mappings of source maps. What `wrewrite` writes, and which modules it refuses, is tested by
+//! Tests of whole modules: what is in them, and what is written of them after a caller's changes; of
+//! packed location pairs; and of the mappings of source maps. What `wrewrite` writes, and which modules it refuses, is tested by
 //! `tests/programs/run`. A function here owns one large value and lends it to the next: one that
 //! owns several over calls that may fail takes minutes to prove.
 #![tactic(auto)]
@@ -22,6 +22,8 @@ mod new_locals;
 mod numbering;
 #[cfg(test)]
 mod omissions;
+#[cfg(test)]
+mod packing;
 #[cfg(test)]
 mod texts;
 #[cfg(test)]
