@@ -4,7 +4,7 @@ ghost use Rattle.std.specs.Prelude.{◌≡◌, ◌≤◌, true, Ok, IfOk, OnOk};
 ghost use Rattle.std.specs.Process.{exit_status};
 ghost use Rattle.module_validator.specs.ModuleRules.{module_validity};
 ghost use Rattle.wasm_module.specs.declared.parsed.ParsedModule.{ParsedModule as Parsed};
-ghost use Rattle.wasm_module.specs.KeptCode.{AreKept, AreKeptAs};
+ghost use Rattle.wasm_module.specs.KeptCode.{AreKept, AreKeptAs, AreKeptWithAs};
 ghost use Rattle.wasm_module.specs.RewrittenCode.{Extends, IsRewrittenWith};
 ghost use Rattle.wasm_module.specs.WrittenModules.{with_some_pairs};
 ghost use Rattle.wasm_sections.specs.Omissions.{OmitsNothing};
@@ -143,6 +143,8 @@ fn rewritten_with_pairs<'a, R: Eprint + Clock>(
     ensures extends { OnOk result (Extends parsed.old parsed.new) }
     ensures kept { (source : Parsed) → Extends source parsed.old → IfOk result
         (λ made. AreKeptAs (with_some_pairs IsRewrittenWith) source made.bodies.bodies.kept) }
+    ensures pairs { (source : Parsed) → Extends source parsed.old → IfOk result
+        (λ made. AreKeptWithAs IsRewrittenWith source made.bodies.bodies.kept) }
     ensures changes { IfOk result (λ made. made.changes ≡ changes) }
     ensures omitted { IfOk result (λ made. OmitsNothing made.omitted) }
 {

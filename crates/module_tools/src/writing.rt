@@ -1,5 +1,6 @@
 //! Writing the module that a program makes, its location map, and its source map.
 ghost use Rattle.std.specs.Prelude.{◌≡◌, ◌++◌, [], ℕ, List, OnOk, MatchOption};
+ghost use Rattle.std.specs.Io.Buffered.{writer_contents, writer_inner};
 ghost use Rattle.std.specs.Io.KnownBytes.{Appends, Keeps};
 ghost use Rattle.wasm_sections.specs.Sections.{section as whole_section};
 ghost use Rattle.wasm_module.specs.WrittenModules.{IsWrittenModule, url_contents};
@@ -135,8 +136,8 @@ where
         }
     }
 
-    /// Writes the module, its debug information, the section that says where its source map is, and what the buffer still holds.
-    /// Returns why the debug information can't be moved, if it can't.
+    /// Writes the module, its debug information, and the section that says where its source map is. Returns why the debug information
+    /// can't be moved, if it can't.
     fn write_out<W: Write, T: RecordsPlaces>(
         &self,
         parsed: &mut ParsedModule<'_>,
@@ -158,12 +159,35 @@ where
             Err(error) => return Err(error),
         };
         match write_url(self.rt.alloc(), self.task.source_map_url, out) {
-            Ok(()) => {}
-            Err(error) => return Err(error),
-        }
-        match flush(out) {
             Ok(()) => Ok(failure),
             Err(error) => Err(error),
+        }
+    }
+
+    /// The same, to a buffer, in which nothing is left.
+    fn write_through<W: Write + Drop, T: RecordsPlaces>(
+        &self,
+        parsed: &mut ParsedModule<'_>,
+        sink: &mut T,
+        out: &mut BufWriter<W>,
+    ) -> Result<Option<DebugFailure>, WriteError>
+        // All of it has gone to the writer inside.
+        ensures { OnOk result ((made debug section : List ℕ)
+            × IsWrittenModule (B.writes self.now.module.now.bodies) parsed.old
+            self.now.module.now.changes self.now.module.now.omitted made
+            × AreSections self.now.debug.now debug
+            × MatchOption self.now.task.now.source_map_url (section ≡ [])
+            (λ u. section ≡ whole_section 0 (url_contents u.now))
+            × Appends (writer_contents W.contents out.old) (W.contents (writer_inner out.new))
+            ((made ++ debug) ++ section)) }
+    {
+        let failure = match self.write_out(parsed, sink, out) {
+            Ok(failure) => failure,
+            Err(error) => return Err(error),
+        };
+        match out.flush() {
+            Ok(()) => Ok(failure),
+            Err(error) => Err(WriteError::Io(error)),
         }
     }
 
@@ -175,7 +199,7 @@ where
         target: &mut W,
     ) -> Result<Option<DebugFailure>, WriteError> {
         match BufWriter::new(self.rt.alloc(), target) {
-            Ok(mut out) => self.write_out(parsed, sink, &mut out),
+            Ok(mut out) => self.write_through(parsed, sink, &mut out),
             Err(error) => Err(WriteError::Io(error)),
         }
     }
