@@ -4,36 +4,27 @@
 //! `host.trace`, which takes an i32 and returns nothing. Each function with a body calls it before
 //! all else, with its own index in IN.wasm. Since an imported function comes before those with a
 //! body, these have other indices in OUT.wasm, and all that names them follows.
-use module_tools::Tool;
-use std::alloc::{AllocError, Global};
-use walrus_body::LocalFunction;
-use walrus_ir::{
-    Call, Const, FunctionId, IdHashSet, Instr, InstrLocId, InstrSeq, ModuleLocals, ValType, Value,
-};
-use wasm_module::{ChangeFunction, Changes, ModuleError, ModuleFault, ParsedModule};
+ghost use Rattle.wasm_module.specs.RewrittenCode.{keeps_locals};
+ghost use Rattle.inserted_code.specs.InsertedCode.{Inserts};
 
-/// Calls a function with a number before all else. The new instructions come from no place of the
-/// source, so that they have the default location.
-fn add_call(block: &mut InstrSeq, func: FunctionId, number: i32) -> Result<(), AllocError> {
-    let nowhere = InstrLocId::default();
-    let value = Value::I32(number);
-    let instrs = &mut block.instrs;
-    instrs.insert(0, (Instr::Call(Call { func }), nowhere))?;
-    instrs.insert(0, (Instr::Const(Const { value }), nowhere))?;
-    Ok(())
-}
+use module_tools::Tool;
+use std::alloc::Global;
+use walrus_body::LocalFunction;
+use walrus_insertion::{Place, Probe, insert};
+use walrus_ir::{BlockKind, FunctionId, IdHashSet, ModuleLocals, ValType};
+use wasm_module::{ChangeFunction, Changes, ModuleError, ModuleFault, ParsedModule};
 
 /// Lets each function call this one, with its index.
 #[derive(Clone, Copy, Drop)]
 pub(crate) struct Trace(FunctionId);
 
 impl ChangeFunction for Trace {
-    // Nothing is said of what it does, so nothing has to be proved of it.
     ghost State = { Unit {0} };
 
     ghost state = { λ _. tt };
 
-    ghost changes = { λ _ _ _ _ _ _ _. Unit {0} };
+    // Instructions are inserted, so what is written is that of `law_inserted_code`.
+    ghost changes = { λ _ _. keeps_locals (λ _ old new. Inserts old new) };
 
     fn change(
         &mut self,
@@ -45,10 +36,17 @@ impl ChangeFunction for Trace {
             let fault = ModuleFault::TooGreat;
             return Err(ModuleError { fault, at: 0 });
         };
-        if function.has_entry() {
-            let entry = function.entry_block();
-            add_call(function.block_mut(entry), self.0, number)?;
-        }
+        let hook = self.0;
+        insert(
+            function.builder_mut(),
+            |place: &Place<'_>, probe: &mut Probe| {
+                if !place.is_start() || !matches!(place.kind, BlockKind::FunctionEntry) {
+                    return Ok(());
+                }
+                probe.i32_const(number)?;
+                probe.call(hook)
+            },
+        )?;
         Ok(())
     }
 }
