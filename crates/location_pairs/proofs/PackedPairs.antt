@@ -1,5 +1,5 @@
 -- What is packed is read back, and pairs that are packed alike are the same.
-use Rattle.std.proofs.Common.{◌≡◌, ℕ, ◌+◌, ◌-◌, ◌^◌, ◌/◌, ◌%◌, ◌<◌, ◌≤◌, Bool, cond, if◌then◌else◌, min, List, [], ◌∷◌, ◌++◌, length, take, drop, get_or, Result, Ok, Err, OnOk, is_ok, inl, inr, refl, sym, ap, ◌∙◌, append_assoc, arith}
+use Rattle.std.proofs.Common.{◌≡◌, ℕ, zero, suc, nat_lt, ◌+◌, ◌-◌, ◌^◌, ◌/◌, ◌%◌, ◌<◌, ◌≤◌, Bool, true, false, cond, if◌then◌else◌, min, List, [], ◌∷◌, ◌++◌, length, take, drop, get_or, Result, Ok, Err, OnOk, is_ok, inl, inr, refl, sym, ap, ◌∙◌, append_assoc, arith}
 use Rattle.std.proofs.lemmas.Bool.{cases_lt, lt-ltb}
 use Rattle.std.proofs.lemmas.List.{take_all, drop_all}
 use Rattle.std.proofs.Math.Seq.{take-append_seam, drop-append_seam}
@@ -150,3 +150,18 @@ some_taken xs rest ps most e len =
           let same : length xs ≡ most = omega (arith, len) in
           (front ∙ ap (λ (n : ℕ). take n ps) same, back ∙ ap (λ (n : ℕ). drop n ps) same)
     ]
+
+-- ---- a number in room that was left for it
+
+number_len : (more n : ℕ) → length (short_unsigned more n) ≤ suc more
+unfolding short_unsigned
+number_len zero n = omega arith
+number_len (suc more) n =
+    elim (nat_lt n 128) as (λ b. length (cond b (n ∷ []) ((n % 128 + 128) ∷ short_unsigned more (n / 128))) ≤ suc (suc more)) [
+      | true ↦ omega arith
+      | false ↦ let shorter = number_len more (n / 128) in omega arith
+    ]
+
+-- a number of 64 bits takes ten bytes at most
+pub number_room : (n : ℕ) → length (short_number n) ≤ 10
+number_room n = number_len 9 n

@@ -1,5 +1,5 @@
 //! Packing: all pairs at once, or some after others.
-ghost use Rattle.std.specs.Prelude.{◌≡◌, ℕ, List, [], ◌++◌, length, take, OnOk, IfOk};
+ghost use Rattle.std.specs.Prelude.{◌≡◌, ◌≤◌, ◌-◌, ℕ, List, [], ◌++◌, length, take, drop, OnOk, IfOk};
 ghost use Rattle.std.specs.List.{AllByRecursion};
 ghost use Rattle.wasm_operators.specs.Shortest.{short_number};
 ghost use Rattle.location_pairs.specs.PackedPairs.{step_to, FitPair, ArePackable, packed_after, packed_pairs, last_after};
@@ -94,60 +94,105 @@ pub fn pack(pairs: &[(InstrLocId, usize)], packed: &mut Vec<u8>) -> Result<(), A
     Ok(())
 }
 
-/// Location pairs that are packed some at a time. Their number, which comes first, is known at the
-/// end.
-#[derive(Drop)]
+/// How many bytes the number of pairs may take.
+const NUMBER_ROOM: usize = 10;
+
+/// Location pairs that are packed at the end of a list of bytes, some at a time. Their number, which
+/// comes first, is known at the end, so that room is left for it.
+#[derive(Clone, Copy)]
 pub struct Packer {
-    /// How many there are.
+    /// Where this room begins.
+    begin: usize,
+    /// How many pairs there are.
     count: usize,
     /// The last of them.
     last: Last,
-    /// What follows their number.
-    packed: Vec<u8>,
+}
+
+/// A number in its shortest encoding.
+fn encoded(alloc: Global, number: u64) -> Result<Vec<u8>, AllocError>
+    ensures { IfOk result (λ made. made.items ≡ short_number number) }
+{
+    let mut made = Vec::new(alloc);
+    write_number(&mut made, number)?;
+    Ok(made)
+}
+
+/// Puts a number over the bytes that end at this place.
+fn put_before(bytes: &mut Vec<u8>, end: usize, number: &[u8])
+    requires room { length number.now ≤ end }
+    requires within { end ≤ length bytes.old.items }
+    ensures len { length bytes.new.items ≡ length bytes.old.items }
+    ensures before { take (end - length number.now) bytes.new.items
+        ≡ take (end - length number.now) bytes.old.items }
+    ensures after { drop (end - length number.now) bytes.new.items
+        ≡ number.now ++ drop end bytes.old.items }
+{
+    bytes[end - number.len()..end].copy_from_slice(number);
 }
 
 impl Packer {
-    /// No pairs. It allocates nothing.
-    pub fn new(alloc: Global) -> Packer
-        ensures { HasPacked result [] }
+    /// Begins after what a list contains, with no pairs.
+    ///
+    /// # Errors
+    ///
+    /// Out of memory. The list is unchanged.
+    pub fn new(packed: &mut Vec<u8>) -> Result<Packer, AllocError>
+        ensures none { IfOk result (λ packer. HasPacked packer packed.new.items []) }
+        ensures begin { IfOk result (λ packer. packer.begin ≡ length packed.old.items) }
+        ensures unchanged { take (length packed.old.items) packed.new.items ≡ packed.old.items }
     {
-        Packer {
+        let begin = packed.len();
+        packed.extend_from_slice(&[0; NUMBER_ROOM])?;
+        Ok(Packer {
+            begin,
             count: 0,
             last: Last::NONE,
-            packed: Vec::new(alloc),
-        }
+        })
     }
 
     /// Packs pairs that follow the others.
     ///
     /// # Errors
     ///
-    /// Out of memory.
-    pub fn add(&mut self, pairs: &[(InstrLocId, usize)]) -> Result<(), AllocError>
-        ensures { (before : List (ℕ × ℕ)) → HasPacked self.old before
-            → OnOk result (HasPacked self.new (before ++ pairs.now)) }
+    /// Out of memory. The bytes that were in `packed` before are unchanged, and others may follow them.
+    pub fn add(
+        &mut self,
+        pairs: &[(InstrLocId, usize)],
+        packed: &mut Vec<u8>,
+    ) -> Result<(), AllocError>
+        ensures packed { (before : List (ℕ × ℕ)) → HasPacked self.old packed.old.items before
+            → OnOk result (HasPacked self.new packed.new.items (before ++ pairs.now)) }
+        ensures begin { self.new.begin ≡ self.old.begin }
+        ensures unchanged { take (length packed.old.items) packed.new.items ≡ packed.old.items }
     {
         let Some(count) = self.count.checked_add(pairs.len()) else {
             return Err(AllocError);
         };
-        self.last = pack_after(self.last, pairs, &mut self.packed)?;
+        self.last = pack_after(self.last, pairs, packed)?;
         self.count = count;
         Ok(())
     }
 
-    /// Appends what `pack` appends for all of them.
+    /// Ends the list, so that its last bytes are what `pack` appends for all of these pairs. Returns
+    /// where these begin.
     ///
     /// # Errors
     ///
-    /// Out of memory. The bytes that were in `packed` before are unchanged, and others may follow them.
-    pub fn append_to(&self, packed: &mut Vec<u8>) -> Result<(), AllocError>
-        ensures packed { (pairs : List (ℕ × ℕ)) → HasPacked self.now pairs
-            → OnOk result (packed.new.items ≡ packed.old.items ++ packed_pairs pairs) }
-        ensures fit { (pairs : List (ℕ × ℕ)) → HasPacked self.now pairs → ArePackable pairs }
-        ensures unchanged { take (length packed.old.items) packed.new.items ≡ packed.old.items }
+    /// Out of memory. The list is unchanged.
+    pub fn end(self, packed: &mut Vec<u8>) -> Result<usize, AllocError>
+        requires { (pairs : List (ℕ × ℕ)) × HasPacked self packed.old.items pairs }
+        ensures packed { (pairs : List (ℕ × ℕ)) → HasPacked self packed.old.items pairs
+            → IfOk result (λ from. drop from packed.new.items ≡ packed_pairs pairs) }
+        ensures fit { (pairs : List (ℕ × ℕ)) → HasPacked self packed.old.items pairs
+            → ArePackable pairs }
+        ensures from { IfOk result (λ from. (self.begin ≤ from) × (from ≤ length packed.new.items)) }
+        ensures len { length packed.new.items ≡ length packed.old.items }
+        ensures unchanged { take self.begin packed.new.items ≡ take self.begin packed.old.items }
     {
-        write_number(packed, self.count as u64)?;
-        packed.extend_from_slice(&self.packed)?;
-        Ok(())
+        let number = encoded(*packed.allocator(), self.count as u64)?;
+        let end = self.begin + NUMBER_ROOM;
+        put_before(packed, end, &number);
+        Ok(end - number.len())
     }
 }

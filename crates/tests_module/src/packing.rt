@@ -26,12 +26,14 @@ fn pairs_are_packed(rt: HostRuntime) -> Result<(), Fail> {
     pack(&pairs, &mut packed)?;
     assert_eq!(rt; packed.as_slice(), PACKED.as_slice());
     let (first, others) = pairs.as_slice().split_at(1);
-    let mut packer = Packer::new(rt.alloc());
-    packer.add(first)?;
-    packer.add(others)?;
-    packed.clear();
-    packer.append_to(&mut packed)?;
-    assert_eq!(rt; packed.as_slice(), PACKED.as_slice());
+    // After what the list contains, and room for their number.
+    let mut packer = Packer::new(&mut packed)?;
+    packer.add(first, &mut packed)?;
+    packer.add(others, &mut packed)?;
+    let from = packer.end(&mut packed)?;
+    let (before, after) = packed.as_slice().split_at(from);
+    assert!(rt; before.starts_with(&PACKED));
+    assert_eq!(rt; after, PACKED.as_slice());
     Ok(())
 }
 

@@ -19,7 +19,7 @@ pub bodies_more : (ks : List KeptBody) (k : KeptBody) → bodies_in (ks ++ k ∷
 bodies_more [] k = refl
 bodies_more (x ∷ ks) k = ap (λ (l : List BodyAt). kept_source x ∷ l) (bodies_more ks k)
 
-raws_more : (all : List ℕ) (ks : List KeptBody) (k : KeptBody) → raws_in all (ks ++ k ∷ []) ≡ raws_in all ks ++ raw_in all k ∷ []
+pub raws_more : (all : List ℕ) (ks : List KeptBody) (k : KeptBody) → raws_in all (ks ++ k ∷ []) ≡ raws_in all ks ++ raw_in all k ∷ []
 raws_more all [] k = refl
 raws_more all (x ∷ ks) k = ap (λ (l : List (List ℕ)). raw_in all x ∷ l) (raws_more all ks k)
 
@@ -69,13 +69,13 @@ raw_stays all more k le =
     between_is (all ++ more) k.raw.from k.raw.to ∙ ap (λ (l : List ℕ). drop k.raw.from l) (take-append-le k.raw.to all more le)
     ∙ sym (between_is all k.raw.from k.raw.to)
 
-raws_stay : (all more : List ℕ) (ks : List KeptBody) → AreWithin (length all) ks → raws_in (all ++ more) ks ≡ raws_in all ks
+pub raws_stay : (all more : List ℕ) (ks : List KeptBody) → AreWithin (length all) ks → raws_in (all ++ more) ks ≡ raws_in all ks
 raws_stay all more [] h = refl
 raws_stay all more (k ∷ ks) h = λ i.
     raw_stays all more k (h zero k refl) i ∷ raws_stay all more ks (λ n x. h (suc n) x) i
 
 -- the part from the end of a list to that of a longer one is what was appended
-raw_last : (all raw : List ℕ) (from to : ℕ) → from ≡ length all → to ≡ length all + length raw → between from to (all ++ raw) ≡ raw
+pub raw_last : (all raw : List ℕ) (from to : ℕ) → from ≡ length all → to ≡ length all + length raw → between from to (all ++ raw) ≡ raw
 raw_last all raw from to f t =
     let whole : length (all ++ raw) ≤ to = let n = length-append all raw in omega arith in
     between_to_end (all ++ raw) from to whole ∙ drop_at all raw from (sym f)

@@ -9,6 +9,7 @@ pub mod ToldLemmas
 pub mod CodeLemmas
 pub mod KeptLemmas
 pub mod KeptPairLemmas
+pub mod KeptPieceLemmas
 pub mod NewSectionLemmas
 pub mod SectionLemmas
 -- names of custom sections

@@ -1,22 +1,18 @@
 -- A module that is written, in terms of another meaning of what is written for its bodies.
-use Rattle.std.proofs.Common.{◌≡◌, inl, inr, ℕ, ◌+◌, List, [], ◌∷◌, ◌++◌, length, Result, Ok, Err, OnOk, IfOk, refl, sym, subst, ◌∙◌}
-use Rattle.std.proofs.lemmas.Option.{same_Some}
-use Rattle.wasm_types.specs.declared.val_type.ValType.{ValType}
+use Rattle.std.proofs.Common.{◌≡◌, inl, inr, ℕ, ◌+◌, List, [], ◌∷◌, ◌++◌, length, Result, Ok, Err, OnOk, IfOk, refl, subst, ◌∙◌}
 use Rattle.wasm_body.specs.Pairs.{Pair}
-use Rattle.walrus_body.specs.FunctionParts.{FunctionParts}
 use Rattle.wasm_sections.specs.declared.changes.Changes.{Changes as NewSections}
 use Rattle.wasm_sections.specs.declared.omissions.OmittedSections.{OmittedSections}
 use Rattle.wasm_module.specs.declared.changing.kept_bodies.KeptBodies.{KeptBodies}
 use Rattle.wasm_module.specs.declared.parsed.ParsedModule.{ParsedModule}
 use Rattle.wasm_sections.specs.CodeSections.{BodyAt}
-use Rattle.wasm_module.specs.KeptCode.{bodies_in, raws_in, IsKept, AreKept, AreKeptAs, AreKeptWithAs, IsKeptWith, kept_or, kept_with_or, StaysWritten}
-use Rattle.wasm_module.specs.RewrittenCode.{Extends, OneChange, FunctionChange, IsChanged, keeps_locals, alike, AreChanged}
+use Rattle.wasm_module.specs.KeptCode.{IsKept, AreKeptAs, AreKeptWithAs, IsKeptWith, kept_or, kept_with_or, StaysWritten}
+use Rattle.wasm_module.specs.RewrittenCode.{Extends}
 use Rattle.wasm_sections.specs.Sections.{preamble, SectionAt, IsModule}
 use Rattle.wasm_module.specs.ToldModules.{section_told, sections_told, module_told}
 use Rattle.wasm_module.specs.WrittenModules.{BodyWriting, new_after, with_some_pairs, AreWritten, IsWrittenCode, IsWrittenFor, AreWrittenAt, IsWrittenModule}
 use Rattle.wasm_module.specs.WrittenModules.IsWrittenFor.{code, replaced, carried_over, omitted}
-use Rattle.wasm_module.proofs.CodeLemmas.{same_bodies, same_count}
-use Rattle.wasm_module.proofs.KeptLemmas.{bodies_len, raws_len}
+use Rattle.wasm_module.proofs.CodeLemmas.{same_bodies}
 use Rattle.wasm_module.proofs.KeptPairLemmas.{kept_with_then}
 
 -- ---- one meaning for another

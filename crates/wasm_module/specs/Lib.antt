@@ -21,8 +21,8 @@ pub mod AddedItems
 pub mod AddedFunctions
 -- bodies that are kept from the first pass to the second, as they were changed
 pub mod KeptParts
-pub mod PackedPieces
 pub mod KeptCode
+pub mod KeptPieces
 -- a module that is written with them, and what a listener is told of it
 pub mod ChangedModules
 -- what a module that was read consists of, and the steps in which it is read; and what this tells of the bytes

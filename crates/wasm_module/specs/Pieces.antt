@@ -24,20 +24,6 @@ pub counts_both : (a b c : ℕ) (first second : List ℕ) → b ≡ a + length f
 counts_both a b c first second p q =
     q ∙ ap (λ (n : ℕ). n + length second) p ∙ add_assoc a (length first) (length second) ∙ ap (λ (n : ℕ). a + n) (sym (length-append first second))
 
--- What a list that keeps all pieces becomes with one more: longer by it, while it is whole.
-abbrev pub KeepsPiece : (was is : Bool) (old new piece : List ℕ) → Type 0
-KeepsPiece was is old new piece = is ≡ true → (was ≡ true) × (new ≡ old ++ piece)
-
-pub keeps_nothing : (is : Bool) (xs : List ℕ) → KeepsPiece is is xs xs []
-keeps_nothing is xs = λ t. (t, sym (append-nil xs))
-
-pub keeps_both :
-    (a b c : Bool) (xs ys zs first second : List ℕ) → KeepsPiece a b xs ys first → KeepsPiece b c ys zs second → KeepsPiece a c xs zs (first ++ second)
-keeps_both a b c xs ys zs first second p q = λ t.
-    let later = q t in
-    let before = p later.0 in
-    (before.0, later.1 ∙ ap (λ (l : List ℕ). l ++ second) before.1 ∙ append_assoc xs first second)
-
 -- ---- the lines of a location map
 
 pub lines_more : (start : ℕ) (ps more : List Pair) → pair_lines start (ps ++ more) ≡ pair_lines start ps ++ pair_lines start more

@@ -1,15 +1,13 @@
 //! Keeping the bodies of a module as they are written in the first pass over it, so that the second
 //! needn't write them again.
 
-ghost use Rattle.std.specs.Prelude.{◌≡◌, ℕ, List, [], ◌∷◌, ◌++◌, true, refl, OnOk, IfOk};
+ghost use Rattle.std.specs.Prelude.{◌≡◌, ℕ, List, [], true, refl, is_some, OnOk, IfOk};
 ghost use Rattle.std.proofs.Common.{◌∙◌};
-ghost use Rattle.location_pairs.specs.PackedPairs.{ArePackable};
-ghost use Rattle.location_pairs.specs.PackedPieces.{HasPacked};
 ghost use Rattle.wasm_body.specs.Pairs.{Pair};
 ghost use Rattle.wasm_module.specs.declared.parsed.ParsedModule.{ParsedModule as Parsed};
-ghost use Rattle.wasm_module.specs.KeptCode.{IsKept, bodies_in, raws_in, packs_in, pack_if, kept_or, KeepsAtMost, KeepsAtMostWith};
-ghost use Rattle.wasm_module.specs.Pieces.{KeepsPiece, keeps_nothing, keeps_both};
-ghost use Rattle.wasm_module.specs.PackedPieces.{PacksPiece, packs_nothing, packs_both};
+ghost use Rattle.wasm_module.specs.declared.changing.kept_bodies.KeptBodies.{KeptBodies as KeptBefore};
+ghost use Rattle.wasm_module.specs.KeptCode.{IsKept, kept_or, KeepsAtMost, KeepsAtMostWith};
+ghost use Rattle.wasm_module.specs.KeptPieces.{HasTaken, TakesPairs, TakesMore, takes_nothing, takes_both};
 ghost use Rattle.wasm_module.specs.WantedPairs.{wants_pairs};
 ghost use Rattle.wasm_sections.specs.CodeSections.{body_at};
 
@@ -19,7 +17,8 @@ use crate::changing::kept_bodies::KeptBodies;
 use crate::large_bodies::Counter;
 use crate::parsed::ParsedModule;
 use location_pairs::Packer;
-use std::alloc::{AllocError, Global};
+use std::alloc::Global;
+use std::mem;
 use walrus_body::LocalFunction;
 use walrus_flat::ByteSink;
 use walrus_ir::InstrLocId;
@@ -136,64 +135,78 @@ impl<'a> Keeper<'a> {
         }
     }
 
-    /// A sink that takes a large body to be kept.
-    pub fn large(&self, body: Body<'a>) -> LargeBody<'a>
-        ensures raw { result.raw.items ≡ [] }
-        ensures none_packed { HasPacked result.packer [] }
-        ensures has_pairs { result.has_pairs ≡ self.now.keeping.pairs }
+    /// A sink that takes a large body to be kept after the others, which it has until `keep_large`.
+    pub fn large(&mut self, body: Body<'a>) -> LargeBody<'a>
+        ensures taken { result.is_whole ≡ true
+            → HasTaken self.old.kept result.kept result.from result.packer [] [] }
     {
-        let bytes = body.bytes();
-        let (raw, is_whole) = match Vec::with_capacity(self.alloc, bytes.len()) {
-            Ok(raw) => (raw, true),
-            Err(_) => (Vec::new(self.alloc), false),
+        let (alloc, room) = (self.alloc, self.room());
+        let mut kept = mem::replace(&mut self.kept, KeptBodies::none(alloc, 0));
+        let from = kept.byte_len();
+        let (packer, is_whole) = match self.keeping.pairs {
+            true => match kept.begin_pairs() {
+                Ok(packer) => (Some(packer), true),
+                Err(_) => (None, false),
+            },
+            false => (None, true),
         };
         LargeBody {
-            raw,
-            has_pairs: self.keeping.pairs,
-            packer: Packer::new(self.alloc),
-            room: self.room(),
+            kept,
+            from,
+            packer,
+            room,
             is_whole,
             counter: Counter {
                 len: 0,
-                left: bytes,
+                left: body.bytes(),
                 is_same: true,
             },
         }
     }
 
-    /// Keeps a large body that a sink took, if it can.
-    pub fn keep_large(&mut self, body: Body<'a>, large: &LargeBody<'a>)
-        requires packed { large.now.is_whole ≡ true → large.now.has_pairs ≡ true
-            → (ps : List Pair) × HasPacked large.now.packer ps }
-        ensures raws { (raw : List ℕ) → (large.now.is_whole ≡ true → large.now.raw.items ≡ raw)
-            → KeepsAtMost body.entry raw self.old.kept self.new.kept }
-        ensures pairs { (raw : List ℕ) (ps : List Pair)
-            → (large.now.is_whole ≡ true → large.now.raw.items ≡ raw)
-            → (large.now.is_whole ≡ true → large.now.has_pairs ≡ true
-            → HasPacked large.now.packer ps)
-            → KeepsAtMostWith large.now.has_pairs body.entry raw ps self.old.kept self.new.kept }
+    /// Keeps a large body that a sink took, if it can, and takes back those before it. Returns what it
+    /// takes.
+    pub fn keep_large(&mut self, body: Body<'a>, large: LargeBody<'a>) -> Measured
+        requires taken { large.is_whole ≡ true → (was : KeptBefore) × (raw : List ℕ)
+            × (ps : List Pair) × HasTaken was large.kept large.from large.packer raw ps }
+        ensures raws { (was : KeptBefore) (raw : List ℕ) (ps : List Pair) → (large.entry.is_whole ≡ true
+            → HasTaken was large.entry.kept large.entry.from large.entry.packer raw ps)
+            → KeepsAtMost body.entry raw was self.new.kept }
+        ensures pairs { (was : KeptBefore) (raw : List ℕ) (ps : List Pair) → (large.entry.is_whole ≡ true
+            → HasTaken was large.entry.kept large.entry.from large.entry.packer raw ps)
+            → KeepsAtMostWith (is_some large.entry.packer) body.entry raw ps was self.new.kept }
     {
-        if !large.is_whole || !self.kept.is_next(body.func) {
+        let LargeBody {
+            kept,
+            from,
+            packer,
+            is_whole,
+            counter,
+            ..
+        } = large;
+        self.kept = kept;
+        if !is_whole || !self.kept.is_next(body.func) {
             self.give_up();
-            return;
+            return counter.measured();
         }
-        match large.keep_in(body, &mut self.kept) {
+        match self.kept.keep_pushed(body, from, packer) {
             Ok(()) => {}
             Err(_) => self.give_up(),
         }
+        counter.measured()
     }
 }
 
-/// Takes a large body to be kept, and its location pairs if they are kept, if there is room for it; and
-/// counts and compares its bytes in any case.
+/// Takes a large body to be kept after others, and its location pairs if they are kept, if there is
+/// room for it; and counts and compares its bytes in any case.
 #[derive(Drop)]
 pub(crate) struct LargeBody<'a> {
-    /// Its bytes so far, while `is_whole`.
-    raw: Vec<u8>,
-    /// Whether its location pairs are kept.
-    pub has_pairs: bool,
-    /// These so far, likewise.
-    packer: Packer,
+    /// The others, with its bytes and its packed pairs so far at the end of theirs, while `is_whole`.
+    kept: KeptBodies<'a>,
+    /// Where its bytes begin.
+    from: usize,
+    /// What packs its location pairs, if they are kept.
+    packer: Option<Packer>,
     /// How many bytes more can be kept.
     room: usize,
     is_whole: bool,
@@ -201,78 +214,46 @@ pub(crate) struct LargeBody<'a> {
 }
 
 impl<'a> LargeBody<'a> {
+    /// Whether its location pairs are kept.
+    pub fn has_pairs(&self) -> bool
+        ensures { result ≡ is_some self.now.packer }
+    {
+        self.packer.is_some()
+    }
+
     /// Packs the next location pairs, if they are kept. Returns whether it could.
     fn pack(&mut self, pairs: &[(InstrLocId, usize)]) -> bool
-        ensures packed { result ≡ true → self.old.has_pairs ≡ true → (before : List Pair)
-            → HasPacked self.old.packer before → HasPacked self.new.packer (before ++ pairs.now) }
-        ensures raw { self.new.raw ≡ self.old.raw }
-        ensures has_pairs { self.new.has_pairs ≡ self.old.has_pairs }
+        ensures takes { result ≡ true → TakesPairs self.old self.new pairs.now }
         ensures is_whole { self.new.is_whole ≡ self.old.is_whole }
-        ensures counter { self.new.counter ≡ self.old.counter }
+        ensures from { self.new.from ≡ self.old.from }
+        ensures has_pairs { is_some self.new.packer ≡ is_some self.old.packer }
     {
-        if !self.has_pairs {
-            return true;
+        match &mut self.packer {
+            Some(packer) => self.kept.push_pairs(packer, pairs).is_ok(),
+            None => true,
         }
-        self.packer.add(pairs).is_ok()
     }
 
     /// Keeps the next bytes and the next location pairs, if there is room for them.
     fn keep(&mut self, bytes: &[u8], pairs: &[(InstrLocId, usize)])
-        ensures kept { KeepsPiece self.old.is_whole self.new.is_whole self.old.raw.items
-            self.new.raw.items bytes.now }
-        ensures packed { PacksPiece self.old.has_pairs self.old.is_whole self.new.is_whole
-            self.old.packer self.new.packer pairs.now }
-        ensures has_pairs { self.new.has_pairs ≡ self.old.has_pairs }
-        ensures counter { self.new.counter ≡ self.old.counter }
+        ensures takes { TakesMore self.old self.new bytes.now pairs.now }
+        ensures has_pairs { is_some self.new.packer ≡ is_some self.old.packer }
     {
         if !self.is_whole {
             return;
         }
         match self.room.checked_sub(bytes.len()) {
-            Some(room) if self.raw.extend_from_slice(bytes).is_ok() && self.pack(pairs) => {
+            Some(room) if self.kept.push_bytes(bytes).is_ok() && self.pack(pairs) => {
                 self.room = room
             }
             _ => self.is_whole = false,
         }
     }
-
-    /// Keeps it among others, the next one.
-    ///
-    /// # Errors
-    ///
-    /// Out of memory.
-    fn keep_in(&self, source: Body<'a>, kept: &mut KeptBodies<'a>) -> Result<(), AllocError>
-        requires packed { self.now.has_pairs ≡ true
-            → (ps : List Pair) × HasPacked self.now.packer ps }
-        ensures packs { (ps : List Pair)
-            → (self.now.has_pairs ≡ true → HasPacked self.now.packer ps)
-            → OnOk result (packs_in kept.new.pairs.items kept.new.bodies.items
-            ≡ packs_in kept.old.pairs.items kept.old.bodies.items
-            ++ pack_if self.now.has_pairs ps ∷ []) }
-        ensures fit { self.now.has_pairs ≡ true → (ps : List Pair) → HasPacked self.now.packer ps
-            → ArePackable ps }
-        ensures first { OnOk result (kept.new.first ≡ kept.old.first) }
-        ensures bodies { OnOk result (bodies_in kept.new.bodies.items
-            ≡ bodies_in kept.old.bodies.items ++ body_at source.entry ∷ []) }
-        ensures raws { OnOk result (raws_in kept.new.raws.items kept.new.bodies.items
-            ≡ raws_in kept.old.raws.items kept.old.bodies.items ++ self.now.raw.items ∷ []) }
-    {
-        match self.has_pairs {
-            true => kept.keep_packed(source, &self.raw, &self.packer),
-            false => kept.keep_bytes(source, &self.raw),
-        }
-    }
-
-    /// What was taken.
-    pub fn measured(&self) -> Measured {
-        self.counter.measured()
-    }
 }
 
 impl<'a> ByteSink for LargeBody<'a> {
-    ghost takes = { λ a b o. KeepsPiece a.is_whole b.is_whole a.raw.items b.raw.items o.bytes
-        × PacksPiece a.has_pairs a.is_whole b.is_whole a.packer b.packer o.pairs
-        × (b.has_pairs ≡ a.has_pairs) };
+    ghost takes = { λ a b o. TakesMore a b o.bytes o.pairs
+        × (is_some b.packer ≡ is_some a.packer) };
 
     const MOST: usize = PIECE;
 
@@ -281,18 +262,11 @@ impl<'a> ByteSink for LargeBody<'a> {
         self.counter.take(bytes, pairs)
     }
 
-    ghost nothing = { λ s. (
-      keeps_nothing s.is_whole s.raw.items,
-      packs_nothing s.has_pairs s.is_whole s.packer,
-      refl,
-    ) };
+    ghost nothing = { λ s. (takes_nothing s, refl) };
 
     ghost one_by_one = { λ a b c first second p q. (
-      keeps_both a.is_whole b.is_whole c.is_whole a.raw.items b.raw.items c.raw.items first.bytes
-          second.bytes p.0 q.0,
-      packs_both a.has_pairs b.has_pairs a.is_whole b.is_whole c.is_whole a.packer b.packer c.packer
-          first.pairs second.pairs p.2 p.1 q.1,
-      q.2 ∙ p.2,
+      takes_both a b c first.bytes second.bytes first.pairs second.pairs p.0 q.0,
+      q.1 ∙ p.1,
     ) };
 }
 

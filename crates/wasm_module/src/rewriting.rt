@@ -289,12 +289,9 @@ impl<'a> ParsedModule<'a> {
             (StayKept (B.writes bodies.now) source keeper.old.kept keeper.new.kept) }
     {
         let mut sink = keeper.large(body);
-        let has_pairs = sink.has_pairs;
+        let has_pairs = sink.has_pairs();
         match bodies.write_large_body(self, body, has_pairs, scratch, &mut sink) {
-            Ok(()) => {
-                keeper.keep_large(body, &sink);
-                Ok(sink.measured())
-            }
+            Ok(()) => Ok(keeper.keep_large(body, sink)),
             Err(error) => Err(error),
         }
     }

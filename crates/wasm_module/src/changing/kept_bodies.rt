@@ -3,7 +3,7 @@
 ghost use Rattle.std.specs.Prelude.{◌≡◌, ◌+◌, ◌≤◌, length};
 ghost use Rattle.wasm_module.specs.KeptParts.{AreWithin, ArePacks};
 
-mod packed_bodies;
+mod pieces;
 
 use crate::bodies::Scratch;
 use crate::body_writer::{BodyWriter, Needed};
@@ -115,7 +115,9 @@ impl<'a> KeptBodies<'a> {
     }
 
     /// How many bytes the raw bodies have.
-    pub(crate) fn byte_len(&self) -> usize {
+    pub(crate) fn byte_len(&self) -> usize
+        ensures { result ≡ length self.now.raws.items }
+    {
         self.raws.len()
     }
 
@@ -124,6 +126,34 @@ impl<'a> KeptBodies<'a> {
         ensures { result ≡ true → func ≡ self.now.first + length self.now.bodies.items }
     {
         self.first.checked_add(self.bodies.len()) == Some(func)
+    }
+
+    /// Keeps what is written for a body, the next one: these parts of the raw bodies and of the location
+    /// pairs.
+    fn keep_parts(&mut self, source: Body<'a>, raw: Part, pairs: Part) -> Result<(), AllocError>
+        requires within { raw.to ≤ length self.old.raws.items }
+        requires pack { IsPackAt self.old.pairs.items pairs }
+        ensures packs { OnOk result (packs_in self.old.pairs.items self.new.bodies.items
+            ≡ packs_in self.old.pairs.items self.old.bodies.items
+            ++ between pairs.from pairs.to self.old.pairs.items ∷ []) }
+        ensures bodies { OnOk result (bodies_in self.new.bodies.items
+            ≡ bodies_in self.old.bodies.items ++ body_at source.entry ∷ []) }
+        ensures raws { OnOk result (raws_in self.old.raws.items self.new.bodies.items
+            ≡ raws_in self.old.raws.items self.old.bodies.items
+            ++ between raw.from raw.to self.old.raws.items ∷ []) }
+        ensures len { OnOk result (length self.new.bodies.items
+            ≡ length self.old.bodies.items + 1) }
+        ensures first { self.new.first ≡ self.old.first }
+        ensures raws_stay { self.new.raws ≡ self.old.raws }
+        ensures pairs_stay { self.new.pairs ≡ self.old.pairs }
+    {
+        self.bodies.push(KeptBody {
+            start: source.start(),
+            bytes: source.bytes(),
+            raw,
+            pairs,
+        })?;
+        Ok(())
     }
 
     /// Keeps what is written for a body, the next one: this raw body, and this part of the location pairs.
@@ -141,15 +171,9 @@ impl<'a> KeptBodies<'a> {
             ≡ length self.old.bodies.items + 1) }
     {
         let from = self.raws.len();
-        self.raws.extend_from_slice(raw)?;
+        self.push_bytes(raw)?;
         let to = self.raws.len();
-        self.bodies.push(KeptBody {
-            start: source.start(),
-            bytes: source.bytes(),
-            raw: Part { from, to },
-            pairs,
-        })?;
-        Ok(())
+        self.keep_parts(source, Part { from, to }, pairs)
     }
 
     /// Keeps the raw body that is written for a body, the next one, without its location pairs.

@@ -1,4 +1,4 @@
-use Rattle.std.proofs.Common.{◌+◌, ◌-◌, ◌^◌, ◌%◌, ◌<◌, ℕ, refl, ap, subst}
+use Rattle.std.proofs.Common.{◌<◌, ℕ, refl, ap, subst}
 use Rattle.location_pairs.specs.PackedPairs.{step_to}
 use Rattle.location_pairs.proofs.PackedPairs.{two_appended}
 use Rattle.location_pairs.proofs.packing.pack_one.Goals as goal

@@ -1,0 +1,7 @@
+use Rattle.wasm_module.proofs.KeptPairLemmas.{packs_longer}
+use Rattle.wasm_module.proofs.changing.kept_bodies.KeptBodies.begin_pairs.Goals as goal
+
+pub invariant_of-self : goal.invariant_of-self
+invariant_of-self c =
+    let old = c.args.self.now in
+    record { within = old.within; packs = packs_longer old.pairs.items c.new.new.packed.items old.bodies.items c.new.ensures.unchanged old.packs }
