@@ -4,3 +4,5 @@ mod RulesAlike
 mod SameRules
 -- examples that compute
 mod Examples
+-- the locals that a function declares
+mod NumberedLocals

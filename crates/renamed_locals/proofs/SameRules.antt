@@ -28,8 +28,8 @@ use Rattle.wasm_typing.specs.Operands.{InstructionType, ◌⟶◌, Operands, lea
 use Rattle.wasm_typing.specs.Rules.{Rule, by_type, by_point, fixed, of_index, of_indices, of_index_and_number, of_local, of_heap, ref, ref_null, dropped, selected_type, selected_of, call, call_ref, call_indirect, local_get, local_set, local_tee, global_get, global_set, table_get, table_set, table_size, table_grow, table_fill, table_copy, table_init, elem_drop, accessed, accesses, accesses_lane, memory_size, memory_grow, memory_fill, memory_copy, data_segment, memory_init, data_drop, null_reference, function_reference, is_null, as_non_null, top_reference, reference_test, reference_cast, converted, struct_new, struct_new_default, struct_get, struct_set, array_new, array_new_default, array_new_fixed, from_data, from_elements, array_new_from, array_get, array_set, array_fill, array_copy, array_init_from, at_lane, at_lanes}
 use Rattle.wasm_typing.specs.RuleTable.{Row, Width, width_at, rule_of, prefixed_rule, byte_rules, aggregate_rules, bulk_rules, vector_rules, atomic_rules}
 use Rattle.wasm_typing.specs.StandardRules.{by_rule, plain_change, ConditionalRule, branch_if, branch_on_null, branch_on_non_null, branch_on_cast, branch_on_cast_fail, branch_on_reference, is_cast, label_parts, reference_type, cast_branches, conditional_rule, conditional_change, TailRule, tail_rule, tail_change, standard_rules}
-use Rattle.renamed_locals.specs.RenamedLocals.{renamed_immediate, renamed, context_with_locals}
-use Rattle.renamed_locals.proofs.RulesAlike.{Like, like_bind, like_same, moved, SameSet, ChangeAlike, RulesAlike}
+use Rattle.renamed_locals.specs.RenamedLocals.{renamed_immediate, renamed, context_with_locals, RenamedStayValid}
+use Rattle.renamed_locals.proofs.RulesAlike.{Like, like_bind, like_same, moved, SameSet, ChangeAlike, RulesAlike, valid_alike}
 
 -- what holds of a row, and what holds of those after it
 infixr 20 ◌⨾◌
@@ -715,3 +715,7 @@ module _ (c : OperandContext) (locals : List (ValType ℕ)) where
             like_ok (conditional_change c o ts p) (conditional_change d (renamed f o) ts (moved ks p)) (branch_there (conditional_rule o.opcode) (fair_branch o.opcode) o.immediates ts p ks);
         tail_call = λ o u ts p ks s. same_verdict (tail_change c o ts p) (tail_change d (renamed f o) ts (moved ks p)) (tail_there (tail_rule o.opcode) (fair_tail o.opcode) o.immediates ts p ks);
       }
+
+pub renamed_stay_valid : RenamedStayValid
+renamed_stay_valid m c used f locals old new h results xs u v =
+    valid_alike (λ n. used n ≡ true) f m (standard_rules c) (standard_rules (context_with_locals c locals)) (standard_alike c locals (λ n. used n ≡ true) f h.apart h.types) results old new h.same xs u v
