@@ -1,0 +1,5 @@
+-- the name of an operator that is written; the operators that are written; their validity; the law
+mod WrittenNames
+mod WrittenOperators
+mod WrittenValid
+mod WrittenIsValid
