@@ -3,3 +3,5 @@ mod WrittenNames
 mod WrittenOperators
 mod WrittenValid
 mod WrittenIsValid
+-- an example that computes
+mod Examples
