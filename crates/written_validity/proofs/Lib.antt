@@ -5,3 +5,5 @@ mod WrittenValid
 mod WrittenIsValid
 -- an example that computes
 mod Examples
+-- the frames of a body are closed
+mod ClosedBodies

@@ -1,8 +1,14 @@
-//! The law of written code, stated as the contract of a function that does nothing.
+//! The laws of written code, each stated as the contract of a function that does nothing.
+ghost use Rattle.written_validity.specs.ValidatedBodies.{AcceptedIsValid};
 ghost use Rattle.written_validity.specs.WrittenCode.{WrittenIsValid};
 
 /// If the bytes of a body are valid code, so are the operators that `rewrite_body` and `rewrite_flat` write for it, with the locals that they
 /// declare, where ids are indices and nothing but locals gets other numbers. `V` is the type of a validator's state.
 pub fn law_written_validity<V>()
     ensures { WrittenIsValid V }
+{}
+
+/// A body that is accepted with `BodyValidator`, or another validator that takes the steps of the validation algorithm, is valid code.
+pub fn law_validated_bodies()
+    ensures { AcceptedIsValid }
 {}
