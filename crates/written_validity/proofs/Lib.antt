@@ -1,3 +1,5 @@
+-- validity at other places
+mod OtherPlaces
 -- the name of an operator that is written; the operators that are written; their validity; the law
 mod WrittenNames
 mod WrittenOperators

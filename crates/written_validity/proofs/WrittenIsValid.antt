@@ -15,6 +15,7 @@ use Rattle.renamed_locals.specs.DeclaredLocals.{parameter_ids, with_declared, Ty
 use Rattle.renamed_locals.specs.RenamedLocals.{context_with_locals}
 use Rattle.renamed_locals.proofs.NumberedLocals.{declarations_have_types}
 use Rattle.written_validity.specs.WrittenCode.{WrittenIsValid}
+use Rattle.written_validity.proofs.OtherPlaces.{valid_at_each_place}
 use Rattle.written_validity.proofs.WrittenValid.{valid_again}
 
 -- what a body is validated against, if the locals after its parameters have these types
@@ -23,7 +24,8 @@ setting_with_types g types =
     record g { context = record g.context { operands = context_with_locals g.context.operands (with_declared g.parameters g.context.operands.locals types) } }
 
 pub written_is_valid : (V : Type 0) → WrittenIsValid V
-written_is_valid V given source b accepted g by same valid raw pairs w start =
+written_is_valid V given source b accepted g by same place valid_there raw pairs w start =
+    let valid = valid_at_each_place g place given.start source valid_there in
     let env = given.environment in
     let tree : FunctionTree = body_tree env b in
     let args = parameter_ids g.parameters in

@@ -15,3 +15,7 @@ AcceptedIsValid =
     (given : Setting ReachedState) (source : List ℕ) (b : Body Occurrence) → Accepted given source b →
     (g : BodySetting) → IsModuleOfContext given.environment g.context → given.check ≡ check_body → given.first ≡ Some (g.context, begin_state g) →
     IsValidCode g given.start source
+
+-- Bytes that are valid code are, from whatever place on.
+abbrev pub ValidAtEachPlace : Type 0
+ValidAtEachPlace = (g : BodySetting) (place other : ℕ) (bytes : List ℕ) → IsValidCode g place bytes → IsValidCode g other bytes

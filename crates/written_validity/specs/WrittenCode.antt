@@ -34,10 +34,10 @@ pub record IsWrittenWhereValid (env : Environment) (g : BodySetting) (by : EmitI
   pub locals : by.types ≡ g.context.operands.locals
 
 -- If the bytes of an accepted body are valid code, the operators that are written for it are valid code with the locals that are declared for
--- it, from any place on.
+-- it, from any places on.
 abbrev pub WrittenIsValid : Type 0 → Type 0
 WrittenIsValid V =
     (given : Setting V) (source : List ℕ) (b : Body Occurrence) → Accepted given source b →
-    (g : BodySetting) (by : EmitInput) → IsWrittenWhereValid given.environment g by → IsValidCode g given.start source →
+    (g : BodySetting) (by : EmitInput) → IsWrittenWhereValid given.environment g by → (place : ℕ) → IsValidCode g place source →
     (raw : List ℕ) (pairs : List Pair) (w : IsRawBody by (body_tree given.environment b) raw pairs) (start : ℕ) →
     IsValidCode (setting_with_declared g w.declarations) start w.operators
