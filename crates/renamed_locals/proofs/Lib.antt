@@ -1,5 +1,5 @@
 -- which parts of an operator stay; validation by rules that are alike; the rules of the standard are
-mod SameControl
+pub mod SameControl
 mod RulesAlike
 pub mod SameRules
 -- examples that compute

@@ -4,7 +4,6 @@ use Rattle.std.specs.Prelude.{is_some, unwrap_or, nat_le, nat_lt, ◌^◌}
 use Rattle.std.specs.List.{AllByRecursion, list_all, range_with_len}
 use Rattle.std.specs.Option.{option_map}
 use Rattle.std.proofs.lemmas.Bool.{eqb-true, ltb-true, ltb-false}
-use Rattle.std.proofs.lemmas.List.{length-take-le}
 use Rattle.std.proofs.lemmas.List.Elements.{recursion_from_All}
 use Rattle.std.proofs.lemmas.List.Folds.{list_any-append, list_any_at}
 use Rattle.std.proofs.lemmas.List.FromFn.{length-range_with_len, get_or-range_with_len}
@@ -27,7 +26,7 @@ use Rattle.wasm_body.proofs.LocalNumbers.{last_place_get, one_local, runs_maxima
 use Rattle.wasm_body.proofs.Translation.Steps.{bound}
 use Rattle.wasm_typing.specs.Contexts.{OperandContext, contains, has_default, initial_locals}
 use Rattle.renamed_locals.specs.RenamedLocals.{context_with_locals}
-use Rattle.renamed_locals.specs.DeclaredLocals.{parameter_ids, is_written_local, written_number, with_declared, WrittenAreRenamed, TypesKeepNumbers, DeclarationsHaveTypes}
+use Rattle.renamed_locals.specs.DeclaredLocals.{parameter_indices, is_written_local, written_number, HaveParameters, WrittenAreRenamed, TypesKeepNumbers, DeclarationsHaveTypes}
 
 -- ---- lists
 
@@ -44,20 +43,20 @@ get_after [] ys i j e = let same : i ≡ j = omega arith in ap (slice_get ys) sa
 get_after (x ∷ xs) ys zero j e = absurd (omega arith)
 get_after (x ∷ xs) ys (suc i) j e = get_after xs ys i j (omega arith)
 
-get_taken : {A : Type 0} (n : ℕ) (xs : List A) (i : ℕ) → i < n → slice_get (take n xs) i ≡ slice_get xs i
+pub get_taken : {A : Type 0} (n : ℕ) (xs : List A) (i : ℕ) → i < n → slice_get (take n xs) i ≡ slice_get xs i
 get_taken zero xs i h = absurd (omega arith)
 get_taken (suc n) [] i h = refl
 get_taken (suc n) (x ∷ xs) zero h = refl
 get_taken (suc n) (x ∷ xs) (suc i) h = get_taken n xs i (omega arith)
 
-get_range : (a n i : ℕ) → i < n → slice_get (range_with_len a n) i ≡ Some (a + i)
+pub get_range : (a n i : ℕ) → i < n → slice_get (range_with_len a n) i ≡ Some (a + i)
 get_range a zero i h = absurd (omega arith)
 get_range a (suc n) zero h = let same : a ≡ a + 0 = omega arith in ap Some same
 get_range a (suc n) (suc i) h = let same : a + 1 + i ≡ a + suc i = omega arith in get_range (a + 1) n i (omega arith) ∙ ap Some same
 
 -- ---- numbers among others
 
-above_range : (a n k : ℕ) → a + n ≤ k → contains k (range_with_len a n) ≡ false
+pub above_range : (a n k : ℕ) → a + n ≤ k → contains k (range_with_len a n) ≡ false
 above_range a zero k h = refl
 above_range a (suc n) k h =
     elim (k == a) as (λ b. (k == a) ≡ b → (b || contains k (range_with_len (a + 1) n)) ≡ false) [
@@ -65,7 +64,7 @@ above_range a (suc n) k h =
       | false ↦ λ e. above_range (a + 1) n k (omega arith)
     ] refl
 
-in_range : (n k : ℕ) → k < n → contains k (range_with_len 0 n) ≡ true
+pub in_range : (n k : ℕ) → k < n → contains k (range_with_len 0 n) ≡ true
 in_range n k h =
     let long = length-range_with_len 0 n in
     let nth = get_or-range_with_len 0 n k 0 h in
@@ -83,7 +82,7 @@ has_place (n ∷ ns) (suc j) k e = ap (λ b. (k == n) || b) (has_place ns j k e)
 -- ---- locals that are initialised at the begin
 
 -- whether a local of this list has a type with a default
-abbrev defaulted : List (ValType ℕ) → ℕ → Bool
+abbrev pub defaulted : List (ValType ℕ) → ℕ → Bool
 defaulted locals k = unwrap_or (option_map has_default (slice_get locals k)) false
 
 defaults_within : (locals : List (ValType ℕ)) (k : ℕ) → (defaulted locals k && contains k (range_with_len 0 (length locals))) ≡ defaulted locals k
@@ -93,7 +92,7 @@ defaults_within locals k =
       | None ↦ λ e. refl
     ] refl
 
-initial_is : (c : OperandContext) (args : List ℕ) (k : ℕ) → contains k (initial_locals c args) ≡ (contains k args || defaulted c.locals k)
+pub initial_is : (c : OperandContext) (args : List ℕ) (k : ℕ) → contains k (initial_locals c args) ≡ (contains k args || defaulted c.locals k)
 initial_is c args k =
     list_any-append (λ m. k == m) args (filter (λ n. defaulted c.locals n) (range_with_len 0 (length c.locals)))
     ∙ ap (λ b. contains k args || b) (contains_filtered (λ n. defaulted c.locals n) k (range_with_len 0 (length c.locals)) ∙ defaults_within c.locals k)
@@ -116,82 +115,78 @@ type_at_place locals [] h j n e = absurd (none-some n e)
 type_at_place locals (l ∷ ls) h zero n e = sym h.0 ∙ ap (slice_get locals) (same_Some l.1 n e)
 type_at_place locals (l ∷ ls) h (suc j) n e = type_at_place locals ls h.1 j n e
 
-module _ (c : OperandContext) (parameters : ℕ) (used : ℕ → Bool) (others : List Local) (within : parameters ≤ length c.locals)
-    (are : AreDeclared c.locals (parameter_ids parameters) used others) where
-  abbrev args : List ℕ
-  args = parameter_ids parameters
-
+module _ (c : OperandContext) (args : List ℕ) (parameters : List (ValType ℕ)) (have : HaveParameters c args parameters) (used : ℕ → Bool) (others : List Local)
+    (are : AreDeclared c.locals args used others) where
   abbrev ids : List ℕ
   ids = ids_of others
 
   abbrev f : ℕ → ℕ
-  f n = written_number parameters others n
+  f n = written_number args others n
 
   abbrev IsUsed : ℕ → Type 0
-  IsUsed n = is_written_local parameters others n ≡ true
+  IsUsed n = is_written_local args others n ≡ true
 
   abbrev new : List (ValType ℕ)
-  new = with_declared parameters c.locals (types_of others)
+  new = parameters ++ types_of others
+
+  abbrev first : List ℕ
+  first = parameter_indices (length parameters)
 
   has : (n : ℕ) → IsUsed n → number_of_local args ids n ≡ Some (f n)
   has n h = some_number (number_of_local args ids n) h
 
-  place_of : (n : ℕ) → IsUsed n → slice_get (args ++ ids) (f n) ≡ Some n
-  place_of n h = last_place_get (args ++ ids) n (f n) (has n h)
-
-  -- A written local is a parameter, whose number stays, or it is declared at a place after them.
+  -- A written local is an argument at this place, or it is declared at a place after them.
   abbrev IsOneOf : ℕ → ℕ → Type 0
-  IsOneOf n k = ((k < parameters) × (n ≡ k)) ⊎ ((j : ℕ) × (k ≡ parameters + j) × (slice_get ids j ≡ Some n))
+  IsOneOf n k = (slice_get args k ≡ Some n) ⊎ ((j : ℕ) × (k ≡ length args + j) × (slice_get ids j ≡ Some n))
 
   one_of : (n k : ℕ) → slice_get (args ++ ids) k ≡ Some n → IsOneOf n k
   one_of n k e =
-      let long = length-range_with_len 0 parameters in
-      elim (below_or_not k parameters) [
-        | inl less ↦
-            let here : Some (0 + k) ≡ Some n = sym (get_range 0 parameters k less) ∙ sym (get_first args ids k (omega (arith, long))) ∙ e in
-            let same : 0 + k ≡ n = same_Some (0 + k) n here in
-            inl (less, omega (arith, same))
+      elim (below_or_not k (length args)) [
+        | inl less ↦ inl (sym (get_first args ids k less) ∙ e)
         | inr more ↦
-            let after : k ≡ length args + (k - parameters) = omega (arith, long) in
-            inr (k - parameters, omega (arith, more), sym (get_after args ids k (k - parameters) after) ∙ e)
+            let after : k ≡ length args + (k - length args) = omega (arith, more) in
+            inr (k - length args, after, sym (get_after args ids k (k - length args) after) ∙ e)
       ]
 
   written : (n : ℕ) → IsUsed n → IsOneOf n (f n)
-  written n h = one_of n (f n) (place_of n h)
+  written n h = one_of n (f n) (last_place_get (args ++ ids) n (f n) (has n h))
 
   apart : (n k : ℕ) → IsUsed n → IsUsed k → f n ≡ f k → n ≡ k
   apart n k h i e = one_local args ids n k (f n) (has n h) (has k i ∙ ap Some (sym e))
 
   type_of_one : (n k : ℕ) → IsOneOf n k → slice_get new k ≡ slice_get c.locals n
   type_of_one n k (inl h) =
-      let long = length-take-le parameters c.locals within in
-      let first = h.0 in
-      get_first (take parameters c.locals) (types_of others) k (omega (arith, long, first)) ∙ get_taken parameters c.locals k first ∙ ap (slice_get c.locals) (sym h.1)
+      let within = slice_get_within args k n h in
+      let count = have.count in
+      get_first parameters (types_of others) k (omega (arith, within, count)) ∙ sym (have.types k n h)
   type_of_one n k (inr h) =
-      let long = length-take-le parameters c.locals within in
       let place = h.1 in
-      get_after (take parameters c.locals) (types_of others) k h.0 (omega (arith, long, place))
-      ∙ type_at_place c.locals others (recursion_from_All _ others are.typed) h.0 n h.2
+      let count = have.count in
+      get_after parameters (types_of others) k h.0 (omega (arith, place, count)) ∙ type_at_place c.locals others (recursion_from_All _ others are.typed) h.0 n h.2
 
   types : (n : ℕ) → IsUsed n → slice_get new (f n) ≡ slice_get c.locals n
   types n h = type_of_one n (f n) (written n h)
 
-  argument_is : (n k : ℕ) → IsOneOf n k → contains n args ≡ contains k args
-  argument_is n k (inl h) = ap (λ x. contains x args) h.1
+  argument_is : (n k : ℕ) → IsOneOf n k → contains n args ≡ contains k first
+  argument_is n k (inl h) =
+      let within = slice_get_within args k n h in
+      let count = have.count in
+      has_place args k n h ∙ sym (in_range (length parameters) k (omega (arith, within, count)))
   argument_is n k (inr h) =
       let place = h.1 in
-      no_argument (used n) (among n args) (among n ids) (are.are_all n) (has_place ids h.0 n h.2) ∙ sym (above_range 0 parameters k (omega (arith, place)))
+      let count = have.count in
+      no_argument (used n) (among n args) (among n ids) (are.are_all n) (has_place ids h.0 n h.2) ∙ sym (above_range 0 (length parameters) k (omega (arith, place, count)))
 
-  same : (n : ℕ) → IsUsed n → contains n (initial_locals c args) ≡ contains (f n) (initial_locals (context_with_locals c new) args)
+  same : (n : ℕ) → IsUsed n → contains n (initial_locals c args) ≡ contains (f n) (initial_locals (context_with_locals c new) first)
   same n h =
       initial_is c args n
       ∙ (ap (λ b. b || defaulted c.locals n) (argument_is n (f n) (written n h))
-      ∙ ap (λ o. contains (f n) args || unwrap_or (option_map has_default o) false) (sym (types n h)))
-      ∙ sym (initial_is (context_with_locals c new) args (f n))
+      ∙ ap (λ o. contains (f n) first || unwrap_or (option_map has_default o) false) (sym (types n h)))
+      ∙ sym (initial_is (context_with_locals c new) first (f n))
 
 pub written_are_renamed : WrittenAreRenamed
-written_are_renamed c parameters used others within are =
-    record { apart = apart c parameters used others within are; types = types c parameters used others within are; same = same c parameters used others within are }
+written_are_renamed c args parameters have used others are =
+    record { apart = apart c args parameters have used others are; types = types c args parameters have used others are; same = same c args parameters have used others are }
 
 -- ---- declarations
 

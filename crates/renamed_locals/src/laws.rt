@@ -7,8 +7,8 @@ pub fn law_renamed_locals()
     ensures { RenamedStayValid }
 {}
 
-/// The parameters of a function and the locals that it declares, by the numbers that are written for them, are its used locals, renamed as
-/// `law_renamed_locals` wants it. The declarations have the types of these locals, if each type keeps its number.
+/// The arguments of a function and the locals that it declares, by the numbers that are written for them, are its used locals, renamed as
+/// `law_renamed_locals` requires it. The declarations have the types of these locals, if the number of each type is its id.
 pub fn law_written_locals()
     ensures renamed { WrittenAreRenamed }
     ensures declarations { DeclarationsHaveTypes }

@@ -30,7 +30,7 @@ use Rattle.wasm_context.specs.ValidationLaws.{IsModuleOfContext, SameNames}
 abbrev Fine : {X : Type 0} → X → Checked X
 Fine x = Ok x
 
-pub ok_of_some : {X : Type 0} (r : Checked X) (x : X) → result_ok r ≡ Some x → r ≡ Ok x
+ok_of_some : {X : Type 0} (r : Checked X) (x : X) → result_ok r ≡ Some x → r ≡ Ok x
 ok_of_some {X} (Ok y) x h = let i : y ≡ x = cc h in ap (λ (z : X). Ok z) i
 ok_of_some (Err e) x h = absurd cc
 
@@ -99,7 +99,7 @@ module _ (env : Environment) (c : BodyContext) (alike : IsModuleOfContext env c)
       let i = bind_ok (id_at env Types n) (function_type env) s e in
       let at : function_type env n ≡ Ok s = subst (λ x. function_type env x ≡ Ok s) (found Types n i.0 i.1) i.2 in
       let known : signature_of env.types n ≡ Some s = some_or_ok (signature_of env.types n) NotAFunctionType s at in
-      sym (ok_of_some (function_type_in c.operands n) s (sym (alike.function n i.0 (with_fault_ok Index (env.id_of Types n) i.0 i.1)) ∙ known))
+      sym (ok_of_some (function_type_in c.operands n) s (sym (alike.function n) ∙ known))
 
   module _ {A : Type 0} (fs : List (SequenceFrame A)) where
     leads : LeadAll (naming env fs) same (raw_naming c)

@@ -38,14 +38,13 @@ have_names env [] h = tt
 have_names env (x ∷ xs) h = ((h.0.0, (named_parts env h.0.0 x.spelt x.named h.0.1).translated), have_names env xs h.1)
 
 module _ (env : Environment) (c : BodyContext) (alike : IsModuleOfContext env c) where
-  tag_alike : (tag : ℕ) (type : Option ℕ) → slice_get c.tags tag ≡ type
-      → parameters_of (required type >>= λ t. function_type_in c.operands t) ≡ parameters_or_none (option_and_then (signature_of env.types) type)
-  tag_alike tag None e = refl
-  tag_alike tag (Some t) e = parameters_alike (function_type_in c.operands t) ∙ sym (ap parameters_or_none (alike.tag_type tag t e))
+  tag_alike : (type : Option ℕ) → parameters_of (required type >>= λ t. function_type_in c.operands t) ≡ parameters_or_none (option_and_then (signature_of env.types) type)
+  tag_alike None = refl
+  tag_alike (Some t) = parameters_alike (function_type_in c.operands t) ∙ sym (ap parameters_or_none (alike.function t))
 
-  pub tags_alike : (tag : ℕ) → (typing_in c).tag_parameters tag ≡ (typing_of env).tag_parameters tag
+  tags_alike : (tag : ℕ) → (typing_in c).tag_parameters tag ≡ (typing_of env).tag_parameters tag
   tags_alike tag =
-      tag_alike tag (slice_get c.tags tag) refl ∙ sym (ap (λ ts. parameters_or_none (option_and_then (signature_of env.types) (slice_get ts tag))) alike.tags)
+      tag_alike (slice_get c.tags tag) ∙ sym (ap (λ ts. parameters_or_none (option_and_then (signature_of env.types) (slice_get ts tag))) alike.tags)
 
   abbrev step_by_name : NamedOperation → BodyState → Checked BodyState
   step_by_name n s = step_in (typing_of env) (standard_rules c.operands) (control_of n) n s.stacks s.controls

@@ -19,15 +19,13 @@ use Rattle.wasm_typing.specs.Contexts.{DefinedType, function_type_in}
 use Rattle.wasm_typing.specs.StandardRules.{standard_rules}
 use Rattle.wasm_context.specs.Validation.{BodyContext, BodyState, tag_signature, raw_named, refusal_number, steps_through}
 
--- The environment is that of the module of the context: its ids are the indices. Each index of a type has the same function type in both, and
--- so has the type of each tag. The environment may have more types, which no index names.
+-- The environment is that of the module of the context: its ids are the indices, and it has the same function types and tags.
 pub record IsModuleOfContext (env : Environment) (c : BodyContext) : Type 0 where
   pub index : (space : Space) (n m : ℕ) → env.id_of space n ≡ Ok m → m ≡ n
   pub local : (n m : ℕ) → env.local_of n ≡ Ok m → m ≡ n
   pub type : (n m : ℕ) → env.id_of Types n ≡ Ok m → (t : DefinedType) × (slice_get c.operands.types n ≡ Some t)
-  pub function : (n m : ℕ) → env.id_of Types n ≡ Ok m → signature_of env.types n ≡ result_ok (function_type_in c.operands n)
+  pub function : (n : ℕ) → signature_of env.types n ≡ result_ok (function_type_in c.operands n)
   pub tags : env.tags ≡ c.tags
-  pub tag_type : (tag n : ℕ) → slice_get c.tags tag ≡ Some n → signature_of env.types n ≡ result_ok (function_type_in c.operands n)
   pub tag : (n m : ℕ) → env.id_of Tags n ≡ Ok m → (s : Signature) × (tag_signature c n ≡ Ok s)
 
 -- An operator that has a name there has the same one here.

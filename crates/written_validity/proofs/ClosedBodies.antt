@@ -18,11 +18,15 @@ use Rattle.wasm_body.proofs.Structure.ReadFrames.{progress_frames, after_frames,
 use Rattle.wasm_body.proofs.Structure.ReadingTrees.{body_read}
 use Rattle.wasm_typing.specs.StandardRules.{standard_rules}
 use Rattle.wasm_context.specs.Validation.{refusal_number, steps_through}
-use Rattle.wasm_context.proofs.RawVerdicts.{same_verdicts}
+use Rattle.wasm_body.proofs.NormalForm.Rewritten.{Named}
+use Rattle.renamed_locals.specs.RenamedLocals.{renamed, renamed_at}
+use Rattle.renamed_locals.proofs.SameControl.{same_control}
 use Rattle.wasm_validation.specs.BodyChecks.{check_body}
 use Rattle.wasm_validation.specs.BodyValidation.{begin_state}
 use Rattle.wasm_validation.proofs.CheckedSteps.{same_steps}
 use Rattle.written_validity.specs.ValidatedBodies.{AcceptedIsValid}
+use Rattle.written_validity.proofs.NamedSteps.{steps_are}
+use Rattle.written_validity.proofs.SourceNames.{same_tags, all_source_names}
 
 -- ---- how many frames are open after an operator
 
@@ -122,18 +126,19 @@ module _ {T : Type 0} (m : Typing) (r : OperandRules T) where
   step_depth (Delegate l) o s (c ∷ cs) t e = closing_depth (Delegate l) c s cs t e
 
   -- both have as many frames after the operators
-  same_depth : (xs : List Occurrence) (fs gs : List (SequenceFrame Occurrence)) (s t : State T) → length fs ≡ length s.controls → frames_after (Some fs) (map mark xs) ≡ Some gs
-      → validate m r (map name_at xs) s ≡ Ok t → length gs ≡ length t.controls
-  same_depth [] fs gs s t h e v =
+  same_depth : (f : ℕ → ℕ) (xs : List Occurrence) (fs gs : List (SequenceFrame Occurrence)) (s t : State T) → length fs ≡ length s.controls → frames_after (Some fs) (map mark xs) ≡ Some gs
+      → validate m r (map (renamed_at f) (map name_at xs)) s ≡ Ok t → length gs ≡ length t.controls
+  same_depth f [] fs gs s t h e v =
       let same : fs ≡ gs = cc e in
       sym (ap length same) ∙ h ∙ ap (λ x. length x.controls) (ok_same s t v)
-  same_depth (x ∷ xs) fs gs s t h e v =
+  same_depth f (x ∷ xs) fs gs s t h e v =
       elim (moves (control_of x.named) x fs) as (λ o. moves (control_of x.named) x fs ≡ o → frames_after o (map mark xs) ≡ Some gs → length gs ≡ length t.controls) [
         | None ↦ λ is more. absurd (none-some gs (sym (none_stays (map mark xs)) ∙ more))
         | Some hs ↦ λ is more.
-            let next = bind_ok (step_in m r (control_of x.named) x.named s.stacks s.controls) (λ w. validate m r (map name_at xs) w) t v in
-            let here = step_depth (control_of x.named) x.named s.stacks s.controls next.0 next.1 in
-            same_depth xs hs gs next.0 t (frames_depth (control_of x.named) x fs hs is ∙ ap (depth_after (control_of x.named)) h ∙ sym here) more next.2
+            let o = renamed f x.named in
+            let next = bind_ok (step_in m r (control_of o) o s.stacks s.controls) (λ w. validate m r (map (renamed_at f) (map name_at xs)) w) t v in
+            let here = step_depth (control_of x.named) o s.stacks s.controls next.0 (ap (λ k. step_in m r k o s.stacks s.controls) (sym (same_control f x.named)) ∙ next.1) in
+            same_depth f xs hs gs next.0 t (frames_depth (control_of x.named) x fs hs is ∙ ap (depth_after (control_of x.named)) h ∙ sym here) more next.2
       ] refl e
 
 none_open : (cs : List ControlFrame) → 0 ≡ length cs → cs ≡ []
@@ -147,17 +152,18 @@ ok_found (Ok x) h = (x, refl)
 ok_found (Err e) h = absurd cc
 
 pub accepted_is_valid : AcceptedIsValid
-accepted_is_valid given source b accepted g alike check first =
+accepted_is_valid given source b accepted g alike index_of own check first =
     let env = given.environment in
     let m = typing_of env in
     let rules = standard_rules g.context.operands in
     let xs : List Placed = map placed accepted.operators in
+    let names : List Named = map (renamed_at index_of) (map name_at accepted.operators) in
     let passes : IsOk (validated check_body (Some (g.context, begin_state g)) xs) =
     subst (λ v. IsOk (validated check_body v xs)) first (subst (λ k. IsOk (validated k given.first xs)) check accepted.all.passes) in
     let last = ok_found (validated check_body (Some (g.context, begin_state g)) xs) passes in
     let reached = bind_ok (steps_through g.context (begin_state g) xs) (λ t. Ok (Some (g.context, t))) last.0 (sym (same_steps g.context (begin_state g) xs) ∙ last.1) in
-    let named = with_fault_ok (λ e. refusal_number) (validate m rules (map name_at accepted.operators) (begin_state g)) reached.0
-    (sym (same_verdicts env g.context alike accepted.operators b accepted.lawful (begin_state g)) ∙ reached.1) in
+    let named = with_fault_ok (λ e. refusal_number) (validate m rules names (begin_state g)) reached.0
+    (sym (steps_are m g.context (same_tags env g.context alike) xs names (all_source_names env g.context alike index_of own accepted.operators b accepted.lawful) (begin_state g)) ∙ reached.1) in
     let closed = none_open reached.0.controls
-    (same_depth m rules accepted.operators function_frames [] (begin_state g) reached.0 refl (body_frames accepted.operators b accepted.lawful.is_body) named) in
+    (same_depth m rules index_of accepted.operators function_frames [] (begin_state g) reached.0 refl (body_frames accepted.operators b accepted.lawful.is_body) named) in
     record { operators = xs; reached = reached.0; leads = record { listed = accepted.all.spelt; steps = reached.1 }; closed = closed }

@@ -1,10 +1,10 @@
 -- A body that is written with fewer locals: the premises of the law hold of it, and what is valid is computed. All is by hand.
-use Rattle.std.proofs.Common.{◌≡◌, ℕ, zero, suc, List, [], ◌∷◌, Bool, true, false, None, Result, Ok, Err, refl, arith}
-use Rattle.std.specs.Prelude.{Some, slice_get}
+use Rattle.std.proofs.Common.{◌≡◌, ℕ, zero, suc, List, [], ◌∷◌, Bool, true, false, None, Result, Ok, Err, refl, arith, sym, ap}
+use Rattle.std.specs.Prelude.{Some, slice_get, IsOk, ◌<◌, ◌==◌, if◌then◌else◌}
 use Rattle.std.specs.Result.{result_ok}
 use Rattle.std.proofs.lemmas.Option.{none-some}
 use Rattle.wasm_types.specs.declared.val_type.ValType.{ValType}
-use Rattle.wasm_types.specs.declared.val_type.ValType.TheVariants.{I32, I64}
+use Rattle.wasm_types.specs.declared.val_type.ValType.TheVariants.{I32, I64, F64}
 use Rattle.walrus_ir.specs.Types.{signature, signature_of, Func, Entry}
 use Rattle.wasm_operators.specs.declared.types.Opcode.TheVariants.{Byte}
 use Rattle.wasm_operators.specs.declared.types.Space.{Space}
@@ -30,15 +30,22 @@ use Rattle.written_validity.specs.WrittenCode.{setting_with_declared, IsWrittenW
 abbrev three_locals : List (ValType ℕ)
 three_locals = I32 ∷ I64 ∷ I32 ∷ []
 
+-- Their ids are 7, 9 and 4; the module has other locals, too.
+abbrev all_locals : List (ValType ℕ)
+all_locals = F64 ∷ F64 ∷ F64 ∷ F64 ∷ I32 ∷ F64 ∷ F64 ∷ I32 ∷ F64 ∷ I64 ∷ []
+
 abbrev id_in : Space → ℕ → Result ℕ IndexError
 id_in Types zero = Ok 0
 id_in space n = Err (OutOfRange space n)
 
 abbrev local_in : ℕ → Result ℕ IndexError
-local_in zero = Ok 0
-local_in (suc zero) = Ok 1
-local_in (suc (suc zero)) = Ok 2
+local_in zero = Ok 7
+local_in (suc zero) = Ok 9
+local_in (suc (suc zero)) = Ok 4
 local_in n = Err (LocalOutOfRange 0 n)
+
+abbrev index_in : ℕ → ℕ
+index_in id = if id == 7 then 0 else if id == 9 then 1 else 2
 
 abbrev read_in : Environment
 read_in = record { types = Func (I32 ∷ []) [] ∷ Entry [] ∷ []; tags = []; id_of = id_in; local_of = local_in; type = 0 }
@@ -50,8 +57,8 @@ number_in space id = Err (Index (Unnumbered space))
 abbrev written_by : EmitInput
 written_by = record {
   to = record { number_of = number_in; local_number = λ id. Err UnnumberedLocal; balanced = balances (typing_of read_in) };
-  types = three_locals;
-  args = 0 ∷ [];
+  types = all_locals;
+  args = 7 ∷ [];
 }
 
 abbrev one_type : DefinedType
@@ -82,11 +89,21 @@ same_index : (space : Space) (n m : ℕ) → id_in space n ≡ Ok m → m ≡ n
 same_index Types zero m e = cc
 same_index _ n m e = absurd cc
 
-same_local : (n m : ℕ) → local_in n ≡ Ok m → m ≡ n
-same_local zero m e = cc
-same_local (suc zero) m e = cc
-same_local (suc (suc zero)) m e = cc
-same_local (suc (suc (suc n))) m e = absurd cc
+own_index : (n m : ℕ) → local_in n ≡ Ok m → index_in m ≡ n
+own_index zero m e = let same : 7 ≡ m = cc in ap index_in (sym same)
+own_index (suc zero) m e = let same : 9 ≡ m = cc in ap index_in (sym same)
+own_index (suc (suc zero)) m e = let same : 4 ≡ m = cc in ap index_in (sym same)
+own_index (suc (suc (suc n))) m e = absurd cc
+
+own_type : (n m : ℕ) → local_in n ≡ Ok m → slice_get all_locals m ≡ slice_get three_locals n
+own_type zero m e = let same : 7 ≡ m = cc in ap (slice_get all_locals) (sym same)
+own_type (suc zero) m e = let same : 9 ≡ m = cc in ap (slice_get all_locals) (sym same)
+own_type (suc (suc zero)) m e = let same : 4 ≡ m = cc in ap (slice_get all_locals) (sym same)
+own_type (suc (suc (suc n))) m e = absurd cc
+
+first_has_id : (n : ℕ) → n < 1 → IsOk (local_in n)
+first_has_id zero h = refl
+first_has_id (suc n) h = absurd (omega arith)
 
 known_type : (n m : ℕ) → id_in Types n ≡ Ok m → (t : DefinedType) × (slice_get module_context.operands.types n ≡ Some t)
 known_type zero m e = (one_type, refl)
@@ -104,7 +121,6 @@ premises_hold : IsWrittenWhereValid read_in validated_in written_by
 premises_hold = record {
   is_module = record {
     index = same_index;
-    local = same_local;
     type = known_type;
     function = same_function;
     tags = refl;
@@ -113,9 +129,12 @@ premises_hold = record {
   };
   numbers = led_back;
   balanced = λ t. refl;
+  index_of = index_in;
+  indices = own_index;
+  types = own_type;
   parameters = omega arith;
+  have_ids = first_has_id;
   args = refl;
-  locals = refl;
 }
 
 -- ---- 20 00 1a 20 02 1a 0b, and as it is written: local.get, drop, twice, and end

@@ -1,5 +1,5 @@
 -- An operator that is written has its name by the indices of the module, with the new numbers of its locals.
-use Rattle.std.proofs.Common.{◌≡◌, ℕ, List, [], ◌∷◌, map, Bool, true, Some, None, Ok, refl, sym, ap, ◌∙◌}
+use Rattle.std.proofs.Common.{◌≡◌, ℕ, List, [], ◌∷◌, Bool, true, Some, None, Ok, refl, sym, ap, ◌∙◌}
 use Rattle.std.specs.List.{AllByRecursion}
 use Rattle.wasm_types.specs.declared.val_type.HeapType.{HeapType}
 use Rattle.wasm_types.specs.declared.val_type.HeapType.TheVariants.{Abstract, Concrete}
@@ -8,79 +8,37 @@ use Rattle.wasm_types.specs.declared.val_type.ValType.TheVariants.{Ref}
 use Rattle.walrus_ir.specs.Types.{Signature, signature, signature_of, signature_of_type}
 use Rattle.walrus_ir.specs.declared.val_type.InstrSeqType.{InstrSeqType}
 use Rattle.walrus_ir.specs.declared.val_type.InstrSeqType.TheVariants.{Simple, MultiValue}
-use Rattle.wasm_numbers.specs.Results.{◌>>=◌, each}
+use Rattle.wasm_numbers.specs.Results.{◌>>=◌}
 use Rattle.wasm_operators.specs.declared.types.BlockType.{BlockType}
 use Rattle.wasm_operators.specs.declared.types.BlockType.TheVariants.{Empty, Value, FuncType}
 use Rattle.wasm_operators.specs.declared.types.Space.{Space}
 use Rattle.wasm_operators.specs.declared.types.Space.TheVariants.{Types, Tags}
-use Rattle.wasm_operators.specs.Operations.{Immediate, local, RawOperation, operation}
+use Rattle.wasm_operators.specs.Operations.{RawOperation, operation}
 use Rattle.wasm_body.specs.declared.error.EmitError.{EmitError}
 use Rattle.wasm_body.specs.Bytes.{Numbers, numbers_in_32_bits, numbered_block, numbering}
 use Rattle.wasm_body.specs.FlatText.{then_by}
-use Rattle.wasm_body.specs.LocalNumbers.{locals_among}
 use Rattle.wasm_body.specs.Naming.{Environment, NamedOperation, block_types}
 use Rattle.wasm_body.specs.NormalForm.{typing_of}
-use Rattle.wasm_body.specs.Translation.{Translation, keeping_numbers, translate, translate_heap, translate_immediate, translate_immediates, translate_value}
+use Rattle.wasm_body.specs.Translation.{Translation, translate, translate_heap, translate_immediates, translate_value}
 use Rattle.wasm_body.specs.Typed.{HasSignatures}
-use Rattle.wasm_body.specs.Validity.{Checked, Refusal, demand}
+use Rattle.wasm_body.specs.Validity.{demand}
 use Rattle.wasm_body.proofs.Bytes.Fitting.{fitting_is, fitting_result}
 use Rattle.wasm_body.proofs.NormalForm.Exponents.{exponent_of-pow}
 use Rattle.wasm_body.proofs.NormalForm.WrittenTexts.{named_by}
-use Rattle.wasm_body.proofs.Translation.Steps.{Leads, after_two, bound}
-use Rattle.wasm_body.proofs.Translation.Translations.{LeadAll, lead_all, translate_leads, same, translate_same}
+use Rattle.wasm_body.proofs.Translation.Steps.{Leads, bound}
+use Rattle.wasm_body.proofs.Translation.Translations.{LeadAll, lead_all, translate_leads}
 use Rattle.wasm_typing.specs.Contexts.{function_type_in}
 use Rattle.wasm_typing.specs.Matching.{holds_of, is_valid_value}
 use Rattle.wasm_context.specs.Validation.{BodyContext, named_block_type, checked_index, raw_naming, raw_named}
-use Rattle.wasm_context.specs.ValidationLaws.{IsModuleOfContext}
-use Rattle.wasm_context.proofs.RawNames.{ok_of_some}
-use Rattle.renamed_locals.specs.RenamedLocals.{renamed_immediate, renamed, context_with_locals}
+use Rattle.renamed_locals.specs.RenamedLocals.{renamed, context_with_locals}
 use Rattle.renamed_locals.specs.DeclaredLocals.{TypesKeepNumbers}
 use Rattle.renamed_locals.proofs.NumberedLocals.{value_kept}
-
-abbrev Fine : {X : Type 0} → X → Checked X
-Fine x = Ok x
-
--- ---- locals renamed, as a translation
-
--- nothing changes but the locals
-abbrev renaming : (ℕ → ℕ) → Translation ℕ Signature ℕ Signature Refusal
-renaming f = record (keeping_numbers (λ l. Ok l) (λ s. Ok s) (λ e. e)) { local = λ n. Ok (f n) }
-
-one_same : (i : Immediate ℕ Signature) → translate_immediate {E = Refusal} same i ≡ Ok i
-one_same i =
-    let both = bound (translate_immediate same i) (λ j. Fine (j ∷ [])) (i ∷ []) (translate_same (i ∷ [])) in
-    let is : both.0 ∷ [] ≡ i ∷ [] = cc both.2 in
-    let first : both.0 ≡ i = cc is in
-    both.1 ∙ ap Fine first
-
-one_renamed : (f : ℕ → ℕ) (i : Immediate ℕ Signature) → translate_immediate (renaming f) i ≡ Ok (renamed_immediate f i)
-one_renamed f (local n) = refl
-one_renamed f i = one_same i
-
-renaming_is : (f : ℕ → ℕ) (is : List (Immediate ℕ Signature)) → translate_immediates (renaming f) is ≡ Ok (map (renamed_immediate f) is)
-renaming_is f [] = refl
-renaming_is f (i ∷ is) =
-    after_two (translate_immediate (renaming f) i) (Ok (renamed_immediate f i)) (translate_immediates (renaming f) is) (Ok (map (renamed_immediate f) is)) (λ j js. Ok (j ∷ js))
-    (one_renamed f i) (renaming_is f is)
-
--- ---- the locals of an operator that is written have numbers
-
-module _ {M C : Type 0} (t : Translation ℕ Signature M C EmitError) (P : ℕ → Type 0) (given : (id n : ℕ) → t.local id ≡ Ok n → P id) where
-  pub locals_have_numbers : (is : List (Immediate ℕ Signature)) (js : List (Immediate M C)) → translate_immediates t is ≡ Ok js → AllByRecursion P (locals_among is)
-  locals_have_numbers [] js e = tt
-  locals_have_numbers (local id ∷ is) js e =
-      let first = bound (translate_immediate t (local id)) (λ j. each (translate_immediate t) is >>= λ ks. Ok (j ∷ ks)) js e in
-      let rest = bound (each (translate_immediate t) is) (λ ks. Ok (first.0 ∷ ks)) js first.2 in
-      let number = bound (t.local id) (λ n. Ok (local n)) first.0 first.1 in
-      (given id number.0 number.1, locals_have_numbers is rest.0 rest.1)
-  locals_have_numbers (i ∷ is) js e =
-      let first = bound (translate_immediate t i) (λ j. each (translate_immediate t) is >>= λ ks. Ok (j ∷ ks)) js e in
-      let rest = bound (each (translate_immediate t) is) (λ ks. Ok (first.0 ∷ ks)) js first.2 in
-      locals_have_numbers is rest.0 rest.1
+use Rattle.written_validity.specs.SharedModules.{SharesModule}
+use Rattle.written_validity.proofs.RenamedNames.{Fine, renaming, renaming_is, ok_of_some}
 
 -- ---- an operator that is written
 
-module _ (env : Environment) (c : BodyContext) (alike : IsModuleOfContext env c) (to : Numbers) (numbers : (space : Space) (id n : ℕ) → to.number_of space id ≡ Ok n → env.id_of space n ≡ Ok id)
+module _ (env : Environment) (c : BodyContext) (alike : SharesModule env c) (to : Numbers) (numbers : (space : Space) (id n : ℕ) → to.number_of space id ≡ Ok n → env.id_of space n ≡ Ok id)
     (f : ℕ → ℕ) (local_numbers : (id n : ℕ) → to.local_number id ≡ Ok n → n ≡ f id) (locals : List (ValType ℕ)) where
   -- the context of the function that is written
   abbrev there : BodyContext

@@ -3,7 +3,7 @@ ghost use Rattle.written_validity.specs.ValidatedBodies.{AcceptedIsValid, ValidA
 ghost use Rattle.written_validity.specs.WrittenCode.{WrittenIsValid};
 
 /// If the bytes of a body are valid code, so are the operators that `rewrite_body` and `rewrite_flat` write for it, with the locals that they
-/// declare, where ids are indices and nothing but locals gets other numbers. `V` is the type of a validator's state.
+/// declare, where all ids but those of locals are indices, and only locals get other numbers. `V` is the type of a validator's state.
 pub fn law_written_validity<V>()
     ensures { WrittenIsValid V }
 {}
