@@ -161,7 +161,8 @@ static inline struct wrewrite_outcome wrewrite_check(const uint8_t *source, size
     return wrewrite_raw_check(source ? source : nothing, source_size, first);
 }
 
-/* Validates a module, as the standard says, and writes nothing. The outcome has the first fault. */
+/* Validates a module, as the standard says, and writes nothing. The outcome has the first fault. If an operator is refused for an operand,
+ * `text` says what it takes and finds: "the operator is not valid here: expected i32, found f32 (InvalidOperator)". */
 static inline struct wrewrite_outcome wrewrite_validate(const uint8_t *source, size_t source_size) {
     uint8_t nothing[1] = {0};
     return wrewrite_raw_validate(source ? source : nothing, source_size);

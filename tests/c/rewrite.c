@@ -265,18 +265,23 @@ static bool is_fault(struct wrewrite_outcome end, size_t place, size_t function,
            end.module_size == 0 && end.map_size == 0 && end.warnings == 0;
 }
 
-/* A function that adds 1 to nothing. */
+/* A function that adds 1 to nothing, and one that adds an i64 to an i32. */
 static const char INVALID[] = "\0asm\1\0\0\0\1\4\1\140\0\0\3\2\1\0\12\10\1\6\0\101\1\152\32\13";
+static const char MIXED[] = "\0asm\1\0\0\0\1\4\1\140\0\0\3\2\1\0\12\12\1\10\0\101\1\102\1\152\32\13";
 
 static void check_validity(struct bytes good) {
     static const char text[] = "the operator is not valid here (InvalidOperator)";
-    struct bytes source = copy(INVALID, sizeof INVALID - 1), refused = copy(REFUSED, sizeof REFUSED - 1);
+    static const char nothing[] = "the operator is not valid here: expected i32, found nothing (InvalidOperator)";
+    static const char other[] = "the operator is not valid here: expected i32, found i64 (InvalidOperator)";
+    struct bytes source = copy(INVALID, sizeof INVALID - 1), mixed = copy(MIXED, sizeof MIXED - 1);
+    struct bytes refused = copy(REFUSED, sizeof REFUSED - 1);
     check(wrewrite_validate(good.at, good.size).status == WREWRITE_DONE, "a module that is valid");
-    check(is_fault(wrewrite_validate(source.at, source.size), 0x19, 0, text), "an operator that is not valid");
+    check(is_fault(wrewrite_validate(source.at, source.size), 0x19, 0, nothing), "an operator that lacks an operand is not valid");
+    check(is_fault(wrewrite_validate(mixed.at, mixed.size), 0x1b, 0, other), "an operator that finds another operand is not valid");
     check(wrewrite_check(source.at, source.size, 0).status == WREWRITE_DONE, "its types are not checked without being validated");
     check(is_fault(wrewrite_validate(refused.at, refused.size), 0x22, 1, text), "a branch that goes too far is not valid");
     check(is_fault(wrewrite_validate(NULL, 0), 0, WREWRITE_NO_INDEX, "the bytes end too early (Truncated)"), "no bytes are no module");
-    free(source.at), free(refused.at);
+    free(source.at), free(mixed.at), free(refused.at);
 }
 
 static void check_faults(struct bytes good) {

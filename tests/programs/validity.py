@@ -139,3 +139,31 @@ def _(room):
     room.put("in", module([b"\x6a"]))
     room.refuses("wrewrite", "--engine-limits", "in", "out", says=f"in: 0x17: function 0: {EMPTY}")
     same(["in"], room.files())
+
+
+LONG = "the type has more parameters, results or fields than engines accept (EngineLimit)"
+
+
+@case("--engine-limits refuses types with 50,000 results before bodies are validated, which would take minutes")
+def _(room):
+    # each call leaves its results on the operand stack; the last operator isn't valid
+    results = section(1, b"\1\x60\0" + number(50_000) + b"\x7f" * 50_000)
+    calls = section(10, vector([sized(b"\0" + b"\x10\0" * 25_000 + b"\x6a\x0b")]))
+    room.put("in", PREAMBLE + results + FUNCTION + calls)
+    room.refuses("wrewrite", "--check", "--engine-limits", "in", says=f"in: 0xc: {LONG}")
+    # the limit comes before what isn't valid, and before what isn't so of a section before it
+    memory = section(5, vector([b"\1\2\1"]))
+    room.put("in", PREAMBLE + section(1, b"\1\x60\0" + number(1001) + b"\x7f" * 1001) + memory)
+    room.refuses("wrewrite", "--check", "--engine-limits", "in", says=f"in: 0xb: {LONG}")
+    room.put("in", PREAMBLE + memory + section(7, number(1_000_001)))
+    room.refuses("wrewrite", "--check", "--engine-limits", "in", says="in: 0x13: the bytes end too early (Truncated)")
+
+
+@case("--engine-limits: a fault that isn't a limit doesn't come before an earlier one")
+def _(room):
+    # a body with a local of a type that isn't there, after a global that isn't of its type
+    sections = [ALL_TYPES, FUNCTION, section(6, vector([b"\x7f\0\x42\0\x0b"])), section(10, vector([sized(b"\1\1\x64\x09\x0b")]))]
+    room.put("in", PREAMBLE + b"".join(sections))
+    place = at(sections[:2], b"\6\6\1\x7f\0\x42\0")
+    for option in ("--validate", "--engine-limits"):
+        room.refuses("wrewrite", "--check", option, "in", says=f"in: 0x{place:x}: {BODY}")

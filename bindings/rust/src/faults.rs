@@ -24,13 +24,15 @@ pub fn check(source: &[u8]) -> Faults<'_> {
     Faults { source, first: Some(0) }
 }
 
-/// Validates a module, as the standard says.
+/// Validates a module, as the standard says. The text of an error says what an operator takes and finds, if it is refused for an
+/// operand.
 ///
 /// ```
 /// // a function that adds 1 to nothing
 /// let module = b"\0asm\x01\0\0\0\x01\x04\x01\x60\0\0\x03\x02\x01\0\x0a\x08\x01\x06\0\x41\x01\x6a\x1a\x0b";
 /// let fault = wrewrite::validate(module).unwrap_err();
-/// assert_eq!(fault.to_string(), "0x19: function 0: the operator is not valid here (InvalidOperator)");
+/// let text = "the operator is not valid here: expected i32, found nothing (InvalidOperator)";
+/// assert_eq!(fault.to_string(), format!("0x19: function 0: {text}"));
 /// ```
 ///
 /// # Errors

@@ -7,7 +7,7 @@ ghost use Rattle.module_tools.specs.Endings.{status_of, IsMemoryOr};
 use crate::escaped::Escaped;
 use crate::not_a_module::NotAModule;
 use crate::usage_error::UsageError;
-use module_validator::validity_words;
+use module_validator::FaultText;
 use source_map::{SourceMapError, SourceMapFault};
 use std::alloc::{AllocError, AllocFailed, Global};
 use std::env::FillError;
@@ -108,12 +108,8 @@ fn source_map_fault_text(alloc: Global, fault: SourceMapFault) -> Result<String,
 
 /// The text of a fault, and its name.
 fn fault_text(alloc: Global, error: &ModuleError) -> Result<String, AllocError> {
-    if let Some((text, name)) = validity_words(error.fault) {
-        return format!(in alloc; "{text} ({name})");
-    }
-    let name = error.fault.name();
-    let fault = &error.fault;
-    format!(in alloc; "{fault} ({name})")
+    let fault = FaultText(error.fault);
+    format!(in alloc; "{fault}")
 }
 
 /// What a file is that isn't a module, and the name of the fault that it has as one.

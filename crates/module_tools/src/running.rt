@@ -2,7 +2,6 @@
 
 ghost use Rattle.std.specs.Prelude.{◌≡◌, ◌≤◌, true, Ok, IfOk, OnOk};
 ghost use Rattle.std.specs.Process.{exit_status};
-ghost use Rattle.module_validator.specs.ModuleRules.{module_validity};
 ghost use Rattle.wasm_module.specs.declared.parsed.ParsedModule.{ParsedModule as Parsed};
 ghost use Rattle.wasm_module.specs.KeptCode.{AreKept, AreKeptAs, AreKeptWithAs};
 ghost use Rattle.wasm_module.specs.RewrittenCode.{Extends, IsRewrittenWith};
@@ -17,7 +16,6 @@ use crate::ending::{ProgramFailure, exit_code, page_code, words};
 use crate::files::read_file;
 use crate::listing::list_functions;
 use crate::locks::LockFiles;
-use crate::mismatches::not_valid;
 use crate::omitting::{following_debug, omit};
 use crate::places::check_files;
 use crate::program::{Charging, Program, Request, Task, read_arguments};
@@ -26,11 +24,11 @@ use crate::reporting::{Done, Outcome, print_done, status_of_done};
 use crate::source_map_places::check_source_maps;
 use crate::source_maps::read_source_map;
 use crate::usage_error::UsageError;
+use crate::validating::check_validity;
 use crate::version::{BUILD, VERSION};
 use crate::warnings::{DebugOutcome, warn};
 use crate::writing::write_module;
 use module_debug::DebugSection;
-use module_validator::{check_engine_limits, validate};
 use source_map::SourceMap;
 use std::alloc::Global;
 use std::io;
@@ -418,40 +416,6 @@ where
             }),
             Err(failure) => Err(failure),
         }
-    }
-}
-
-/// Refuses a valid module that was read from these bytes and is above a limit of engines, where that is asked for.
-fn check_limits<'w>(
-    alloc: Global,
-    task: &Task<'w>,
-    bytes: &[u8],
-    parsed: &ParsedModule<'_>,
-) -> Result<(), ProgramFailure<'w>> {
-    if !task.has_limits {
-        return Ok(());
-    }
-    match check_engine_limits(alloc, bytes) {
-        Ok(()) => Ok(()),
-        Err(error) => Err(refused(alloc, parsed, task.input, &error)),
-    }
-}
-
-/// Refuses a module that was read from these bytes and isn't valid, where that is asked for.
-fn check_validity<'w>(
-    alloc: Global,
-    task: &Task<'w>,
-    bytes: &[u8],
-    parsed: &ParsedModule<'_>,
-) -> Result<(), ProgramFailure<'w>>
-    ensures { OnOk result (task.now.validates ≡ true → module_validity bytes.now ≡ Ok tt) }
-{
-    if !task.validates {
-        return Ok(());
-    }
-    match validate(alloc, bytes) {
-        Ok(()) => check_limits(alloc, task, bytes, parsed),
-        Err(error) => Err(not_valid(alloc, parsed, task.input, bytes, &error)),
     }
 }
 

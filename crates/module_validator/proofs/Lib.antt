@@ -11,3 +11,5 @@ pub mod ExportLemmas
 pub mod SectionLemmas
 -- the bodies of a code section
 pub mod BodyLemmas
+-- supertypes, one after the other
+pub mod SupertypeLemmas

@@ -5,5 +5,7 @@ pub mod CodeVerdicts
 pub mod ConstantRules
 -- the parts of a module, and the whole
 pub mod ModuleRules
+-- limits of engines, which are no part of validity
+pub mod EngineLimits
 -- what the results of the code mean
 pub mod Checks

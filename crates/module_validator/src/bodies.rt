@@ -19,7 +19,7 @@ use wasm_ops::Space;
 use wasm_sections::{Input, ModuleError, ModuleFault};
 
 /// The index of the type of a function.
-fn type_of(context: &Context, function: usize) -> Result<u32, ModuleFault>
+pub(crate) fn type_of(context: &Context, function: usize) -> Result<u32, ModuleFault>
     requires { vec_len context.now.functions ≤ function → function < 2 ^ 32 }
     ensures { Gives (λ ty. ty) result (some_or (slice_get (without_locals context.now).functions
         function) (IndexOutOfRange Funcs function)) }

@@ -3,7 +3,7 @@
 ghost use Rattle.std.specs.Prelude.{◌≡◌, MatchOption};
 ghost use Rattle.wrewrite_c.specs.Outcomes.{no_index, HasSizes, IsStatusOf, IsPlaceOf, IsOfNamed, IsStopped, IsOfRefused};
 
-use module_validator::validity_words;
+use module_validator::FaultText;
 use std::fmt;
 use std::io::Write;
 use wasm_module::{ModuleError, ModuleFault};
@@ -94,20 +94,6 @@ impl Stop {
         },
         function: None,
     });
-}
-
-/// The text of a fault, and its name.
-#[derive(Clone, Copy)]
-struct FaultText(ModuleFault);
-
-impl fmt::Display for FaultText {
-    fn fmt<W: fmt::Write>(&self, f: &mut fmt::Formatter<W>) -> fmt::Result {
-        if let Some((text, name)) = validity_words(self.0) {
-            return write!(f, "{text} ({name})");
-        }
-        let (fault, name) = (self.0, self.0.name());
-        write!(f, "{fault} ({name})")
-    }
 }
 
 /// The bytes of a text. What doesn't fit is left out.
@@ -237,6 +223,17 @@ impl Outcome {
             module_size: 0,
             map_size: 0,
             text,
+        }
+    }
+
+    /// Of a call that made nothing, with this text.
+    pub(crate) fn of_stop_with(stop: Stop, text: &str) -> Outcome
+        ensures stopped { IsStopped stop result }
+        ensures sizes { HasSizes 0 0 result }
+    {
+        Outcome {
+            text: text_of(text),
+            ..Outcome::of_stop(stop)
         }
     }
 
