@@ -1,5 +1,5 @@
-"""What the examples wone, wgrow, wloops and wtrace print; and node runs the modules before and after."""
-from modules import BAD_LABEL, BAD_LOCAL, PREAMBLE, TYPES, exports, functions, module, section, vector
+"""What the examples wone, wgrow, wloops, wtrace and wvalid print; and node runs the modules before and after."""
+from modules import BAD_LABEL, BAD_LOCAL, GOOD, PREAMBLE, TYPES, exports, functions, module, section, vector
 from runs import TOP, case, holds, node, same, stored
 
 
@@ -83,7 +83,24 @@ def _(room):
             same((2, b"", f"usage: {program} IN.wasm >OUT.wasm\n"), room.run(program, *words))
         same((1, b""), room.run(program, "none")[:2])
     for words in ([], ["wnone", "in"]):
-        same((2, b"", "usage: examples wgrow|wloops|wtrace IN.wasm >OUT.wasm, or examples wone HEX\n"), room.run("examples", *words))
+        usage = "usage: examples wgrow|wloops|wtrace IN.wasm >OUT.wasm, examples wone HEX, or examples wvalid IN.wasm\n"
+        same((2, b"", usage), room.run("examples", *words))
+
+
+@case("wvalid: a module that is valid, one that isn't, and what is no module")
+def _(room):
+    room.put("in", GOOD)
+    same(b"", room.works("wvalid", "in"))
+    # two functions: one of an i32, and one that adds an i64 to one
+    room.put("in", module([b"\x41\1\x1a", b"\x41\1\x42\1\x6a\x1a"]))
+    says = "the operator is not valid here: expected i32, found i64 (InvalidOperator)"
+    same((1, b"", f"Error: 0x21: {says}\n"), room.run("wvalid", "in"))
+    room.put("in", PREAMBLE + b"\x0e\0")
+    status, out, err = room.run("wvalid", "in")
+    same((1, b""), (status, out))
+    holds("Error: 0x8: no section has this id (UnknownSection)", err)
+    for words in ([], ["none"]):
+        same((1, b""), room.run("wvalid", *words)[:2])
 
 
 @case("wloops: each loop counts its turns")

@@ -22,7 +22,7 @@ BODIES = "wbody"
 ROWS = "wbody_rows"
 EXAMPLES = ("examples",)
 # The tools of the program `examples`, whose first word names one of them.
-TOOLS = ("wgrow", "wloops", "wone", "wtrace")
+TOOLS = ("wgrow", "wloops", "wone", "wtrace", "wvalid")
 NODE = shutil.which("node")
 CASES = []
 

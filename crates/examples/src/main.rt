@@ -1,14 +1,15 @@
-//! `examples`: four tools to learn from. They are one program, since each program that is built
+//! `examples`: five tools to learn from. They are one program, since each program that is built
 //! links the libraries anew.
 //!
-//! It is run as `examples TOOL IN.wasm >OUT.wasm`, where TOOL is `wgrow`, `wloops` or `wtrace`, or as
-//! `examples wone HEX`.
+//! It is run as `examples TOOL IN.wasm >OUT.wasm`, where TOOL is `wgrow`, `wloops` or `wtrace`, as
+//! `examples wone HEX`, or as `examples wvalid IN.wasm`.
 #![tactic(auto)]
 
 mod wgrow;
 mod wloops;
 mod wone;
 mod wtrace;
+mod wvalid;
 
 use module_tools::{exit_code, filter, words};
 use std::process::ExitCode;
@@ -20,7 +21,7 @@ use wtrace::Tracing;
 fn wrong_use(rt: &impl Eprint) -> ExitCode {
     // Where standard error can't be written, the status is all that is left.
     let _ = eprintln!(rt;
-        "usage: examples wgrow|wloops|wtrace IN.wasm >OUT.wasm, or examples wone HEX"
+        "usage: examples wgrow|wloops|wtrace IN.wasm >OUT.wasm, examples wone HEX, or examples wvalid IN.wasm"
     );
     ExitCode::from(2)
 }
@@ -46,6 +47,7 @@ fn run_named(rt: &HostRuntime, words: &[String]) -> ExitCode {
         "wloops" => filter(rt, &Counting, "wloops", 2),
         "wone" => status(rt, wone::change(rt)),
         "wtrace" => filter(rt, &Tracing, "wtrace", 2),
+        "wvalid" => status(rt, wvalid::check(rt)),
         _ => wrong_use(rt),
     }
 }

@@ -45,6 +45,7 @@ pub use escaped::Escaped;
 pub use files::{Target, read_file};
 pub use filtering::filter;
 pub use locks::LockFiles;
+pub use module_validator::refusal_text;
 pub use names::{Found, FunctionNames, function_at};
 pub use program::{
     Asked, Charging, MapPaths, Program, Request, SectionChoice, Task, read_arguments,
