@@ -94,7 +94,7 @@ def _(room):
     # two functions: one of an i32, and one that adds an i64 to one
     room.put("in", module([b"\x41\1\x1a", b"\x41\1\x42\1\x6a\x1a"]))
     says = "the operator is not valid here: expected i32, found i64 (InvalidOperator)"
-    same((1, b"", f"Error: 0x21: {says}\n"), room.run("wvalid", "in"))
+    same((1, b"", f"Error: 0x22: {says}\n"), room.run("wvalid", "in"))
     room.put("in", PREAMBLE + b"\x0e\0")
     status, out, err = room.run("wvalid", "in")
     same((1, b""), (status, out))
