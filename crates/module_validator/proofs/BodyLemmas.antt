@@ -1,9 +1,9 @@
 -- The bodies of a code section, where their number is known: those of the last functions, each of which may fail.
-use Rattle.std.proofs.Common.{◌≡◌, ℕ, ◌+◌, ◌-◌, ◌<◌, ◌≤◌, List, Result, Ok, ap, subst, sym, ◌∙◌, inr, arith}
+use Rattle.std.proofs.Common.{◌≡◌, ℕ, ◌+◌, ◌-◌, ◌<◌, ◌≤◌, List, Result, Ok, ap, subst, sym, ◌∙◌, arith}
 use Rattle.wasm_numbers.specs.Results.{◌>>=◌, Gives}
 use Rattle.wasm_sections.specs.declared.fault.ModuleError.{ModuleError}
 use Rattle.wasm_sections.specs.Parts.{Part, ◌>=>◌, number, repeated, no_more, whole_part, GivesUnlessMemory}
-use Rattle.wasm_sections.proofs.TypeReadingLemmas.{FailsUnlessMemory, first_gives, first_fails, unless_memory_first, unless_memory_as}
+use Rattle.wasm_sections.proofs.TypeReadingLemmas.{FailsUnlessMemory, first_gives, unless_memory_first, unless_memory_as}
 use Rattle.module_validator.proofs.LoopLemmas.{ItemsLeft, items_of, no_item_passed, item_passed, item_fails, items_passed, whole_gives, whole_fails, value_passed, done}
 
 -- the bodies of the last of so many functions

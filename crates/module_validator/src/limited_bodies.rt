@@ -43,7 +43,10 @@ fn check_locals(
     };
     locals.clear();
     match locals.add_all(context, params.len(), &mut input) {
-        Ok(()) => placed(&begin, only_if(are_few(params.len(), locals.count()), MANY_LOCALS)),
+        Ok(()) => placed(
+            &begin,
+            only_if(are_few(params.len(), locals.count()), MANY_LOCALS),
+        ),
         Err(error) => Err(error),
     }
 }

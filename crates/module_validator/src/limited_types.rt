@@ -74,7 +74,11 @@ fn are_shallow(types: &[DefinedType]) -> bool
 pub(crate) fn check_types(context: &Context) -> Result<(), ModuleFault>
     ensures { result ≡ types_limit (without_locals context.now).types }
 {
-    only_if(context.types.len() <= TYPES, TOO_MANY_TYPES)?;
-    only_if(are_short(&context.types), LONG_TYPE)?;
+    if context.types.len() > TYPES {
+        return Err(TOO_MANY_TYPES);
+    }
+    if !are_short(&context.types) {
+        return Err(LONG_TYPE);
+    }
     only_if(are_shallow(&context.types), DEEP_TYPE)
 }
