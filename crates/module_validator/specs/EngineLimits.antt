@@ -103,7 +103,7 @@ body_limits s n end text =
     with_fault (fault_here end text) (some_or (slice_get (operands_of_module s).functions n) (fault.IndexOutOfRange spaces.Funcs n)) >>= λ type.
     locals_limit s type end text
 
-abbrev pub next_body_limits : ModuleSetting → Part ℕ
+abbrev pub next_body_limits : ModuleSetting → (function : ℕ) → Part ℕ
 next_body_limits s n end text = body_part end text >>= λ x. body_limits s n (end - length x.1) x.0 >>= λ u. Ok (n + 1, x.1)
 
 -- The bodies are those of the last functions.

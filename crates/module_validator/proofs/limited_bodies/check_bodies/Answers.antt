@@ -1,5 +1,4 @@
-use Rattle.std.proofs.Common.{◌≡◌, ℕ, ◌+◌, ◌-◌, length, ◌∙◌, inr, rules}
-use Rattle.wasm_sections.specs.Parts.{Part}
+use Rattle.std.proofs.Common.{◌≡◌, ◌-◌, length, ◌∙◌, inr, rules}
 use Rattle.module_context.specs.ReadContexts.{read_setting}
 use Rattle.module_validator.specs.EngineLimits.{next_body_limits}
 use Rattle.module_validator.specs.ModuleRules.{operands_of_module}
