@@ -1,16 +1,16 @@
 -- Where an address goes, by the bodies of a module.
-use Rattle.std.proofs.Common.{inl, inr, ◌≡◌, ℕ, suc, ◌+◌, ◌-◌, ◌<◌, ◌≤◌, List, [], ◌∷◌, ◌++◌, Some, refl, sym, ap, subst, ◌∙◌, arith}
-use Rattle.std.specs.Prelude.{◌⊎◌, Any, map}
+use Rattle.std.proofs.Common.{inl, inr, ◌≡◌, ℕ, suc, ◌+◌, ◌-◌, ◌<◌, ◌≤◌, List, [], ◌∷◌, ◌++◌, Option, Some, None, refl, sym, ap, subst, ◌∙◌, arith}
+use Rattle.std.specs.Prelude.{◌⊎◌, Any, map, option_and_then}
 use Rattle.std.specs.List.{AllByRecursion}
 use Rattle.std.proofs.lemmas.Bool.{cases_lt, eq-eqb, ne_eqb, le-leb, lt-leb}
 use Rattle.code_moves.specs.declared.run.Run.{Run}
 use Rattle.code_moves.specs.declared.body.Body.{Body}
 use Rattle.code_moves.specs.Order.{AreRunsOfCode}
 use Rattle.code_moves.specs.OrderedBodies.{AreOrdered}
-use Rattle.code_moves.specs.Moves.{first_gap, new_place, new_address_within as within, body_with_address, new_address, IsWrittenAt}
+use Rattle.code_moves.specs.Moves.{first_gap, new_place, new_address_within as within, body_with_address, new_address, operator_place, operator_moved, IsWrittenAt}
 use Rattle.code_moves.specs.Laws.{IsOfABody, IsWrittenIn, IsPlace, rows_until}
-use Rattle.code_moves.proofs.BodySearch.{body_ends, has_in, has_before, has_after, body_at_first}
-use Rattle.code_moves.proofs.RunLaws.{gap_from, place_from_gap, place_until_end, place_rises, written_within, place_until, place_past, place_of_runs, run_within, place_at_end, place_inside}
+use Rattle.code_moves.proofs.BodySearch.{body_ends, has_in, has_before, has_after, body_at_first, operator_of_body}
+use Rattle.code_moves.proofs.RunLaws.{gap_from, place_from_gap, place_until_end, place_rises, written_within, place_until, place_past, place_of_runs, run_within, place_at_end, place_inside, operator_of_written, written_of_operator}
 
 -- ---- one body
 
@@ -299,3 +299,18 @@ inside_run bs b front rs r ordered of is a after inside below =
     let within = run_within (suc b.begin) (suc b.new_begin) front r rs b.end b.new_end runs in
     in_runs bs b a (same_body 0 0 bs ordered b r.end a of (omega arith) (omega arith)) (omega arith) ∙ ap (λ qs. new_place qs b.new_end a) is
     ∙ place_inside (suc b.begin) (suc b.new_begin) front r rs b.end b.new_end runs a after inside below
+
+-- ---- the place of an operator
+
+pub written_has_place : (bs : List Body) (old own : ℕ) → IsWrittenIn bs old own → operator_moved bs old ≡ Some own
+written_has_place bs old own written =
+    let b = written.0 in
+    operator_of_body bs old ∙ ap (option_and_then (λ (c : Body). operator_place c.runs.items c.new_end old)) written.1
+    ∙ operator_of_written (suc b.begin) (suc b.new_begin) b.runs.items b.end b.new_end b.are_runs old own written.2
+
+place_is_of : (bs : List Body) (old own : ℕ) (found : Option Body) → body_with_address bs old ≡ found → option_and_then (λ (b : Body). operator_place b.runs.items b.new_end old) found ≡ Some own → IsWrittenIn bs old own
+place_is_of bs old own None is place = absurd (cc (place))
+place_is_of bs old own (Some b) is place = (b, is, written_of_operator (suc b.begin) (suc b.new_begin) b.runs.items b.end b.new_end b.are_runs old own place)
+
+pub place_is_written : (bs : List Body) (old own : ℕ) → operator_moved bs old ≡ Some own → IsWrittenIn bs old own
+place_is_written bs old own place = place_is_of bs old own (body_with_address bs old) refl (sym (operator_of_body bs old) ∙ place)

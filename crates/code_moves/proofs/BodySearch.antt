@@ -8,7 +8,7 @@ use Rattle.std.proofs.lemmas.Bool.{ltb-true, le-leb, lt-leb}
 use Rattle.std.proofs.lemmas.Bool.Decides.{nat_tests}
 use Rattle.code_moves.specs.declared.body.Body.{Body}
 use Rattle.code_moves.specs.OrderedBodies.{AreOrdered}
-use Rattle.code_moves.specs.Moves.{has_address, moved_in, body_with_address, address_moved, ends_written, ends_written_at}
+use Rattle.code_moves.specs.Moves.{has_address, moved_in, body_with_address, address_moved, operator_place, operator_moved, ends_written, ends_written_at}
 use Rattle.code_moves.proofs.Bisection.{RiseFrom, rise}
 use Rattle.code_moves.proofs.RunSearch.{runs_end}
 
@@ -89,6 +89,15 @@ moved_by b bs a false rest is = rw is rest
 pub moved_of : (bs : List Body) (a : ℕ) → address_moved bs a ≡ option_and_then (λ (b : Body). moved_in b a) (body_with_address bs a)
 moved_of [] a = refl
 moved_of (b ∷ bs) a = moved_by b bs a (has_address b a) (moved_of bs a) refl
+
+operator_by : (b : Body) (bs : List Body) (a : ℕ) (test : Bool) → operator_moved bs a ≡ option_and_then (λ (c : Body). operator_place c.runs.items c.new_end a) (body_with_address bs a) → has_address b a ≡ test
+    → operator_moved (b ∷ bs) a ≡ option_and_then (λ (c : Body). operator_place c.runs.items c.new_end a) (body_with_address (b ∷ bs) a)
+operator_by b bs a true rest is = rw is refl
+operator_by b bs a false rest is = rw is rest
+
+pub operator_of_body : (bs : List Body) (a : ℕ) → operator_moved bs a ≡ option_and_then (λ (b : Body). operator_place b.runs.items b.new_end a) (body_with_address bs a)
+operator_of_body [] a = refl
+operator_of_body (b ∷ bs) a = operator_by b bs a (has_address b a) (operator_of_body bs a) refl
 
 written_by : (b : Body) (bs : List Body) (a : ℕ) (test : Bool) → ends_written_at bs a ≡ option_map_or (λ (c : Body). ends_written c.runs.items a) (body_with_address bs a) false → has_address b a ≡ test
     → ends_written_at (b ∷ bs) a ≡ option_map_or (λ (c : Body). ends_written c.runs.items a) (body_with_address (b ∷ bs) a) false

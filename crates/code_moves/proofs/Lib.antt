@@ -9,3 +9,5 @@ pub mod BodyLaws
 -- the runs of a body while its operators are pushed
 pub mod Building
 pub mod NextRuns
+-- examples
+mod Examples

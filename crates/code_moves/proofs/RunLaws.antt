@@ -1,11 +1,11 @@
 -- Where an address goes in a body, by its runs.
-use Rattle.std.proofs.Common.{inl, inr, ◌≡◌, ℕ, suc, ◌+◌, ◌-◌, ◌<◌, ◌≤◌, List, [], ◌∷◌, ◌++◌, refl, sym, subst, ◌∙◌, arith}
+use Rattle.std.proofs.Common.{inl, inr, ◌≡◌, ℕ, suc, ◌+◌, ◌-◌, ◌<◌, ◌≤◌, List, [], ◌∷◌, ◌++◌, Some, None, refl, sym, ap, subst, ◌∙◌, arith}
 use Rattle.std.specs.Prelude.{min, ◌⊎◌, Any}
-use Rattle.std.proofs.lemmas.Bool.{cases_lt}
+use Rattle.std.proofs.lemmas.Bool.{cases_lt, lt-ltb, le-ltb}
 use Rattle.code_moves.specs.declared.run.Run.{Run}
 use Rattle.code_moves.specs.Order.{AreRunsOfCode}
-use Rattle.code_moves.specs.Moves.{first_gap, new_place, IsWrittenAt}
-use Rattle.code_moves.proofs.RunSearch.{runs_end, place_before, place_in, place_after}
+use Rattle.code_moves.specs.Moves.{first_gap, new_place, operator_place, own_before, IsWrittenAt}
+use Rattle.code_moves.proofs.RunSearch.{runs_end, place_before, place_in, place_after, operator_before, operator_in, operator_after}
 
 -- before the run's second byte, inside of it, or after it
 abbrev pub PlaceCases : Run → List Run → (new_end a : ℕ) → Type 0
@@ -123,6 +123,43 @@ place_past from new_from (r ∷ rs) end new_end runs a old own (inr later) lt =
       | inr (inl inside) ↦ absurd (omega arith)
       | inr (inr past) ↦ omega arith
     ]
+
+-- ---- the place of an operator
+
+own_within : (limit own : ℕ) → own < limit → own_before limit own ≡ Some own
+own_within limit own lt = rw (lt-ltb own limit lt) refl
+
+own_past : (limit own : ℕ) → limit ≤ own → own_before limit own ≡ None
+own_past limit own le = rw (le-ltb own limit le) refl
+
+pub operator_of_written : (from new_from : ℕ) (rs : List Run) (end new_end : ℕ) → AreRunsOfCode from new_from rs end new_end → (old own : ℕ) → IsWrittenAt rs new_end old own
+    → operator_place rs new_end old ≡ Some own
+operator_of_written from new_from [] end new_end runs old own none = elim none [ ]
+operator_of_written from new_from (r ∷ rs) end new_end runs old own (inl here) =
+    operator_in r rs new_end old here.0 here.1 ∙ own_within (first_gap rs new_end) (r.own + (old - r.old)) (omega arith) ∙ ap (λ n. Some n) (sym here.2)
+operator_of_written from new_from (r ∷ rs) end new_end runs old own (inr later) =
+    let within = written_within r.end (suc r.own) rs end new_end runs.1 old own later in
+    operator_after r rs new_end old runs.0.0.1 within.0 ∙ operator_of_written r.end (suc r.own) rs end new_end runs.1 old own later
+
+written_in_run : (r : Run) (rs : List Run) (new_end old own : ℕ) → r.old ≤ old → old < r.end → own_before (first_gap rs new_end) (r.own + (old - r.old)) ≡ Some own → IsWrittenAt (r ∷ rs) new_end old own
+written_in_run r rs new_end old own low high is = elim (cases_lt (r.own + (old - r.old)) (first_gap rs new_end)) [
+  | inl lt ↦
+      let within = own_within (first_gap rs new_end) (r.own + (old - r.old)) lt in
+      let same : own ≡ r.own + (old - r.old) = cc in
+      inl (low, high, same, omega arith)
+  | inr le ↦ absurd (cc (own_past (first_gap rs new_end) (r.own + (old - r.old)) le, is))
+]
+
+pub written_of_operator : (from new_from : ℕ) (rs : List Run) (end new_end : ℕ) → AreRunsOfCode from new_from rs end new_end → (old own : ℕ) → operator_place rs new_end old ≡ Some own
+    → IsWrittenAt rs new_end old own
+written_of_operator from new_from [] end new_end runs old own is = absurd (cc (is))
+written_of_operator from new_from (r ∷ rs) end new_end runs old own is = elim (cases_lt old r.old) [
+  | inl before ↦ absurd (cc (operator_before r rs new_end old before, is))
+  | inr low ↦ elim (cases_lt old r.end) [
+    | inl high ↦ written_in_run r rs new_end old own low high (sym (operator_in r rs new_end old low high) ∙ is)
+    | inr past ↦ inr (written_of_operator r.end (suc r.own) rs end new_end runs.1 old own (sym (operator_after r rs new_end old runs.0.0.1 past) ∙ is))
+  ]
+]
 
 -- ---- what is at a place
 

@@ -1,5 +1,5 @@
 -- The runs of a body up to where a bisection by their ends ends.
-use Rattle.std.proofs.Common.{◌≡◌, ℕ, zero, suc, ◌+◌, ◌-◌, ◌<◌, ◌≤◌, true, ltb, List, [], ◌∷◌, drop, refl, ◌∙◌, arith}
+use Rattle.std.proofs.Common.{◌≡◌, ℕ, zero, suc, ◌+◌, ◌-◌, ◌<◌, ◌≤◌, true, ltb, List, [], ◌∷◌, None, drop, refl, ◌∙◌, arith}
 use Rattle.std.specs.Prelude.{min}
 use Rattle.std.specs.List.{AllWithin}
 use Rattle.std.specs.List.Sorted.{IsNonDecreasingBy}
@@ -8,7 +8,7 @@ use Rattle.std.proofs.lemmas.Bool.Decides.{nat_tests}
 use lib.Dec.{leb}
 use Rattle.code_moves.specs.declared.run.Run.{Run}
 use Rattle.code_moves.specs.Order.{AreRunsOfCode}
-use Rattle.code_moves.specs.Moves.{first_gap, new_place, ends_written}
+use Rattle.code_moves.specs.Moves.{first_gap, new_place, operator_place, own_before, ends_written}
 use Rattle.code_moves.proofs.Bisection.{RiseFrom, rise}
 
 ends_from : (from new_from : ℕ) (rs : List Run) (end new_end : ℕ) → AreRunsOfCode from new_from rs end new_end → RiseFrom (λ (r : Run). r.end) from rs
@@ -38,6 +38,15 @@ place_in r rs new_end a low high = rw (lt-leb a r.old low, lt-ltb a r.end high) 
 pub place_after : (r : Run) (rs : List Run) (new_end a : ℕ) → r.old < r.end → r.end ≤ a → new_place (r ∷ rs) new_end a ≡ new_place rs new_end a
 place_after r rs new_end a some le = rw (lt-leb a r.old (omega arith), le-ltb a r.end le) refl
 
+pub operator_before : (r : Run) (rs : List Run) (new_end a : ℕ) → a < r.old → operator_place (r ∷ rs) new_end a ≡ None
+operator_before r rs new_end a before = rw (lt-ltb a r.old before) refl
+
+pub operator_in : (r : Run) (rs : List Run) (new_end a : ℕ) → r.old ≤ a → a < r.end → operator_place (r ∷ rs) new_end a ≡ own_before (first_gap rs new_end) (r.own + (a - r.old))
+operator_in r rs new_end a low high = rw (le-ltb a r.old low, lt-ltb a r.end high) refl
+
+pub operator_after : (r : Run) (rs : List Run) (new_end a : ℕ) → r.old < r.end → r.end ≤ a → operator_place (r ∷ rs) new_end a ≡ operator_place rs new_end a
+operator_after r rs new_end a some le = rw (le-ltb a r.old (omega arith), le-ltb a r.end le) refl
+
 -- ---- the runs that are passed
 
 pub place_passes : (from new_from : ℕ) (rs : List Run) (end new_end : ℕ) → AreRunsOfCode from new_from rs end new_end → (a at : ℕ) → AllWithin (λ (r : Run). leb r.end a ≡ true) rs 0 at
@@ -47,6 +56,14 @@ place_passes from new_from [] end new_end runs a (suc at) by = refl
 place_passes from new_from (r ∷ rs) end new_end runs a (suc at) by =
     place_after r rs new_end a runs.0.0.1 (leb-true r.end a (by 0 r (omega arith) (omega arith)))
     ∙ place_passes r.end (suc r.own) rs end new_end runs.1 a at (λ k d low high. by (suc k) d (omega arith) (omega arith))
+
+pub operator_passes : (from new_from : ℕ) (rs : List Run) (end new_end : ℕ) → AreRunsOfCode from new_from rs end new_end → (a at : ℕ) → AllWithin (λ (r : Run). leb r.end a ≡ true) rs 0 at
+    → operator_place rs new_end a ≡ operator_place (drop at rs) new_end a
+operator_passes from new_from rs end new_end runs a zero by = refl
+operator_passes from new_from [] end new_end runs a (suc at) by = refl
+operator_passes from new_from (r ∷ rs) end new_end runs a (suc at) by =
+    operator_after r rs new_end a runs.0.0.1 (leb-true r.end a (by 0 r (omega arith) (omega arith)))
+    ∙ operator_passes r.end (suc r.own) rs end new_end runs.1 a at (λ k d low high. by (suc k) d (omega arith) (omega arith))
 
 pub ends_written_passes : (from new_from : ℕ) (rs : List Run) (end new_end : ℕ) → AreRunsOfCode from new_from rs end new_end → (a at : ℕ) → AllWithin (λ (r : Run). ltb r.end a ≡ true) rs 0 at
     → ends_written rs a ≡ ends_written (drop at rs) a

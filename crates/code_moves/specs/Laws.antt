@@ -5,7 +5,7 @@ use Rattle.std.specs.List.{AllByRecursion}
 use Rattle.code_moves.specs.declared.run.Run.{Run}
 use Rattle.code_moves.specs.declared.body.Body.{Body}
 use Rattle.code_moves.specs.OrderedBodies.{AreOrdered}
-use Rattle.code_moves.specs.Moves.{first_gap, body_with_address, new_address, IsWrittenAt}
+use Rattle.code_moves.specs.Moves.{first_gap, body_with_address, new_address, operator_moved, IsWrittenAt}
 
 -- an address of some body
 abbrev pub IsOfABody : List Body → (address : ℕ) → Type 0
@@ -42,6 +42,10 @@ IsPlace b a new = (new ≡ b.new_begin) ⊎ ((new ≡ b.new_end) ⊎ (Any (λ r.
 
 abbrev pub Places : Type 0
 Places = (bs : List Body) (b : Body) (a : ℕ) → body_with_address bs a ≡ Some b → IsPlace b a (new_address bs a)
+
+-- The place of an operator is told exactly if the operator is written, and is where it is written.
+abbrev pub Operators : Type 0
+Operators = (bs : List Body) (old own : ℕ) → IsWrittenIn bs old own ↔ (operator_moved bs old ≡ Some own)
 
 -- The end of the last operator of a run goes to the end of what is written for it; that of another one to the operator after it.
 abbrev pub Calls : Type 0

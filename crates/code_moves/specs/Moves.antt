@@ -3,6 +3,7 @@
 -- goes to the next operator that is; and that is where what is added in front of it begins, since what is added runs in the
 -- state that the source has before the operator.
 use Rattle.std.specs.Prelude.{◌≡◌, ◌<◌, ◌≤◌, ◌⊎◌, ℕ, List, [], ◌∷◌, ◌+◌, ◌-◌, Bool, true, false, ◌&&◌, nat_lt, nat_le, nat_eq, min, if◌then◌else◌, Option, Some, None}
+use Rattle.std.specs.Bool.{then_some}
 use Rattle.code_moves.specs.declared.run.Run.{Run}
 use Rattle.code_moves.specs.declared.body.Body.{Body}
 use Rattle.code_moves.specs.declared.body.LocalMove.{LocalMove}
@@ -25,6 +26,18 @@ abbrev pub IsWrittenAt : List Run → (new_end : ℕ) → (old own : ℕ) → Ty
 IsWrittenAt [] new_end old own = ⊥
 IsWrittenAt (r ∷ rs) new_end old own =
     ((r.old ≤ old) × (old < r.end) × (own ≡ r.own + (old - r.old)) × (own < first_gap rs new_end)) ⊎ IsWrittenAt rs new_end old own
+
+-- the place of an operator, unless what follows is written first
+abbrev pub own_before : (limit own : ℕ) → Option ℕ
+own_before limit own = then_some (nat_lt own limit) own
+
+-- where the operator at this address is itself written, after what is added in front of it, if it is written
+abbrev pub operator_place : List Run → (new_end : ℕ) → (address : ℕ) → Option ℕ
+operator_place [] new_end a = None
+operator_place (r ∷ rs) new_end a =
+    if nat_lt a r.old then None
+    else if nat_lt a r.end then own_before (first_gap rs new_end) (r.own + (a - r.old))
+    else operator_place rs new_end a
 
 -- whether the address is of the body: its first byte, its end, or between them
 abbrev pub has_address : Body → (address : ℕ) → Bool
@@ -73,3 +86,8 @@ new_local_in b local = if nat_lt local b.parameters then Some local else new_ind
 abbrev pub ends_written_at : List Body → (address : ℕ) → Bool
 ends_written_at [] a = false
 ends_written_at (b ∷ bs) a = if has_address b a then ends_written b.runs.items a else ends_written_at bs a
+
+-- operator_place in the body that has the address
+abbrev pub operator_moved : List Body → (address : ℕ) → Option ℕ
+operator_moved [] a = None
+operator_moved (b ∷ bs) a = if has_address b a then operator_place b.runs.items b.new_end a else operator_moved bs a

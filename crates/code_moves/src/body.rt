@@ -52,7 +52,7 @@ pub struct Body {
 
 impl Body {
     ghost use Rattle.std.specs.Prelude.{◌≡◌, drop};
-    ghost use Rattle.code_moves.specs.Moves.{new_place, moved_in, first_gap, ends_written, new_local_in};
+    ghost use Rattle.code_moves.specs.Moves.{new_place, moved_in, first_gap, operator_place, ends_written, new_local_in};
 
     // Where the first of the runs from this index on begins, with what is added in front of it, or else the new end.
     fn gap_from(&self, index: usize) -> u64
@@ -90,6 +90,22 @@ impl Body {
             return Some(u64::from(self.new_begin));
         }
         Some(self.place(address as u32))
+    }
+
+    /// Where the operator at this address is itself written, or None if it isn't. Takes time logarithmic in the number of runs.
+    pub fn operator(&self, address: u64) -> Option<u64>
+        ensures { result ≡ operator_place self.now.runs.items self.now.new_end address }
+    {
+        let index = self
+            .runs
+            .partition_point(|run| u64::from(run.end) <= address);
+        let run = self.runs.get(index)?;
+        let (old, end) = (u64::from(run.old), u64::from(run.end));
+        if address < old || end <= address {
+            return None;
+        }
+        let own = u64::from(run.own) + (address - old);
+        (own < self.gap_from(index + 1)).then_some(own)
     }
 
     /// Whether an operator that ends at this address is written. Takes time logarithmic in the number of runs.

@@ -12,7 +12,7 @@ mod runs;
 
 pub use body::{Body, LocalMove};
 pub use fault::MoveError;
-pub use laws::{law_calls, law_places, law_ranges, law_rows, law_sorted};
+pub use laws::{law_calls, law_operators, law_places, law_ranges, law_rows, law_sorted};
 pub use moves::Moves;
 pub use run::Run;
 pub use runs::Runs;

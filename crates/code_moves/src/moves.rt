@@ -16,7 +16,7 @@ pub struct Moves {
 impl Moves {
     ghost use Rattle.std.specs.Prelude.{◌≡◌, ◌++◌, ◌∷◌, [], ◌↔◌, IsTrue, Err, OnOk, OnErr};
     ghost use Rattle.std.specs.Option.{option_copied};
-    ghost use Rattle.code_moves.specs.Moves.{address_moved, body_with_address, ends_written_at};
+    ghost use Rattle.code_moves.specs.Moves.{address_moved, body_with_address, operator_moved, ends_written_at};
     ghost use Rattle.code_moves.specs.declared.fault.MoveError.TheVariants.{Disordered};
 
     /// The moves of a module without bodies. This allocates nothing.
@@ -74,6 +74,13 @@ impl Moves {
         ensures { result ≡ address_moved self.now.bodies.items address }
     {
         self.body(address)?.address(address)
+    }
+
+    /// Where the operator at this address is itself written, or None if it isn't. Takes time logarithmic in the numbers of bodies and runs.
+    pub fn operator(&self, address: u64) -> Option<u64>
+        ensures { result ≡ operator_moved self.now.bodies.items address }
+    {
+        self.body(address)?.operator(address)
     }
 
     /// Whether an operator that ends at this address is written. Takes time logarithmic in the numbers of bodies and runs.

@@ -1,8 +1,8 @@
 -- What becomes of the values of attributes when the code moves (DWARF 5, sections 2.17, 3.3, 3.4 and 7.5).
-use Rattle.std.specs.Prelude.{ℕ, ◌+◌, ◌-◌, ◌^◌, Bool, true, false, not, ◌&&◌, ◌||◌, ◌==◌, nat_lt, nat_le, if◌then◌else◌, is_some, List, [], ◌∷◌, Option, Some, None, Result, Ok, Err}
+use Rattle.std.specs.Prelude.{ℕ, ◌+◌, ◌-◌, ◌^◌, Bool, true, false, not, ◌&&◌, ◌||◌, ◌==◌, nat_lt, nat_le, if◌then◌else◌, is_some, unwrap_or, List, [], ◌∷◌, Option, Some, None, Result, Ok, Err}
 use Rattle.wasm_numbers.specs.Results.{◌>>=◌}
 use Rattle.code_moves.specs.declared.body.Body.{Body}
-use Rattle.code_moves.specs.Moves.{address_moved, new_address, ends_written_at}
+use Rattle.code_moves.specs.Moves.{address_moved, new_address, operator_moved, ends_written_at}
 use Rattle.dwarf_bytes.specs.declared.addresses.Address.{Address}
 use Rattle.dwarf_bytes.specs.declared.fault.DebugFault.{DebugFault}
 use Rattle.dwarf_bytes.specs.declared.fault.DebugFault.TheVariants.{Unsupported}
@@ -83,6 +83,14 @@ return_moved greatest is_written address (Some new) = if is_written then new els
 abbrev pub new_return : EntryContext → (address : ℕ) → ℕ
 new_return c address = return_moved (greatest_address c.encoding) (ends_written_at c.bodies address) address (address_moved c.bodies address)
 
+-- A call is where it is itself written, after what is added in front of it (section 3.4.1). If it isn't written, it becomes no address.
+abbrev pub call_moved : (greatest : ℕ) → (own : Option ℕ) → (address : ℕ) → (new : Option ℕ) → ℕ
+call_moved greatest own address None = address
+call_moved greatest own address (Some new) = unwrap_or own greatest
+
+abbrev pub new_call : EntryContext → (address : ℕ) → ℕ
+new_call c address = call_moved (greatest_address c.encoding) (operator_moved c.bodies address) address (address_moved c.bodies address)
+
 -- whether the code of an entry begins in a body
 abbrev pub begins_in_body : EntryContext → Option ℕ → Bool
 begins_in_body c None = false
@@ -90,12 +98,12 @@ begins_in_body c (Some low) = is_some (address_moved c.bodies low)
 
 -- What an address becomes that is the value of this attribute. GNU's call sites have the end of the call as their first address. A range
 -- that begins in no body stays whole.
-abbrev pub new_attribute_address : EntryContext → Meaning → (address : ℕ) → Result ℕ DebugFault
-new_attribute_address c means.LowPc address = Ok (if c.tag == gnu_call_site then new_return c address else new_address c.bodies address)
-new_attribute_address c means.CallReturnPc address = Ok (new_return c address)
-new_attribute_address c means.CallPc address = Err Unsupported
-new_attribute_address c means.HighPc address = Ok (if begins_in_body c c.low then new_address c.bodies address else address)
-new_attribute_address c _ address = Ok (new_address c.bodies address)
+abbrev pub new_attribute_address : EntryContext → Meaning → (address : ℕ) → ℕ
+new_attribute_address c means.LowPc address = if c.tag == gnu_call_site then new_return c address else new_address c.bodies address
+new_attribute_address c means.CallReturnPc address = new_return c address
+new_attribute_address c means.CallPc address = new_call c address
+new_attribute_address c means.HighPc address = if begins_in_body c c.low then new_address c.bodies address else address
+new_attribute_address c _ address = new_address c.bodies address
 
 -- an address that is named by index: one that becomes no address gets another index, since the address may be used elsewhere
 abbrev pub index_effect : (greatest : ℕ) → Address → (new : ℕ) → Effect
@@ -104,8 +112,7 @@ index_effect greatest a new = if (new == greatest) && not (new == a.value) then 
 abbrev pub effect_of_index : EntryContext → Meaning → (index : ℕ) → Result Effect DebugFault
 effect_of_index c m index =
     indexed_address c.bases.addresses index >>= λ a.
-    new_attribute_address c m a.value >>= λ new.
-    Ok (index_effect (greatest_address c.encoding) a new)
+    Ok (index_effect (greatest_address c.encoding) a (new_attribute_address c m a.value))
 
 -- ---- lengths
 
@@ -189,7 +196,7 @@ effect_of_constant c m f v =
     else effect_by_meaning c m f v
 
 abbrev pub effect_of_class : EntryContext → Meaning → Form → SpelledValue → FormClass → Result Effect DebugFault
-effect_of_class c m f v forms.Address = new_attribute_address c m v.number >>= λ new. Ok (effects.Number new)
+effect_of_class c m f v forms.Address = Ok (effects.Number (new_attribute_address c m v.number))
 effect_of_class c m f v forms.AddressIndex = effect_of_index c m v.number
 effect_of_class c m f v forms.ListIndex = Ok (effect_of_list_index c m v.number)
 effect_of_class c m f v forms.Constant = effect_of_constant c m f v

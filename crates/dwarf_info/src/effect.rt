@@ -1,7 +1,7 @@
 //! What becomes of the value of an attribute (DWARF 5, sections 2.17, 3.3, 3.4 and 7.5).
 
 ghost use Rattle.std.specs.Prelude.{◌≡◌, ◌+◌};
-ghost use Rattle.dwarf_info.specs.Effects.{greatest_address, new_return, begins_in_body, new_attribute_address, index_effect, effect_of_index, end_moved, length_between, new_length, may_be_length, effect_of_list_index, is_expression_of, begins_with_address, effect_of_expression, stays_unless, effect_of_other, effect_by_meaning, effect_of_constant, effect_of};
+ghost use Rattle.dwarf_info.specs.Effects.{greatest_address, new_return, new_call, begins_in_body, new_attribute_address, index_effect, effect_of_index, end_moved, length_between, new_length, may_be_length, effect_of_list_index, is_expression_of, begins_with_address, effect_of_expression, stays_unless, effect_of_other, effect_by_meaning, effect_of_constant, effect_of};
 ghost use Rattle.dwarf_info.specs.Contexts.{context_of_entry};
 ghost use Rattle.dwarf_info.specs.Views.{value_spelled};
 
@@ -48,6 +48,19 @@ fn moved_return(context: &Context<'_>, address: u64) -> u64
     }
 }
 
+// What the address of a call becomes: where the call is itself written, and no address if it isn't.
+fn moved_call(context: &Context<'_>, address: u64) -> u64
+    ensures { result ≡ new_call (context_of_entry context.now) address }
+{
+    match context.moves.address(address) {
+        Some(_) => context
+            .moves
+            .operator(address)
+            .unwrap_or(context.encoding.greatest_address()),
+        None => address,
+    }
+}
+
 // Whether the code of the entry begins in a body.
 fn begins_in_body(context: &Context<'_>) -> bool
     ensures { result ≡ begins_in_body (context_of_entry context.now) context.now.low }
@@ -59,16 +72,16 @@ fn begins_in_body(context: &Context<'_>) -> bool
 }
 
 // What an address becomes that is the value of this attribute.
-fn moved_address(context: &Context<'_>, meaning: Meaning, address: u64) -> Result<u64, DebugFault>
+fn moved_address(context: &Context<'_>, meaning: Meaning, address: u64) -> u64
     ensures { result ≡ new_attribute_address (context_of_entry context.now) meaning address }
 {
     match meaning {
-        Meaning::LowPc if context.tag == GNU_CALL_SITE => Ok(moved_return(context, address)),
-        Meaning::CallReturnPc => Ok(moved_return(context, address)),
-        Meaning::CallPc => Err(DebugFault::Unsupported),
+        Meaning::LowPc if context.tag == GNU_CALL_SITE => moved_return(context, address),
+        Meaning::CallReturnPc => moved_return(context, address),
+        Meaning::CallPc => moved_call(context, address),
         // a range that begins in no body stays whole
-        Meaning::HighPc if !begins_in_body(context) => Ok(address),
-        _ => Ok(context.moves.address(address).unwrap_or(address)),
+        Meaning::HighPc if !begins_in_body(context) => address,
+        _ => context.moves.address(address).unwrap_or(address),
     }
 }
 
@@ -93,7 +106,7 @@ fn effect_of_index(
     ensures { result ≡ effect_of_index (context_of_entry context.now) meaning index }
 {
     let address = context.bases.addresses.get(index)?;
-    let new = moved_address(context, meaning, address.value)?;
+    let new = moved_address(context, meaning, address.value);
     let greatest = context.encoding.greatest_address();
     Ok(index_effect(greatest, address, new))
 }
@@ -250,7 +263,7 @@ pub fn effect_of(
 {
     match form.class {
         FormClass::Address => {
-            let new = moved_address(context, meaning, value.number)?;
+            let new = moved_address(context, meaning, value.number);
             Ok(Effect::Number(new))
         }
         FormClass::AddressIndex => effect_of_index(context, meaning, value.number),

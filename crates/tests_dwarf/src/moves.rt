@@ -71,6 +71,31 @@ fn addresses(rt: HostRuntime) -> Result<(), Fail> {
 }
 
 #[test]
+fn operators(rt: HostRuntime) -> Result<(), Fail> {
+    let moves = module(rt.alloc())?;
+    let expected = [
+        (10, None),
+        (11, Some(6)),
+        (13, None),
+        (16, Some(9)),
+        (20, Some(12)),
+        (21, None),
+        (22, None),
+        (25, None),
+        (26, None),
+        (27, Some(21)),
+        (28, Some(26)),
+        (29, Some(27)),
+        (31, None),
+        (u64::MAX, None),
+    ];
+    for (address, own) in expected {
+        assert_eq!(rt; moves.operator(address), own, "at {address}");
+    }
+    Ok(())
+}
+
+#[test]
 fn ends(rt: HostRuntime) -> Result<(), Fail> {
     let moves = module(rt.alloc())?;
     let expected = [

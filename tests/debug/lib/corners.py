@@ -389,9 +389,9 @@ def expressions(with_locals, with_entries):
 CORNERS = {
     "forms-2": lambda: forms(2), "forms-3": lambda: forms(3), "forms-4": lambda: forms(4), "forms-4-of-64-bits": lambda: forms(4, 8),
     "old-lists": old_lists, "new-lists": new_sections, "lines": lambda: lines("usual"), "expressions": lambda: expressions(True, False),
-    "expressions-with-entries": lambda: expressions(False, True),
+    "expressions-with-entries": lambda: expressions(False, True), "places-of-calls": lambda: forms(4, odd=["places"]),
     # what the programs may carry over as it is
-    "odd-places-of-calls": lambda: forms(4, odd=["places"]), "odd-signed-length": lambda: forms(4, odd=["sign"]),
+    "odd-signed-length": lambda: forms(4, odd=["sign"]),
     "odd-argument-4": lambda: forms(4, odd=["argument"]), "odd-argument-5": lambda: new_sections(has_argument=True),
     "odd-default-location": lambda: new_sections(b"\5" + sized(local(SHRINKING))),
     "odd-lines-without-end": lambda: lines("without end"), "odd-lines-without-constant": lambda: lines("without constant"),

@@ -16,7 +16,7 @@ use Rattle.dwarf_info.specs.declared.moved.ListPlace.TheVariants as lists
 use Rattle.dwarf_info.specs.declared.moved.ListUse.{ListUse}
 use Rattle.dwarf_info.specs.declared.scope.Scope.TheVariants as scopes
 use Rattle.dwarf_info.specs.Forms.{SpelledValue}
-use Rattle.dwarf_info.specs.Effects.{EntryContext, scope_of_entry, length_between, return_moved, effect_of}
+use Rattle.dwarf_info.specs.Effects.{EntryContext, scope_of_entry, length_between, return_moved, call_moved, effect_of}
 
 abbrev encoded : (version : ℕ) → Encoding
 encoded version = record { version = version; format = Dwarf32; address_size = Four }
@@ -66,7 +66,8 @@ low_pc : effect_of (entry 4 0x2e (Some 5)) means.LowPc (form forms.Address Addre
 unfolding effect_of
 low_pc = refl
 
-call_pc : effect_of (entry 5 0x48 (Some 5)) means.CallPc (form forms.Address AddressSize) (value 5 []) ≡ Err Unsupported
+-- the address of a call that is removed along with its function
+call_pc : effect_of (entry 5 0x48 (Some 5)) means.CallPc (form forms.Address AddressSize) (value 5 []) ≡ Ok (effects.Number 5)
 unfolding effect_of
 call_pc = refl
 
@@ -148,3 +149,13 @@ returns_nowhere = refl
 
 of_no_body : return_moved 0xffff_ffff false 12 None ≡ 12
 of_no_body = refl
+
+-- a call at 12 that is itself written at 41, after what is added in front of it at 36; and one that isn't written
+call_goes : call_moved 0xffff_ffff (Some 41) 12 (Some 36) ≡ 41
+call_goes = refl
+
+call_goes_nowhere : call_moved 0xffff_ffff None 12 (Some 36) ≡ 0xffff_ffff
+call_goes_nowhere = refl
+
+call_of_no_body : call_moved 0xffff_ffff None 12 None ≡ 12
+call_of_no_body = refl
