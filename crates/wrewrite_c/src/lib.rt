@@ -127,10 +127,7 @@ pub extern "C" fn wrewrite_raw_validate(alloc: Global, source: &[u8]) -> Outcome
 {
     match validating::validate(alloc, source) {
         Ok(()) => Outcome::of_sizes(outcome::DONE, 0, 0),
-        Err(stop) => match validating::text_of_refusal(alloc, source, stop) {
-            Some(text) => Outcome::of_stop_with(stop, &text),
-            None => Outcome::of_stop(stop),
-        },
+        Err(stop) => validating::outcome_of(alloc, source, stop),
     }
 }
 

@@ -97,7 +97,7 @@ impl Stop {
 }
 
 /// The bytes of a text. What doesn't fit is left out.
-fn text_of<D: fmt::Display + Drop>(text: D) -> [u8; TEXT_SIZE] {
+pub(crate) fn text_of<D: fmt::Display + Drop>(text: D) -> [u8; TEXT_SIZE] {
     let mut bytes = [0; TEXT_SIZE];
     let mut room = &mut bytes[..TEXT_SIZE - 1];
     let _ = write!(room, "{text}");
@@ -143,7 +143,7 @@ impl RefusedModule {
     }
 
     /// The text of the fault.
-    fn text(&self) -> [u8; TEXT_SIZE] {
+    pub(crate) fn text(&self) -> [u8; TEXT_SIZE] {
         text_of(FaultText(self.error.fault))
     }
 }
@@ -206,15 +206,14 @@ impl Outcome {
         }
     }
 
-    /// Of a call that met a fault.
-    fn of_refused(refused: RefusedModule) -> Outcome
+    /// Of a call that met a fault, with this text.
+    pub(crate) fn of_refused(refused: RefusedModule, text: [u8; TEXT_SIZE]) -> Outcome
         ensures refused { IsOfRefused refused result }
         ensures sizes { HasSizes 0 0 result }
     {
         let status = refused.status();
         let place = refused.place();
         let function = refused.index();
-        let text = refused.text();
         Outcome {
             status,
             warnings: 0,
@@ -226,19 +225,8 @@ impl Outcome {
         }
     }
 
-    /// Of a call that made nothing, with this text.
-    pub(crate) fn of_stop_with(stop: Stop, text: &str) -> Outcome
-        ensures stopped { IsStopped stop result }
-        ensures sizes { HasSizes 0 0 result }
-    {
-        Outcome {
-            text: text_of(text),
-            ..Outcome::of_stop(stop)
-        }
-    }
-
     /// Of a call that was asked for a function without a body.
-    fn of_missing(function: usize) -> Outcome
+    pub(crate) fn of_missing(function: usize) -> Outcome
         ensures status { result.status ≡ 2 }
         ensures function { result.function ≡ function }
         ensures sizes { HasSizes 0 0 result }
@@ -255,7 +243,7 @@ impl Outcome {
         ensures sizes { HasSizes 0 0 result }
     {
         match stop {
-            Stop::Refused(refused) => Outcome::of_refused(refused),
+            Stop::Refused(refused) => Outcome::of_refused(refused, refused.text()),
             Stop::NoFunction(index) => Outcome::of_missing(index),
         }
     }

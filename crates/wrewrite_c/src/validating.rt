@@ -1,9 +1,9 @@
 //! Modules that are validated: nothing is made of them, and nothing is written.
 
 ghost use Rattle.std.specs.Prelude.{IfErr, OnOk};
-ghost use Rattle.wrewrite_c.specs.Outcomes.{IsValidModule, IsOfValidation};
+ghost use Rattle.wrewrite_c.specs.Outcomes.{HasSizes, IsOfRefused, IsStopped, IsValidModule, IsOfValidation};
 
-use crate::outcome::{RefusedModule, Stop};
+use crate::outcome::{Outcome, RefusedModule, Stop, TEXT_SIZE, text_of};
 use crate::reading::read;
 use module_tools::function_at;
 use module_validator::refusal_text;
@@ -27,13 +27,30 @@ pub(crate) fn validate(alloc: Global, source: &[u8]) -> Result<(), Stop>
     }
 }
 
-/// The text of a refusal, as the programs print it; `None` if there is no memory for it.
-pub(crate) fn text_of_refusal(alloc: Global, source: &[u8], stop: Stop) -> Option<String> {
-    let Stop::Refused(refused) = stop else {
-        return None;
-    };
+/// The text of a refusal, as the programs print it; without an operand if there is no memory for it.
+fn text_of_refusal(alloc: Global, source: &[u8], refused: &RefusedModule) -> [u8; TEXT_SIZE] {
     match refusal_text(alloc, source, &refused.error) {
-        Ok(text) => Some(text),
-        Err(_) => None,
+        Ok(text) => text_of(text),
+        Err(_) => refused.text(),
+    }
+}
+
+/// The outcome of a validation that is refused so.
+fn outcome_of_refused(alloc: Global, source: &[u8], refused: RefusedModule) -> Outcome
+    ensures refused { IsOfRefused refused result }
+    ensures sizes { HasSizes 0 0 result }
+{
+    let text = text_of_refusal(alloc, source, &refused);
+    Outcome::of_refused(refused, text)
+}
+
+/// The outcome of a validation that stopped so.
+pub(crate) fn outcome_of(alloc: Global, source: &[u8], stop: Stop) -> Outcome
+    ensures stopped { IsStopped stop result }
+    ensures sizes { HasSizes 0 0 result }
+{
+    match stop {
+        Stop::Refused(refused) => outcome_of_refused(alloc, source, refused),
+        Stop::NoFunction(index) => Outcome::of_missing(index),
     }
 }
