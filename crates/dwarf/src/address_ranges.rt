@@ -85,7 +85,7 @@ fn move_table(
     let at = table.at();
     let offset_size = format.offset_size();
     let unit = table.sized(offset_size)?;
-    let new = moved_offset(info, unit)?;
+    let new = moved_offset(info, unit);
     replace_number(at, offset_size, unit, new, scratch, patches)?;
     let size = match table.sized(Size::One)? {
         4 => Size::Four,

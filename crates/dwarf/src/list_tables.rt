@@ -2,8 +2,8 @@
 
 ghost use Rattle.std.specs.Prelude.{◌<◌, length, OnOk};
 
-use dwarf_bytes::{Cursor, DebugError, MergedPatches, Patches, Size, write_sized};
-use dwarf_info::{follow_length, moved_distance};
+use dwarf_bytes::{Cursor, DebugError, MergedPatches, Patches, Size};
+use dwarf_info::{follow_length, follow_number, moved_distance};
 use std::alloc::Global;
 
 /// Moves the length and the offsets of the next table.
@@ -28,11 +28,7 @@ fn follow_table(
         let at = table.at();
         let offset = table.sized(size)?;
         let new = moved_distance(own, base, offset)?;
-        if new != offset {
-            scratch.clear();
-            write_sized(scratch, size, new)?;
-            out.push(at, size.bytes(), scratch)?;
-        }
+        follow_number((at, size), offset, new, scratch, out)?;
     }
     Ok(())
 }

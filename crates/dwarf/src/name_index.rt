@@ -238,7 +238,7 @@ impl Following<'_> {
         while !left.is_empty() {
             let at = left.at();
             let unit = left.sized(size)?;
-            let new = moved_offset(self.info, unit)?;
+            let new = moved_offset(self.info, unit);
             replace_number(at, size, unit, new, scratch, out)?;
         }
         Ok(())

@@ -63,7 +63,7 @@ fn follow_table(
     let size = format.offset_size();
     let at = left.at();
     let unit = left.sized(size)?;
-    replace_number(at, size, unit, moved_offset(info, unit)?, scratch, out)?;
+    replace_number(at, size, unit, moved_offset(info, unit), scratch, out)?;
     let unit = usize::try_from(unit).map_err(|_| DebugFault::BadOffset)?;
     let at = left.at();
     let length = left.sized(size)?;

@@ -1,11 +1,11 @@
 -- What becomes of a section in which parts are replaced.
-use Rattle.std.proofs.Common.{◌≡◌, ℕ, zero, suc, ◌+◌, ◌-◌, ◌<◌, ◌≤◌, leb, List, [], ◌∷◌, ◌++◌, length, take, drop, slice_range, refl, sym, ap, ◌∙◌, inl, inr, ◌⊎◌, append_assoc, arith}
+use Rattle.std.proofs.Common.{◌≡◌, ℕ, zero, suc, ◌+◌, ◌-◌, ◌<◌, ◌≤◌, leb, eqb, eq-eqb, eqb-true, true, false, List, [], ◌∷◌, ◌++◌, length, take, drop, slice_range, refl, sym, ap, ◌∙◌, inl, inr, ◌⊎◌, append_assoc, arith}
 use Rattle.std.specs.List.{AllByRecursion, slice_get}
 use Rattle.std.proofs.lemmas.Bool.{leb-true, leb-false, cases_Bool}
 use Rattle.std.proofs.lemmas.List.{drop-drop, drop-take, drop-append-le, length-take, length-drop, length-take-le, take-take, take-append-drop, drop_all, append-nil}
 use Rattle.std.proofs.lemmas.Slice.{between_is}
 use Rattle.std.proofs.lemmas.List.Edits.{length-between}
-use Rattle.dwarf_bytes.specs.Changes.{SectionChange, AreChangesInOrder, end_from, patched_from, moved_offset_from, changes_after}
+use Rattle.dwarf_bytes.specs.Changes.{SectionChange, AreChangesInOrder, end_from, patched_from, moved_offset_from, changes_after, are_resized}
 
 drop_front : (xs ys : List ℕ) (n k : ℕ) → length xs ≡ n → drop (n + k) (xs ++ ys) ≡ drop k ys
 drop_front [] ys n k e = let z : n + k ≡ k = omega (arith, e) in rw z refl
@@ -151,3 +151,25 @@ end_more from (d ∷ cs) c = end_more (d.at + d.old) cs c
 pub end_append : (from : ℕ) (cs ds : List SectionChange) → end_from from (cs ++ ds) ≡ end_from (end_from from cs) ds
 end_append from [] ds = refl
 end_append from (c ∷ cs) ds = end_append (c.at + c.old) cs ds
+
+-- ---- no part of another size
+
+same_size : (c : SectionChange) (cs : List SectionChange) → are_resized (c ∷ cs) ≡ false → length c.new ≡ c.old
+same_size c cs same = elim (cases_Bool (eqb (length c.new) c.old)) [
+  | inl is ↦ eqb-true (length c.new) c.old is
+  | inr other ↦ let yes : are_resized (c ∷ cs) ≡ true = rw other refl in absurd (cc (yes, same))
+]
+
+same_rest : (c : SectionChange) (cs : List SectionChange) → are_resized (c ∷ cs) ≡ false → are_resized cs ≡ false
+same_rest c cs same = let is = eq-eqb (length c.new) c.old (same_size c cs same) in rw is at same
+
+pub keeps_offset : (from : ℕ) (cs : List SectionChange) (o : ℕ) → AreChangesInOrder from cs → are_resized cs ≡ false → moved_offset_from from cs o ≡ o - from
+keeps_offset from [] o order same = refl
+keeps_offset from (c ∷ cs) o order same = elim (cases_Bool (leb (c.at + c.old) o)) [
+  | inl before ↦
+      let reached = leb-true (c.at + c.old) o before in
+      let size : length c.new ≡ c.old = same_size c cs same in
+      let later = keeps_offset (c.at + c.old) cs o order.1 (same_rest c cs same) in
+      rw before (omega (arith, order.0, size, later))
+  | inr after ↦ rw after refl
+]

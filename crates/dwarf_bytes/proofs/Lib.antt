@@ -6,6 +6,7 @@ pub mod Padded
 -- the patches of a section
 pub mod PatchLemmas
 pub mod ChangeLaws
+pub mod MergingLemmas
 -- what a reader takes
 pub mod Local
 pub mod Shorter

@@ -1,12 +1,13 @@
 -- The patches of a section, as parts that are replaced.
-use Rattle.std.proofs.Common.{◌≡◌, ℕ, zero, suc, ◌+◌, ◌-◌, ◌<◌, ◌≤◌, true, false, leb, List, [], ◌∷◌, ◌++◌, length, take, drop, get_or, slice_range, refl, sym, ap, ◌∙◌, subst, append_assoc, length-append, arith}
-use Rattle.std.proofs.lemmas.Bool.{le-leb, lt-leb, leb-true, leb-false}
+use Rattle.std.proofs.Common.{◌≡◌, ℕ, zero, suc, ◌+◌, ◌-◌, ◌<◌, ◌≤◌, Bool, true, false, leb, eqb, Some, None, List, [], ◌∷◌, ◌++◌, length, take, drop, get_or, slice_range, refl, sym, ap, ◌∙◌, subst, append_assoc, length-append, arith}
+use Rattle.std.specs.Prelude.{slice_get}
+use Rattle.std.proofs.lemmas.Bool.{le-leb, lt-leb, leb-true, leb-false, eq-eqb, ne_eqb}
 use Rattle.std.specs.List.Sorted.{IsNonDecreasingBy, IsPartitionPoint}
 use Rattle.std.proofs.lemmas.List.{take-append-le, drop-append-le, drop_at, take_all, length-drop, length-take, length-take-le, get_or-take, drop_more, drop_all}
-use Rattle.dwarf_bytes.specs.Changes.{SectionChange, AreChangesInOrder, end_from, patched_from, moved_offset_from}
+use Rattle.dwarf_bytes.specs.Changes.{SectionChange, AreChangesInOrder, end_from, patched_from, moved_offset_from, are_resized}
 use Rattle.dwarf_bytes.specs.declared.patches.Patch.{Patch}
 use Rattle.dwarf_bytes.specs.Order.{IsCut, IsPatchFrom, ArePatches, no_patch, last_of}
-use Rattle.dwarf_bytes.specs.Patches.{changes_from}
+use Rattle.dwarf_bytes.specs.Patches.{changes_from, part_of}
 
 -- the patches follow this one
 abbrev pub Follow : Patch → List Patch → ℕ → Type 0
@@ -177,15 +178,17 @@ applied_more p left whole bytes section out from start a = record {
 }
 
 -- the patch at the index of a loop, whose list is that of the patches
+pub next_is : (ps list : List Patch) (index : ℕ) → list ≡ ps → index < length list → drop index ps ≡ get_or list index no_patch ∷ drop (index + 1) ps
+next_is ps list index same more =
+    ap (drop index) (sym same) ∙ (drop_more list index no_patch more ∙ ap (λ (l : List Patch). get_or list index no_patch ∷ drop (index + 1) l) same)
+
 module _ (ps list : List Patch) (index : ℕ) (same : list ≡ ps) (more : index < length list) (whole bytes section out : List ℕ) (from start : ℕ)
     (so_far : Applied (drop index ps) whole bytes section out from start) where
   abbrev next : Patch
   next = get_or list index no_patch
 
   begins : Applied (next ∷ drop (index + 1) ps) whole bytes section out from start
-  begins =
-      let first : drop index ps ≡ next ∷ drop (index + 1) ps = ap (drop index) (sym same) ∙ (drop_more list index no_patch more ∙ ap (λ (l : List Patch). next ∷ drop (index + 1) l) same) in
-      subst (λ (l : List Patch). Applied l whole bytes section out from start) first so_far
+  begins = subst (λ (l : List Patch). Applied l whole bytes section out from start) (next_is ps list index same more) so_far
 
   pub turn_within : ((from ≤ next.at) × (next.at ≤ length section)) × ((start ≤ next.end) × (next.end ≤ length bytes))
   turn_within = next_within next (drop (index + 1) ps) whole bytes section out from start begins
@@ -211,12 +214,15 @@ cut_from ps offset count point few = record {
   within = few;
 }
 
--- the last of the first patches
-pub last_before : (ps : List Patch) (offset count : ℕ) → IsCut ps offset count → (count ≡ 0 → ⊥) → (d : Patch) → last_of no_patch (take count ps) ≡ get_or ps (count - 1) d
-last_before ps offset count cut some d =
-    let len = length-take-le count ps cut.within in
+-- the last of the first patches, of this number
+pub last_taken : (ps : List Patch) (count : ℕ) → count ≤ length ps → (count ≡ 0 → ⊥) → (d : Patch) → last_of no_patch (take count ps) ≡ get_or ps (count - 1) d
+last_taken ps count few some d =
+    let len = length-take-le count ps few in
     let k : length (take count ps) - 1 ≡ count - 1 = omega (arith, len) in
     last_is no_patch (take count ps) d (omega (arith, len)) ∙ (ap (λ (n : ℕ). get_or (take count ps) n d) k ∙ get_or-take count ps (count - 1) d (omega arith))
+
+pub last_before : (ps : List Patch) (offset count : ℕ) → IsCut ps offset count → (count ≡ 0 → ⊥) → (d : Patch) → last_of no_patch (take count ps) ≡ get_or ps (count - 1) d
+last_before ps offset count cut = last_taken ps count cut.within
 
 -- the patches up to there end at the offset or before it, and follow
 follow_take : (p : Patch) (ps : List Patch) (count len : ℕ) → Follow p ps len → Follow p (take count ps) (last_of p (take count ps)).end
@@ -240,3 +246,61 @@ less_before ps len offset count h cut =
 pub moved_before : (ps : List Patch) (bytes : List ℕ) (offset count : ℕ) → Follow no_patch ps (length bytes) → IsCut ps offset count
     → let last = last_of no_patch (take count ps) in moved_offset_from 0 (changes_from 0 ps bytes) offset ≡ (offset - last.replaced) + last.end
 moved_before ps bytes offset count h cut = let is = moved_is no_patch ps bytes offset count h (omega arith) (omega arith) cut in omega (arith, is)
+
+-- ---- the part at a place of the list
+
+pub part_at : (p : Patch) (ps : List Patch) (bytes : List ℕ) (i : ℕ) (q : Patch) → slice_get ps i ≡ Some q
+    → slice_get (changes_from p.end ps bytes) i ≡ Some (part_of q.at (q.stop - q.at) (slice_range bytes (last_of p (take i ps)).end q.end))
+part_at p [] bytes i q is = absurd (cc (is))
+part_at p (r ∷ ps) bytes zero q is = let same : r ≡ q = cc (is) in ap (λ (t : Patch). Some (part_of t.at (t.stop - t.at) (slice_range bytes p.end t.end))) same
+part_at p (r ∷ ps) bytes (suc i) q is = part_at r ps bytes i q is
+
+pub no_part_at : (start : ℕ) (ps : List Patch) (bytes : List ℕ) (i : ℕ) → length ps ≤ i → slice_get (changes_from start ps bytes) i ≡ None
+no_part_at start [] bytes i few = refl
+no_part_at start (p ∷ ps) bytes zero few = absurd (omega arith)
+no_part_at start (p ∷ ps) bytes (suc i) few = no_part_at p.end ps bytes i (omega arith)
+
+-- the bytes that replace it are among all, and it ends where it says
+pub part_within : (p : Patch) (ps : List Patch) (len i : ℕ) (q : Patch) → Follow p ps len → slice_get ps i ≡ Some q
+    → (q.at ≤ q.stop) × ((last_of p (take i ps)).end ≤ q.end) × (q.end ≤ len)
+part_within p [] len i q h is = absurd (cc (is))
+part_within p (r ∷ ps) len zero q h is =
+    let same : r ≡ q = cc (is) in
+    let later = start_within r ps len h.1 in
+    subst (λ (t : Patch). (t.at ≤ t.stop) × (p.end ≤ t.end) × (t.end ≤ len)) same (omega (arith, h.0), omega (arith, h.0), later)
+part_within p (r ∷ ps) len (suc i) q h is = part_within r ps len i q h.1 is
+
+-- ---- parts of other sizes
+
+-- the patches from here on follow one that ends at this place of the bytes, and those before them keep their sizes
+pub record ResizedLeft (left : List Patch) (bytes : List ℕ) (whole : Bool) (start : ℕ) : Type 0 where
+  pub last : Patch
+  pub start_is : last.end ≡ start
+  pub follow : Follow last left (length bytes)
+  pub is : are_resized (changes_from start left bytes) ≡ whole
+
+pub resized_none : (ps : List Patch) (bytes : List ℕ) → Follow no_patch ps (length bytes) → ResizedLeft ps bytes (are_resized (changes_from 0 ps bytes)) 0
+resized_none ps bytes h = record { last = no_patch; start_is = refl; follow = h; is = refl }
+
+module _ (p : Patch) (left : List Patch) (bytes : List ℕ) (whole : Bool) (start : ℕ) (h : ResizedLeft (p ∷ left) bytes whole start) where
+  pub sizes_within : (start ≤ p.end) × (p.at ≤ p.stop)
+  sizes_within = let here = h.follow.0 in (omega (arith, here, h.start_is), omega (arith, here))
+
+  part_size : length (slice_range bytes start p.end) ≡ p.end - start
+  part_size = length-range bytes start p.end sizes_within.0 (start_within p left (length bytes) h.follow.1)
+
+  pub is_other_size : (p.end - start ≡ p.stop - p.at → ⊥) → true ≡ whole
+  is_other_size other =
+      let no : eqb (length (slice_range bytes start p.end)) (p.stop - p.at) ≡ false = ne_eqb _ _ (λ e. other (sym part_size ∙ e)) in
+      sym (rw no refl) ∙ h.is
+
+  pub resized_more : p.end - start ≡ p.stop - p.at → ResizedLeft left bytes whole p.end
+  resized_more same = record {
+    last = p;
+    start_is = refl;
+    follow = h.follow.1;
+    is = let yes : eqb (length (slice_range bytes start p.end)) (p.stop - p.at) ≡ true = eq-eqb _ _ (part_size ∙ same) in sym (rw yes refl) ∙ h.is;
+  }
+
+pub resized_all : (ps : List Patch) (index : ℕ) (bytes : List ℕ) (whole : Bool) (start : ℕ) → length ps ≤ index → ResizedLeft (drop index ps) bytes whole start → false ≡ whole
+resized_all ps index bytes whole start all h = (subst (λ (l : List Patch). ResizedLeft l bytes whole start) (drop_all index ps all) h).is

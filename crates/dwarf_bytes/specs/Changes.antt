@@ -1,6 +1,6 @@
 -- Parts of a section that are replaced. Everything else is copied.
-use Rattle.std.specs.Prelude.{◌≡◌, ℕ, ◌+◌, ◌-◌, ◌<◌, ◌≤◌, ◌⊎◌, List, [], ◌∷◌, ◌++◌, length, drop, slice_get, slice_range, nat_le, if◌then◌else◌, ⊤}
-use Rattle.std.specs.List.{AllByRecursion}
+use Rattle.std.specs.Prelude.{◌≡◌, ℕ, ◌+◌, ◌-◌, ◌<◌, ◌≤◌, ◌⊎◌, List, [], ◌∷◌, ◌++◌, length, drop, slice_get, slice_range, nat_le, ◌==◌, Bool, false, not, if◌then◌else◌, ⊤}
+use Rattle.std.specs.List.{AllByRecursion, list_any}
 
 -- a part of a section: its place, how many bytes it has, and the bytes that replace it
 pub record SectionChange : Type 0 where
@@ -40,6 +40,13 @@ abbrev pub changes_after : List SectionChange → (offset : ℕ) → List Sectio
 changes_after [] o = []
 changes_after (c ∷ cs) o = if nat_le (c.at + c.old) o then changes_after cs o else c ∷ cs
 
+-- Whether a part is replaced by more or by fewer bytes than it has.
+abbrev pub is_resized : SectionChange → Bool
+is_resized c = not (length c.new == c.old)
+
+abbrev pub are_resized : List SectionChange → Bool
+are_resized cs = list_any is_resized cs
+
 -- ---- laws
 
 -- What follows an offset that isn't inside a part that is replaced, follows where the offset goes.
@@ -53,3 +60,7 @@ abbrev pub KeepsOthers : Type 0
 KeepsOthers = (cs : List SectionChange) (section : List ℕ) (o : ℕ) → AreChangesInOrder 0 cs → o < length section
     → AllByRecursion (λ c. (c.at + c.old ≤ o) ⊎ (o < c.at)) cs
     → slice_get (patched cs section) (moved_offset cs o) ≡ slice_get section o
+
+-- Where no part is resized, each offset stays.
+abbrev pub KeepsOffsets : Type 0
+KeepsOffsets = (cs : List SectionChange) (o : ℕ) → AreChangesInOrder 0 cs → are_resized cs ≡ false → moved_offset cs o ≡ o

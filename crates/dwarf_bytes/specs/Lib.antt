@@ -8,6 +8,7 @@ pub mod Writing
 pub mod Changes
 pub mod Patches
 pub mod Order
+pub mod Merging
 -- addresses by index
 pub mod Addresses
 pub mod Uses

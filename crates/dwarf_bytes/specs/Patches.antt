@@ -12,3 +12,7 @@ changes_from start (p ∷ ps) bytes =
 
 abbrev pub changes : Patches → List SectionChange
 changes p = changes_from 0 p.patches.items p.bytes.items
+
+-- a part by its place, how many bytes it has, and the bytes that replace it
+abbrev pub part_of : (at old : ℕ) → (new : List ℕ) → SectionChange
+part_of at old new = record { at = at; old = old; new = new }

@@ -1,6 +1,6 @@
 //! Laws of numbers that are written, and of sections that are patched.
 
-ghost use Rattle.dwarf_bytes.specs.Changes.{FollowsMoved, KeepsOthers};
+ghost use Rattle.dwarf_bytes.specs.Changes.{FollowsMoved, KeepsOthers, KeepsOffsets};
 ghost use Rattle.dwarf_bytes.specs.Writing.{Sized, Padded, KeepsWidth};
 
 /// What `write_sized` writes of a number is read as this number.
@@ -18,4 +18,9 @@ pub fn law_padded()
 pub fn law_patched()
     ensures follows { FollowsMoved }
     ensures others { KeepsOthers }
+{}
+
+/// Where no part of a section changes its size, each offset into it stays.
+pub fn law_same_sizes()
+    ensures { KeepsOffsets }
 {}

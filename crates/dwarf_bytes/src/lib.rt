@@ -15,7 +15,7 @@ mod writing;
 pub use addresses::{Address, AddressTable, AddressUses};
 pub use cursor::Cursor;
 pub use fault::{DebugError, DebugFault};
-pub use law::{law_padded, law_patched, law_sized};
+pub use law::{law_padded, law_patched, law_same_sizes, law_sized};
 pub use merging::MergedPatches;
 pub use number::{
     read_initial_length, read_offset, read_signed, read_sized, read_u8, read_u16, read_u32,

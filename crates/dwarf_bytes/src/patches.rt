@@ -1,6 +1,6 @@
 //! Parts of a section that are replaced.
 
-ghost use Rattle.std.specs.Prelude.{◌≡◌, length};
+ghost use Rattle.std.specs.Prelude.{◌≡◌, ◌+◌, ◌-◌, ◌≤◌, length};
 ghost use Rattle.dwarf_bytes.specs.Order.{ArePatches, ArePatches-prop};
 
 use crate::fault::{DebugError, DebugFault};
@@ -46,10 +46,10 @@ pub struct Patches {
 }
 
 impl Patches {
-    ghost use Rattle.std.specs.Prelude.{◌≡◌, ◌<◌, ◌≤◌, ◌+◌, ◌-◌, ◌++◌, ◌∷◌, [], ◌⊎◌, ◌↔◌, min, length, IsTrue, IfOk, OnOk, OnErr, IfErr};
-    ghost use Rattle.dwarf_bytes.specs.Changes.{AreChangesInOrder, end_from, patched, moved_offset};
+    ghost use Rattle.std.specs.Prelude.{◌≡◌, ◌<◌, ◌≤◌, ◌+◌, ◌-◌, ◌++◌, ◌∷◌, [], ◌⊎◌, ◌↔◌, min, length, take, slice_get, option_map, IsTrue, IfSome, IfOk, OnOk, OnErr, IfErr};
+    ghost use Rattle.dwarf_bytes.specs.Changes.{AreChangesInOrder, end_from, patched, moved_offset, are_resized};
     ghost use Rattle.dwarf_bytes.specs.Order.{no_patch, last_of, IsCut};
-    ghost use Rattle.dwarf_bytes.specs.Patches.{changes};
+    ghost use Rattle.dwarf_bytes.specs.Patches.{changes, part_of};
     ghost use Rattle.dwarf_bytes.specs.declared.fault.DebugFault.TheVariants as faults;
     ghost use Rattle.dwarf_bytes.specs.declared.fault.DebugError.TheVariants.{Memory, Fault};
 
@@ -130,27 +130,36 @@ impl Patches {
         Ok(())
     }
 
-    /// How many parts are replaced.
-    pub fn len(&self) -> usize {
-        self.patches.len()
+    // where the bytes begin that replace the part at this place of the list
+    fn start_of(&self, index: usize) -> usize
+        requires { index ≤ length self.now.patches.items }
+        ensures { result ≡ (last_of no_patch (take index self.now.patches.items)).end }
+    {
+        if index == 0 {
+            return 0;
+        }
+        self.patches[index - 1].end
     }
 
     /// The part at this place of the list: where it begins, how many bytes it has, and what replaces it.
-    pub fn get(&self, index: usize) -> Option<(usize, usize, &[u8])> {
+    pub fn get(&self, index: usize) -> Option<(usize, usize, &[u8])>
+        ensures part { option_map (λ x. part_of x.0 x.1 x.2.now) result ≡ slice_get (changes self.now) index }
+        ensures fits { IfSome result (λ x. x.0 + x.1 ≤ usize.MAX) }
+        ensures counted { IfSome result (λ x. index < usize.MAX) }
+    {
         let patch = self.patches.get(index)?;
-        let start = match index.checked_sub(1) {
-            Some(before) => self.patches.get(before)?.end,
-            None => 0,
-        };
-        let new = self.bytes.get(start..patch.end)?;
-        Some((patch.at, patch.stop.saturating_sub(patch.at), new))
+        let old = size_between(patch.at, patch.stop);
+        let new = &self.bytes[self.start_of(index)..patch.end];
+        Some((patch.at, old, new))
     }
 
     /// Whether a part is replaced by more or by fewer bytes than it has.
-    pub fn resizes(&self) -> bool {
+    pub fn resizes(&self) -> bool
+        ensures { result ≡ are_resized (changes self.now) }
+    {
         let mut start = 0;
         for patch in &self.patches {
-            if patch.end.saturating_sub(start) != patch.stop.saturating_sub(patch.at) {
+            if patch.end - start != patch.stop - patch.at {
                 return true;
             }
             start = patch.end;
@@ -214,4 +223,13 @@ impl Patches {
         let before = self.before(offset);
         (offset - before.replaced).saturating_add(before.end)
     }
+}
+
+// how many bytes are between two places
+fn size_between(at: usize, stop: usize) -> usize
+    requires { at ≤ stop }
+    ensures size { result ≡ stop - at }
+    ensures fits { at + result ≤ usize.MAX }
+{
+    stop - at
 }

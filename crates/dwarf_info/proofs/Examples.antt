@@ -4,3 +4,4 @@ pub mod ValuesRead
 pub mod UnitsRead
 pub mod EffectsComputed
 pub mod StepsComputed
+pub mod FollowsComputed

@@ -12,5 +12,6 @@ pub mod WithoutLocals
 pub mod Stepping
 pub mod Taking
 pub mod OtherBytes
+pub mod FollowLemmas
 -- values for given bytes
 pub mod Examples

@@ -17,8 +17,11 @@ pub mod Entries
 pub mod Steps
 pub mod Taken
 pub mod OtherBytes
+-- offsets that follow
+pub mod Following
 -- values of the code
 pub mod Views
 pub mod UnitViews
 pub mod Contexts
 pub mod EntryViews
+pub mod FollowViews

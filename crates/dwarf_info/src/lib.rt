@@ -17,7 +17,9 @@ mod values;
 
 pub use abbreviations::Abbreviations;
 pub use entries::move_units;
-pub use following::{Shifts, follow_length, follow_units, moved_distance, moved_offset};
+pub use following::{
+    Shifts, follow_length, follow_number, follow_units, moved_distance, moved_offset,
+};
 pub use law::law_other_bytes;
 pub use moved::{CodeRange, ListPlace, ListUse, MovedEntries};
 pub use unit::UnitSection;
