@@ -18,8 +18,8 @@ longer = part_of 20 2 (1 ∷ 2 ∷ 3 ∷ 4 ∷ 5 ∷ []) ∷ []
 in_front : offset_followed longer 20 ≡ 20
 in_front = refl
 
-behind : offset_followed longer 22 ≡ 25
-behind = refl
+after_it : offset_followed longer 22 ≡ 25
+after_it = refl
 
 -- an entry at 30 of the unit that begins at 11, and of one that begins at 25
 across : distance_followed longer 11 19 ≡ Ok 22
