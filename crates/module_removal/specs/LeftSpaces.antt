@@ -5,7 +5,9 @@ use Rattle.wasm_operators.specs.declared.types.Space.{Space}
 use Rattle.wasm_operators.specs.declared.types.Space.TheVariants.{Tables, Types, Funcs, Globals, Memories, Elements, Data, Tags}
 use Rattle.item_sets.specs.ItemsLeft.{index_left}
 use Rattle.module_removal.specs.declared.item.Item.{Item}
+use Rattle.module_removal.specs.declared.item.ItemCounts.{ItemCounts}
 use Rattle.module_removal.specs.declared.left.LeftItems.{LeftItems}
+use Rattle.module_removal.specs.ItemNumbers.{AreMarksOf}
 
 -- for each item of a space, whether it is left
 abbrev pub marks_of : LeftItems → Space → List Bool
@@ -26,3 +28,25 @@ index_of l item = index_left (marks_of l item.space) item.index
 abbrev pub index_written : Option (Bor LeftItems) → Item → Option ℕ
 index_written None item = Some item.index
 index_written (Some l) item = index_of l.now item
+
+-- the marks of each space after those of one were set
+abbrev pub marks_set : Space → List Bool → (Space → List Bool) → Space → List Bool
+marks_set Types own marks Types = own
+marks_set Funcs own marks Funcs = own
+marks_set Tables own marks Tables = own
+marks_set Memories own marks Memories = own
+marks_set Globals own marks Globals = own
+marks_set Tags own marks Tags = own
+marks_set Elements own marks Elements = own
+marks_set Data own marks Data = own
+marks_set set own marks space = marks space
+
+-- The items of this space that are left are those with a mark that is set, of a mark for each number; the other spaces stay.
+pub record SetsMarks (c : ItemCounts) (marks : List Bool) (space : Space) (old new : LeftItems) : Type 0 where
+  pub own : List Bool
+  pub are : AreMarksOf c marks space own
+  pub each : (other : Space) → marks_of new other ≡ marks_set space own (marks_of old) other
+
+-- In each space the items that are left are those with a mark that is set.
+abbrev pub AreMarked : ItemCounts → List Bool → LeftItems → Type 0
+AreMarked c marks left = (space : Space) → AreMarksOf c marks space (marks_of left space)

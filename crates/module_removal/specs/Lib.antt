@@ -1,2 +1,17 @@
+-- the numbers of items, and their marks
+pub mod ItemNumbers
 -- which items are left, and the index that is written for each
 pub mod LeftSpaces
+-- what is copied of a module: of its parts, of constant expressions, and of the items of sections
+pub mod CopiedParts
+pub mod CopiedConstants
+pub mod CopiedItems
+-- the items that an operator names
+pub mod NamedItems
+-- edges between items, and what is gathered of each item
+pub mod Edges
+pub mod Gathered
+-- what is claimed of what is left
+pub mod LeftLaws
+-- what is written for the items of a section
+pub mod Written

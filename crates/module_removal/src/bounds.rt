@@ -48,16 +48,18 @@ fn offset(input: &mut Input<'_>) -> Result<Option<u64>, ModuleError> {
     }
 }
 
+/// The index of the table or memory of an active segment: the next number, or 0 if it has none.
+fn target(has_index: bool, space: Space, input: &mut Input<'_>) -> Result<u32, ModuleError> {
+    if has_index { input.number() } else { Ok(0) }
+}
+
 /// The active element segment at the front; None if it isn't active.
-pub(crate) fn active_elements(mut input: Input<'_>) -> Result<Option<Active>, ModuleError> {
+fn active_elements(mut input: Input<'_>) -> Result<Option<Active>, ModuleError> {
     let flags = done!(input.number());
     if flags % 2 != 0 {
         return Ok(None);
     }
-    let index = match flags % 4 {
-        2 => done!(input.number()),
-        _ => 0,
-    };
+    let index = done!(target(flags % 4 == 2, Space::Tables, &mut input));
     let offset = done!(offset(&mut input));
     done!(input.element_type(flags));
     let len = u64::from(done!(input.number()));
@@ -70,15 +72,12 @@ pub(crate) fn active_elements(mut input: Input<'_>) -> Result<Option<Active>, Mo
 }
 
 /// The active data segment at the front; None if it isn't active.
-pub(crate) fn active_data(mut input: Input<'_>) -> Result<Option<Active>, ModuleError> {
+fn active_data(mut input: Input<'_>) -> Result<Option<Active>, ModuleError> {
     let flags = done!(input.number());
     if flags == 1 {
         return Ok(None);
     }
-    let index = match flags {
-        2 => done!(input.number()),
-        _ => 0,
-    };
+    let index = done!(target(flags == 2, Space::Memories, &mut input));
     let offset = done!(offset(&mut input));
     let len = u64::from(done!(input.number()));
     Ok(Some(Active {
@@ -87,6 +86,15 @@ pub(crate) fn active_data(mut input: Input<'_>) -> Result<Option<Active>, Module
         offset,
         len,
     }))
+}
+
+/// The active segment at the front, which is an item of this space; None if it isn't one.
+pub(crate) fn active_of(space: Space, input: Input<'_>) -> Result<Option<Active>, ModuleError> {
+    match space {
+        Space::Elements => active_elements(input),
+        Space::Data => active_data(input),
+        _ => Ok(None),
+    }
 }
 
 impl LeastSizes {
@@ -108,15 +116,24 @@ impl LeastSizes {
         Ok(())
     }
 
+    /// Adds the item of this space at the front; nothing for what is in another space than tables and memories.
+    pub fn add_defined(&mut self, space: Space, input: Input<'_>) -> Result<(), ModuleError> {
+        match space {
+            Space::Tables => self.add_table(input),
+            Space::Memories => self.add_memory(input),
+            _ => Ok(()),
+        }
+    }
+
     /// Adds the table at the front.
-    pub fn add_table(&mut self, mut input: Input<'_>) -> Result<(), ModuleError> {
+    fn add_table(&mut self, mut input: Input<'_>) -> Result<(), ModuleError> {
         let table = done!(input.table());
         self.tables.push(Some(table.ty.limits.min))?;
         Ok(())
     }
 
     /// Adds the memory at the front.
-    pub fn add_memory(&mut self, mut input: Input<'_>) -> Result<(), ModuleError> {
+    fn add_memory(&mut self, mut input: Input<'_>) -> Result<(), ModuleError> {
         let limits = done!(input.limits());
         self.memories.push(Some(limits.min.saturating_mul(PAGE)))?;
         Ok(())

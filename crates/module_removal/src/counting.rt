@@ -1,5 +1,8 @@
 //! How many items a module has.
 
+ghost use Rattle.std.specs.Prelude.{◌≡◌};
+ghost use Rattle.module_removal.specs.Written.{section_space};
+
 use crate::copier::Copier;
 use crate::item::ItemCounts;
 use crate::parts::done;
@@ -8,7 +11,9 @@ use wasm_ops::Space;
 use wasm_sections::{ModuleError, Section, SectionKind, Sections, count_types};
 
 /// The index space of the items that a section of this kind defines.
-pub(crate) fn defined_space(kind: SectionKind) -> Option<Space> {
+pub(crate) fn defined_space(kind: SectionKind) -> Option<Space>
+    ensures { result ≡ section_space kind }
+{
     match kind {
         SectionKind::Function => Some(Space::Funcs),
         SectionKind::Table => Some(Space::Tables),

@@ -24,6 +24,9 @@ pub(crate) struct Taken {
 }
 
 impl Taken {
+    ghost use Rattle.std.specs.Prelude.{◌≡◌, IfErr};
+    ghost use Rattle.wasm_sections.specs.declared.fault.ModuleFault.TheVariants.{Memory as NoMemory};
+
     /// None. This allocates nothing.
     pub fn new(alloc: Global) -> Taken {
         Taken {
@@ -33,7 +36,9 @@ impl Taken {
     }
 
     /// Adds a function of which a reference is taken in the body of another one.
-    pub fn take(&mut self, by: u32, func: u32) -> Result<(), ModuleError> {
+    pub fn take(&mut self, by: u32, func: u32) -> Result<(), ModuleError>
+        ensures { IfErr result (λ error. error.fault ≡ NoMemory) }
+    {
         self.in_bodies.push(Named { by, func })?;
         Ok(())
     }

@@ -49,8 +49,13 @@ pub const SPACES: [Space; 8] = [
 pub const MODULE: u32 = 0;
 
 impl ItemCounts {
+    ghost use Rattle.std.specs.Prelude.{◌≡◌, ◌-◌, ◌^◌, min};
+    ghost use Rattle.module_removal.specs.ItemNumbers.{count_of, first_number, all_numbers, number_of_item, with_more_items};
+
     /// How many items a space has.
-    pub fn of(&self, space: Space) -> usize {
+    pub fn of(&self, space: Space) -> usize
+        ensures { result ≡ count_of self.now space }
+    {
         match space {
             Space::Types => self.types,
             Space::Funcs => self.funcs,
@@ -64,14 +69,19 @@ impl ItemCounts {
     }
 
     /// Adds an item to a space, and returns its index.
-    pub fn add(&mut self, space: Space) -> usize {
+    pub fn add(&mut self, space: Space) -> usize
+        ensures index { result ≡ count_of self.old space }
+        ensures more { self.new ≡ with_more_items space 1 self.old }
+    {
         let index = self.of(space);
         self.add_all(space, 1);
         index
     }
 
     /// Adds so many items to a space.
-    pub fn add_all(&mut self, space: Space, more: usize) {
+    pub fn add_all(&mut self, space: Space, more: usize)
+        ensures { self.new ≡ with_more_items space more self.old }
+    {
         let count = self.of(space).saturating_add(more);
         match space {
             Space::Types => self.types = count,
@@ -86,28 +96,46 @@ impl ItemCounts {
     }
 
     /// The number of the first item of a space.
-    pub fn first(&self, space: Space) -> usize {
-        let mut first: usize = 1;
-        for before in &SPACES {
-            if *before == space {
-                return first;
-            }
-            first = first.saturating_add(self.of(*before));
+    pub fn first(&self, space: Space) -> usize
+        ensures { result ≡ min (first_number self.now space) (2 ^ 64 - 1) }
+    {
+        let types: usize = 1;
+        let funcs = types.saturating_add(self.types);
+        let tables = funcs.saturating_add(self.funcs);
+        let memories = tables.saturating_add(self.tables);
+        let globals = memories.saturating_add(self.memories);
+        let tags = globals.saturating_add(self.globals);
+        let elements = tags.saturating_add(self.tags);
+        match space {
+            Space::Types => types,
+            Space::Funcs => funcs,
+            Space::Tables => tables,
+            Space::Memories => memories,
+            Space::Globals => globals,
+            Space::Tags => tags,
+            Space::Elements => elements,
+            Space::Data => elements.saturating_add(self.elements),
         }
-        first
     }
 
     /// How many numbers items have, with that of the module itself.
-    pub fn all(&self) -> usize {
+    pub fn all(&self) -> usize
+        ensures { result ≡ min (all_numbers self.now) (2 ^ 64 - 1) }
+    {
         self.first(Space::Data).saturating_add(self.data)
     }
 
     /// The number of an item; None if the module has no such item, or more items than numbers.
-    pub fn number(&self, item: Item) -> Option<u32> {
+    pub fn number(&self, item: Item) -> Option<u32>
+        ensures { result ≡ number_of_item self.now item }
+    {
         if item.index as usize >= self.of(item.space) {
             return None;
         }
         let number = self.first(item.space).saturating_add(item.index as usize);
-        u32::try_from(number).ok()
+        if number > u32::MAX as usize {
+            return None;
+        }
+        Some(number as u32)
     }
 }

@@ -1,6 +1,12 @@
 //! The items of a module that are left.
 
+ghost use Rattle.std.specs.Prelude.{◌≡◌, IfOk, IfErr};
+ghost use Rattle.wasm_sections.specs.declared.fault.ModuleFault.TheVariants.{Memory as NoMemory};
+ghost use Rattle.item_sets.specs.ItemsLeft.{is_left};
+ghost use Rattle.module_removal.specs.ItemNumbers.{AreMarksOf};
+
 use crate::item::{Item, ItemCounts, SPACES};
+use crate::parts::done;
 use item_sets::ItemsLeft;
 use std::alloc::Global;
 use walrus_ir::{DataId, ElementId, FunctionId, GlobalId, MemoryId, TableId, TagId, TypeId};
@@ -22,18 +28,27 @@ pub struct LeftItems {
     data: ItemsLeft,
 }
 
+/// Whether this number has a mark that is set.
+fn is_set(marks: &[bool], number: usize) -> bool
+    ensures { result ≡ is_left marks.now number }
+{
+    marks.get(number).copied().unwrap_or(false)
+}
+
 /// The items of one space that have a mark that is set.
 fn of_space(
     alloc: Global,
     counts: &ItemCounts,
     marks: &[bool],
     space: Space,
-) -> Result<ItemsLeft, ModuleError> {
+) -> Result<ItemsLeft, ModuleError>
+    ensures ok { IfOk result (λ left. AreMarksOf counts.now marks.now space left.marks.items) }
+    ensures err { IfErr result (λ error. error.fault ≡ NoMemory) }
+{
     let first = counts.first(space);
     let mut left = Vec::new(alloc);
-    for index in 0..counts.of(space) {
-        let mark = marks.get(first.saturating_add(index)).copied();
-        left.push(mark.unwrap_or(false))?;
+    'items: for index in 0..counts.of(space) {
+        left.push(is_set(marks, first.saturating_add(index)))?;
     }
     match ItemsLeft::new(alloc, left) {
         Ok(left) => Ok(left),
@@ -73,9 +88,11 @@ fn push_number(numbers: &mut IdsToIndices, item: Item, number: u32) -> Result<()
 }
 
 impl LeftItems {
-    ghost use Rattle.std.specs.Prelude.{◌≡◌};
+    ghost use Rattle.std.specs.Prelude.{◌≡◌, OnOk, IfOk, IfErr};
     ghost use Rattle.item_sets.specs.ItemsLeft.{is_left};
-    ghost use Rattle.module_removal.specs.LeftSpaces.{marks_of, index_of};
+    ghost use Rattle.wasm_operators.specs.declared.types.Space.{Space};
+    ghost use Rattle.wasm_sections.specs.declared.fault.ModuleFault.TheVariants.{Memory as NoMemory};
+    ghost use Rattle.module_removal.specs.LeftSpaces.{marks_of, marks_set, index_of, SetsMarks, AreMarked};
 
     /// No items. This allocates nothing.
     fn none(alloc: Global) -> LeftItems {
@@ -92,7 +109,10 @@ impl LeftItems {
     }
 
     /// Sets the items of a space.
-    fn set(&mut self, space: Space, left: ItemsLeft) {
+    fn set(&mut self, space: Space, left: ItemsLeft)
+        ensures { (other : Space) → marks_of self.new other
+            ≡ marks_set space left.marks.items (marks_of self.old) other }
+    {
         match space {
             Space::Types => self.types = left,
             Space::Funcs => self.funcs = left,
@@ -105,20 +125,44 @@ impl LeftItems {
         }
     }
 
+    /// Sets the items of a space to those that have a mark that is set.
+    fn set_marked(
+        &mut self,
+        alloc: Global,
+        counts: &ItemCounts,
+        marks: &[bool],
+        space: Space,
+    ) -> Result<(), ModuleError>
+        ensures ok { OnOk result (SetsMarks counts.now marks.now space self.old self.new) }
+        ensures err { IfErr result (λ error. error.fault ≡ NoMemory) }
+    {
+        match of_space(alloc, counts, marks, space) {
+            Ok(left) => {
+                self.set(space, left);
+                Ok(())
+            }
+            Err(error) => Err(error),
+        }
+    }
+
     /// Sets the items of all spaces.
     fn set_all(
         &mut self,
         alloc: Global,
         counts: &ItemCounts,
         marks: &[bool],
-    ) -> Result<(), ModuleError> {
-        for space in &SPACES {
-            match of_space(alloc, counts, marks, *space) {
-                Ok(left) => self.set(*space, left),
-                Err(error) => return Err(error),
-            }
-        }
-        Ok(())
+    ) -> Result<(), ModuleError>
+        ensures ok { OnOk result (AreMarked counts.now marks.now self.new) }
+        ensures err { IfErr result (λ error. error.fault ≡ NoMemory) }
+    {
+        done!(self.set_marked(alloc, counts, marks, Space::Types));
+        done!(self.set_marked(alloc, counts, marks, Space::Funcs));
+        done!(self.set_marked(alloc, counts, marks, Space::Tables));
+        done!(self.set_marked(alloc, counts, marks, Space::Memories));
+        done!(self.set_marked(alloc, counts, marks, Space::Globals));
+        done!(self.set_marked(alloc, counts, marks, Space::Tags));
+        done!(self.set_marked(alloc, counts, marks, Space::Elements));
+        self.set_marked(alloc, counts, marks, Space::Data)
     }
 
     /// The items that have a mark that is set, of a mark for each number.
@@ -130,7 +174,10 @@ impl LeftItems {
         alloc: Global,
         counts: &ItemCounts,
         marks: &[bool],
-    ) -> Result<LeftItems, ModuleError> {
+    ) -> Result<LeftItems, ModuleError>
+        ensures ok { IfOk result (λ left. AreMarked counts.now marks.now left) }
+        ensures err { IfErr result (λ error. error.fault ≡ NoMemory) }
+    {
         let mut left = LeftItems::none(alloc);
         match left.set_all(alloc, counts, marks) {
             Ok(()) => Ok(left),

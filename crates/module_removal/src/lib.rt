@@ -6,21 +6,25 @@
 mod alike;
 mod bounds;
 mod code;
+mod constants;
 mod copier;
 mod counting;
 mod declared;
 mod followed;
 mod item;
+mod laws;
 mod left;
 mod names;
 mod operators;
 mod parts;
 mod references;
 mod remainder;
+mod vectors;
 mod writing;
 
 pub use code::LeftCode;
 pub use item::{Item, ItemCounts, MODULE, SPACES};
+pub use laws::law_references_are_left;
 pub use left::LeftItems;
 pub use references::{References, references_of};
 pub use remainder::Remainder;

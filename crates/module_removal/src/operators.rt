@@ -1,20 +1,21 @@
-//! Operators of bodies and of constant expressions, and the items that they name.
+//! Operators of bodies, and the items that they name.
 
+use crate::constants::read_operator;
 use crate::copier::Copier;
 use crate::declared::Taken;
 use crate::item::Item;
-use walrus_ir::{HeapType, RefType, ValType};
+use walrus_ir::{HeapType, ValType};
 use wasm_ops::{
     BlockType, BrTable, CatchList, Immediates, Opcode, Operator, RawCast, RawHeapType, RawMemArg,
-    Reader, Space,
+    Space,
 };
-use wasm_sections::{Input, ModuleError, ModuleFault};
+use wasm_sections::{Input, ModuleError};
 
 /// The opcode of `ref.func` (WebAssembly core specification 3.0, binary format, reference instructions).
 const REF_FUNC: u8 = 0xd2;
 
 /// The immediates of an operator.
-type Parts<'a> = Immediates<BrTable<'a>, CatchList<'a>>;
+pub(crate) type Parts<'a> = Immediates<BrTable<'a>, CatchList<'a>>;
 
 /// The function that `ref.func` names; None of another operator.
 fn referred(opcode: Opcode, parts: &Parts<'_>) -> Option<u32> {
@@ -27,31 +28,33 @@ fn referred(opcode: Opcode, parts: &Parts<'_>) -> Option<u32> {
     }
 }
 
-/// The reference type of a heap type.
-fn reference_to(heap_type: RawHeapType) -> ValType<u32> {
-    ValType::Ref(RefType {
-        nullable: true,
-        heap_type,
-    })
-}
-
 impl Copier<'_> {
-    /// Finds an item.
-    fn find(&mut self, space: Space, index: u32) -> Result<(), ModuleError> {
-        self.found.push(Item { space, index })?;
-        Ok(())
-    }
+    ghost use Rattle.std.specs.Prelude.{◌≡◌, ◌++◌, OnOk, IfErr};
+    ghost use Rattle.wasm_operators.specs.declared.types.Space.TheVariants.{Memories as OfMemories};
+    ghost use Rattle.wasm_sections.specs.declared.fault.ModuleFault.TheVariants.{Memory as NoMemory};
+    ghost use Rattle.module_removal.specs.CopiedParts.{names_item, item_at, AppendsCopied};
+    ghost use Rattle.module_removal.specs.NamedItems.{finds, named_by_heap, named_by_type, named_by_block, named_by_tag, named_by_clauses, named_by_parts, named_by, FindsOperators};
+    ghost use Rattle.wasm_operators.specs.Meaning.{meaning};
 
     /// Finds the type that a heap type names, if it names one.
-    fn find_heap(&mut self, ty: RawHeapType) -> Result<(), ModuleError> {
+    fn find_heap(&mut self, ty: RawHeapType) -> Result<(), ModuleError>
+        ensures ok { OnOk result (AppendsCopied self.old (finds (named_by_heap ty)) self.new) }
+        ensures err { IfErr result (λ error. error.fault ≡ NoMemory) }
+    {
         match ty {
-            HeapType::Concrete(index) => self.find(Space::Types, index),
+            HeapType::Concrete(index) => self.find(Item {
+                space: Space::Types,
+                index,
+            }),
             HeapType::Abstract(_) => Ok(()),
         }
     }
 
     /// The same for a value type.
-    pub fn find_type(&mut self, ty: ValType<u32>) -> Result<(), ModuleError> {
+    fn find_type(&mut self, ty: ValType<u32>) -> Result<(), ModuleError>
+        ensures ok { OnOk result (AppendsCopied self.old (finds (named_by_type ty)) self.new) }
+        ensures err { IfErr result (λ error. error.fault ≡ NoMemory) }
+    {
         match ty {
             ValType::Ref(reference) => self.find_heap(reference.heap_type),
             _ => Ok(()),
@@ -59,16 +62,25 @@ impl Copier<'_> {
     }
 
     /// The same for a block type.
-    fn find_block(&mut self, ty: BlockType) -> Result<(), ModuleError> {
+    fn find_block(&mut self, ty: BlockType) -> Result<(), ModuleError>
+        ensures ok { OnOk result (AppendsCopied self.old (finds (named_by_block ty)) self.new) }
+        ensures err { IfErr result (λ error. error.fault ≡ NoMemory) }
+    {
         match ty {
             BlockType::Empty => Ok(()),
             BlockType::Value(ty) => self.find_type(ty),
-            BlockType::FuncType(index) => self.find(Space::Types, index),
+            BlockType::FuncType(index) => self.find(Item {
+                space: Space::Types,
+                index,
+            }),
         }
     }
 
     /// Both types of a cast.
-    fn find_cast(&mut self, cast: RawCast) -> Result<(), ModuleError> {
+    fn find_cast(&mut self, cast: RawCast) -> Result<(), ModuleError>
+        ensures ok { OnOk result (AppendsCopied self.old (finds (named_by_heap cast.source ++ named_by_heap cast.target)) self.new) }
+        ensures err { IfErr result (λ error. error.fault ≡ NoMemory) }
+    {
         match self.find_heap(cast.source) {
             Ok(()) => self.find_heap(cast.target),
             Err(error) => Err(error),
@@ -76,34 +88,78 @@ impl Copier<'_> {
     }
 
     /// The memory of an access.
-    fn find_memory(&mut self, access: RawMemArg) -> Result<(), ModuleError> {
-        self.find(Space::Memories, access.memory)
+    fn find_memory(&mut self, access: RawMemArg) -> Result<(), ModuleError>
+        ensures ok { OnOk result (AppendsCopied self.old (names_item (item_at OfMemories access.memory)) self.new) }
+        ensures err { IfErr result (λ error. error.fault ≡ NoMemory) }
+    {
+        self.find(Item {
+            space: Space::Memories,
+            index: access.memory,
+        })
     }
 
-    /// The block type and the tags of a `try_table`.
-    fn find_clauses(&mut self, ty: BlockType, clauses: &CatchList<'_>) -> Result<(), ModuleError> {
-        match self.find_block(ty) {
-            Ok(()) => {}
-            Err(error) => return Err(error),
+    /// The tag of a clause of a `try_table`, if it has one.
+    fn find_tag(&mut self, tag: Option<u32>) -> Result<(), ModuleError>
+        ensures ok { OnOk result (AppendsCopied self.old (finds (named_by_tag tag)) self.new) }
+        ensures err { IfErr result (λ error. error.fault ≡ NoMemory) }
+    {
+        match tag {
+            Some(index) => self.find(Item {
+                space: Space::Tags,
+                index,
+            }),
+            None => Ok(()),
         }
-        for clause in clauses.iter() {
-            if let Some(tag) = clause.tag {
-                match self.find(Space::Tags, tag) {
-                    Ok(()) => {}
-                    Err(error) => return Err(error),
-                }
+    }
+
+    /// The tags of the clauses of a `try_table`.
+    fn find_tags(&mut self, clauses: &CatchList<'_>) -> Result<(), ModuleError>
+        ensures ok { OnOk result (AppendsCopied self.old (finds (named_by_clauses clauses.now)) self.new) }
+        ensures err { IfErr result (λ error. error.fault ≡ NoMemory) }
+    {
+        let mut left = clauses.iter();
+        'clauses: while let Some(clause) = left.next() {
+            match self.find_tag(clause.tag) {
+                Ok(()) => {}
+                Err(error) => return Err(error),
             }
         }
         Ok(())
     }
 
+    /// The block type and the tags of a `try_table`.
+    fn find_clauses(&mut self, ty: BlockType, clauses: &CatchList<'_>) -> Result<(), ModuleError>
+        ensures ok { OnOk result (AppendsCopied self.old (finds (named_by_block ty ++ named_by_clauses clauses.now)) self.new) }
+        ensures err { IfErr result (λ error. error.fault ≡ NoMemory) }
+    {
+        match self.find_block(ty) {
+            Ok(()) => self.find_tags(clauses),
+            Err(error) => Err(error),
+        }
+    }
+
     /// The items that immediates name.
-    fn find_parts(&mut self, parts: &Parts<'_>) -> Result<(), ModuleError> {
+    fn find_parts(&mut self, parts: &Parts<'_>) -> Result<(), ModuleError>
+        ensures ok { OnOk result (AppendsCopied self.old (finds (named_by_parts parts.now)) self.new) }
+        ensures err { IfErr result (λ error. error.fault ≡ NoMemory) }
+    {
         match parts {
-            Immediates::Index(space, index) => self.find(*space, *index),
-            Immediates::IndexNumber(space, index, _) => self.find(*space, *index),
-            Immediates::Pair(space, index, other, second) => match self.find(*space, *index) {
-                Ok(()) => self.find(*other, *second),
+            Immediates::Index(space, index) => self.find(Item {
+                space: *space,
+                index: *index,
+            }),
+            Immediates::IndexNumber(space, index, _) => self.find(Item {
+                space: *space,
+                index: *index,
+            }),
+            Immediates::Pair(space, index, other, second) => match self.find(Item {
+                space: *space,
+                index: *index,
+            }) {
+                Ok(()) => self.find(Item {
+                    space: *other,
+                    index: *second,
+                }),
                 Err(error) => Err(error),
             },
             Immediates::Access(access) => self.find_memory(*access),
@@ -123,7 +179,10 @@ impl Copier<'_> {
         operator: &Operator<'_>,
         taken: &mut Taken,
         func: u32,
-    ) -> Result<(), ModuleError> {
+    ) -> Result<(), ModuleError>
+        ensures ok { OnOk result (AppendsCopied self.old (finds (named_by (meaning operator.now))) self.new) }
+        ensures err { IfErr result (λ error. error.fault ≡ NoMemory) }
+    {
         let (opcode, parts) = operator.parts();
         if let Some(index) = referred(opcode, &parts) {
             match taken.take(func, index) {
@@ -134,22 +193,19 @@ impl Copier<'_> {
         self.find_parts(&parts)
     }
 
-    /// Finds the items that the operators of the body of this function name.
+    /// Finds the items that the operators of the body of this function name, up to the end of the bytes.
     pub fn find_operators(
         &mut self,
-        input: &Input<'_>,
+        mut input: Input<'_>,
         taken: &mut Taken,
         func: u32,
-    ) -> Result<(), ModuleError> {
-        let mut reader = Reader::new(input.rest(), input.at());
-        // An operator has at least one byte.
-        for _ in 0..input.rest().len() {
-            if reader.eof() {
-                return Ok(());
-            }
-            let operator = match reader.read() {
+    ) -> Result<(), ModuleError>
+        ensures { FindsOperators self.old self.new result input.entry.end input.entry.rest.now }
+    {
+        'operators: while !input.is_empty() {
+            let operator = match read_operator(&mut input) {
                 Ok(operator) => operator,
-                Err(error) => return Err(ModuleError::of_read(error)),
+                Err(error) => return Err(error),
             };
             match self.find_operator(&operator, taken, func) {
                 Ok(()) => {}
@@ -157,95 +213,5 @@ impl Copier<'_> {
             }
         }
         Ok(())
-    }
-
-    /// The opcode of an operator.
-    fn put_opcode(&mut self, opcode: Opcode) -> Result<(), ModuleError> {
-        match opcode {
-            Opcode::Byte(byte) => self.put_byte(byte),
-            Opcode::Prefixed(prefix, number) => match self.put_byte(prefix) {
-                Ok(()) => self.put_number(number),
-                Err(error) => Err(error),
-            },
-        }
-    }
-
-    /// `ref.null` of a heap type, which is written as the byte of its opcode and the end of a reference type.
-    fn put_heap(&mut self, opcode: Opcode, ty: RawHeapType, at: usize) -> Result<(), ModuleError> {
-        match self.put_opcode(opcode) {
-            Ok(()) => {}
-            Err(error) => return Err(error),
-        }
-        let begin = self.out.len();
-        let ty = match self.new_type(reference_to(ty), at) {
-            Ok(ty) => ty,
-            Err(error) => return Err(error),
-        };
-        wasm_encode::write_value_type(&mut self.out, ty)?;
-        // A nullable reference to a type that is named has a byte of its own before the index.
-        if begin < self.out.len() && self.out[begin] == 0x63 {
-            self.out.remove(begin);
-        }
-        Ok(())
-    }
-
-    /// An operator of a constant expression, whose bytes in the source are these.
-    fn put_operator(
-        &mut self,
-        operator: &Operator<'_>,
-        bytes: &[u8],
-        at: usize,
-    ) -> Result<(), ModuleError> {
-        let (opcode, parts) = operator.parts();
-        match parts {
-            Immediates::Index(space, index) => match self.put_opcode(opcode) {
-                Ok(()) => self.put_index(Item { space, index }, at),
-                Err(error) => Err(error),
-            },
-            Immediates::IndexNumber(space, index, number) => {
-                match self.put_opcode(opcode) {
-                    Ok(()) => {}
-                    Err(error) => return Err(error),
-                }
-                match self.put_index(Item { space, index }, at) {
-                    Ok(()) => self.put_number(number),
-                    Err(error) => Err(error),
-                }
-            }
-            Immediates::Heap(ty) => self.put_heap(opcode, ty, at),
-            // No other operator that names an item is constant.
-            _ => match self.find_parts(&parts) {
-                Ok(()) => self.put(bytes),
-                Err(error) => Err(error),
-            },
-        }
-    }
-
-    /// An operator of a constant expression. Returns whether it is the `end`.
-    fn operator(&mut self, input: &mut Input<'_>) -> Result<bool, ModuleError> {
-        let begin = *input;
-        let mut reader = Reader::new(input.rest(), input.at());
-        let operator = match reader.read() {
-            Ok(operator) => operator,
-            Err(error) => return Err(ModuleError::of_read(error)),
-        };
-        input.pass(input.rest().len().saturating_sub(reader.bytes_remaining()));
-        match self.put_operator(&operator, begin.until(input), begin.at()) {
-            Ok(()) => Ok(matches!(operator, Operator::End)),
-            Err(error) => Err(error),
-        }
-    }
-
-    /// A constant expression: operators up to the `end`.
-    pub fn constant(&mut self, input: &mut Input<'_>) -> Result<(), ModuleError> {
-        // An operator has at least one byte.
-        for _ in 0..input.rest().len() {
-            match self.operator(input) {
-                Ok(true) => return Ok(()),
-                Ok(false) => {}
-                Err(error) => return Err(error),
-            }
-        }
-        Err(input.fault(ModuleFault::Truncated))
     }
 }

@@ -1,15 +1,19 @@
 //! What each item of a module refers to.
 
+ghost use Rattle.std.specs.Prelude.{◌≡◌, ◌-◌, ◌^◌, length, min, Some, None, IfOk, IfErr};
+ghost use Rattle.wasm_sections.specs.declared.fault.ModuleFault.TheVariants.{IndexOutOfRange};
+ghost use Rattle.module_removal.specs.ItemNumbers.{all_numbers, number_of_item};
+
 use crate::alike::AlikeTypes;
-use crate::bounds::{Active, LeastSizes, active_data, active_elements};
+use crate::bounds::{Active, LeastSizes, active_of};
 use crate::copier::Copier;
 use crate::counting::{count_items, defined_space};
 use crate::declared::Taken;
 use crate::item::{Item, ItemCounts, MODULE};
 use crate::parts::{done, group_members};
+use crate::vectors::VectorOf;
 use reaching::Graph;
 use std::alloc::Global;
-use wasm_body::IndexError;
 use wasm_ops::Space;
 use wasm_sections::{
     Bodies, Body, Input, ModuleError, ModuleFault, Section, SectionKind, Sections,
@@ -25,6 +29,7 @@ pub struct References {
     pub graph: Graph,
     /// The functions of which references are taken.
     pub(crate) taken: Taken,
+    pub ghost numbered: { length graph.last.items ≡ min (all_numbers counts) (2 ^ 64 - 1) },
 }
 
 /// The references of a module while they are read.
@@ -40,14 +45,16 @@ struct Gatherer<'m> {
 }
 
 /// The error of an item that the module doesn't have, at this place.
-fn no_item(item: Item, at: usize) -> ModuleError {
-    ModuleError::of_index(
-        IndexError::OutOfRange {
+fn no_item(item: Item, at: usize) -> ModuleError
+    ensures { result ≡ record { fault = IndexOutOfRange item.space item.index; at = at } }
+{
+    ModuleError {
+        fault: ModuleFault::IndexOutOfRange {
             space: item.space,
             index: item.index,
         },
         at,
-    )
+    }
 }
 
 /// The error of an index that doesn't fit 32 bits, at this place.
@@ -59,8 +66,18 @@ fn too_great(at: usize) -> ModuleError {
 }
 
 impl References {
+    ghost use Rattle.std.specs.Prelude.{◌<◌, ◌++◌, ◌∷◌, [], ℕ, OnOk, true, ◌↔◌};
+    ghost use Rattle.reaching.specs.Reaching.{edges_of, IsReachedFrom};
+    ghost use Rattle.reaching.specs.Searching.{is_set};
+    ghost use Rattle.wasm_sections.specs.declared.fault.ModuleFault.TheVariants.{Memory as NoMemory};
+    ghost use Rattle.module_removal.specs.Edges.{AddsReferencesTo, IsNotThere, roots_of};
+    ghost use Rattle.module_removal.specs.Gathered.{item_of_active, Activates};
+
     /// The number of an item, which is named at this place.
-    fn number(&self, item: Item, at: usize) -> Result<u32, ModuleError> {
+    fn number(&self, item: Item, at: usize) -> Result<u32, ModuleError>
+        ensures ok { IfOk result (λ number. number_of_item self.now.counts item ≡ Some number) }
+        ensures err { IfErr result (IsNotThere self.now.counts (item ∷ []) at) }
+    {
         match self.counts.number(item) {
             Some(number) => Ok(number),
             None => Err(no_item(item, at)),
@@ -68,16 +85,80 @@ impl References {
     }
 
     /// Adds a reference between items with these numbers. All numbers are those of items.
-    fn add_numbers(&mut self, from: u32, to: u32) -> Result<(), ModuleError> {
+    fn add_numbers(&mut self, from: u32, to: u32) -> Result<(), ModuleError>
+        ensures counts { self.new.counts ≡ self.old.counts }
+        ensures taken { self.new.taken ≡ self.old.taken }
+        ensures edges { OnOk result (from < all_numbers self.old.counts → to < all_numbers self.old.counts
+            → edges_of self.new.graph ≡ edges_of self.old.graph ++ (from, to) ∷ []) }
+        ensures err { IfErr result (λ error. error.fault ≡ NoMemory) }
+    {
         self.graph.add(from, to)?;
         Ok(())
     }
 
     /// Adds a reference to an item, which is named at this place.
-    fn add(&mut self, from: u32, to: Item, at: usize) -> Result<(), ModuleError> {
+    fn add(&mut self, from: u32, to: Item, at: usize) -> Result<(), ModuleError>
+        ensures ok { OnOk result (AddsReferencesTo from (to ∷ []) self.old self.new) }
+        ensures err { IfErr result (IsNotThere self.old.counts (to ∷ []) at) }
+    {
         match self.number(to, at) {
             Ok(to) => self.add_numbers(from, to),
             Err(error) => Err(error),
+        }
+    }
+
+    /// Adds references to these items, which are named at this place, in order.
+    fn add_all(&mut self, from: u32, items: &[Item], at: usize) -> Result<(), ModuleError>
+        ensures ok { OnOk result (AddsReferencesTo from items.now self.old self.new) }
+        ensures err { IfErr result (IsNotThere self.old.counts items.now at) }
+    {
+        'items: for item in items {
+            match self.add(from, *item, at) {
+                Ok(()) => {}
+                Err(error) => return Err(error),
+            }
+        }
+        Ok(())
+    }
+
+    /// Adds the functions among what the item with this number names.
+    fn declare_all(&mut self, number: u32, found: &[Item]) -> Result<(), ModuleError>
+        ensures counts { self.new.counts ≡ self.old.counts }
+        ensures graph { self.new.graph ≡ self.old.graph }
+    {
+        self.taken.declare_all(number, found)
+    }
+
+    /// Adds the reference from this table or memory, which is named at this place, to an active segment with this number.
+    fn activate_from(&mut self, number: u32, target: Item, at: usize) -> Result<(), ModuleError>
+        ensures ok { OnOk result (Activates number (Some target) self.old self.new) }
+        ensures same { self.new.taken ≡ self.old.taken }
+    {
+        match self.number(target, at) {
+            Ok(from) => self.add_numbers(from, number),
+            Err(error) => Err(error),
+        }
+    }
+
+    /// Adds the reference to an active segment with this number: from its table or memory, or from the module itself.
+    fn activate(
+        &mut self,
+        number: u32,
+        active: &Active,
+        is_within: bool,
+        at: usize,
+    ) -> Result<(), ModuleError>
+        ensures ok { OnOk result (Activates number (Some (item_of_active active.now)) self.old self.new) }
+        ensures same { self.new.taken ≡ self.old.taken }
+    {
+        if is_within {
+            let target = Item {
+                space: active.space,
+                index: active.index,
+            };
+            self.activate_from(number, target, at)
+        } else {
+            self.add_numbers(MODULE, number)
         }
     }
 
@@ -86,10 +167,14 @@ impl References {
     /// # Errors
     ///
     /// `Memory`.
-    pub fn reachable(&self, alloc: Global, roots: &[Item]) -> Result<Vec<bool>, ModuleError> {
+    pub fn reachable(&self, alloc: Global, roots: &[Item]) -> Result<Vec<bool>, ModuleError>
+        ensures reached { IfOk result (λ marks. (x : ℕ) → is_set marks.items x ≡ true
+            ↔ IsReachedFrom (length self.now.graph.last.items) (edges_of self.now.graph) (roots_of self.now.counts roots.now) x) }
+        ensures err { IfErr result (λ error. error.fault ≡ NoMemory) }
+    {
         let mut numbers = Vec::new(alloc);
         numbers.push(MODULE)?;
-        for root in roots {
+        'roots: for root in roots {
             if let Some(number) = self.counts.number(*root) {
                 numbers.push(number)?;
             }
@@ -102,19 +187,30 @@ impl References {
 }
 
 impl<'m> Gatherer<'m> {
+    ghost use Rattle.std.specs.Prelude.{ℕ, List, option_map, OnOk};
+    ghost use Rattle.wasm_operators.specs.declared.types.Space.{Space};
+    ghost use Rattle.wasm_operators.specs.declared.types.Space.TheVariants.{Funcs as OfFuncs};
+    ghost use Rattle.module_removal.specs.ItemNumbers.{count_of, with_more_items};
+    ghost use Rattle.module_removal.specs.CopiedParts.{item_at, copied_index};
+    ghost use Rattle.module_removal.specs.CopiedItems.{copied_import};
+    ghost use Rattle.module_removal.specs.Edges.{AddsReferencesTo, IsNotThere};
+    ghost use Rattle.module_removal.specs.Gathered.{own_index, item_of_active, Activates, GathersNext, GathersOwn};
+
     /// Adds references to what was found in an item, which begins at this place.
-    fn refer(&mut self, from: u32, at: usize) -> Result<(), ModuleError> {
-        for item in &self.copier.found {
-            match self.references.add(from, *item, at) {
-                Ok(()) => {}
-                Err(error) => return Err(error),
-            }
-        }
-        Ok(())
+    fn refer(&mut self, from: u32, at: usize) -> Result<(), ModuleError>
+        ensures ok { OnOk result (AddsReferencesTo from self.old.copier.found.items self.old.references self.new.references) }
+        ensures same { self.new ≡ record self.old { references = self.new.references } }
+        ensures err { IfErr result (IsNotThere self.old.references.counts self.old.copier.found.items at) }
+    {
+        self.references.add_all(from, &self.copier.found, at)
     }
 
     /// The number of the next item of a space.
-    fn next_number(&mut self, space: Space, at: usize) -> Result<u32, ModuleError> {
+    fn next_number(&mut self, space: Space, at: usize) -> Result<u32, ModuleError>
+        ensures ok { IfOk result (λ number.
+            number_of_item self.old.references.counts (item_at space (count_of self.old.next space)) ≡ Some number) }
+        ensures same { self.new ≡ record self.old { next = with_more_items space 1 self.old.next } }
+    {
         let index = self.next.add(space);
         match u32::try_from(index) {
             Ok(index) => self.references.number(Item { space, index }, at),
@@ -181,8 +277,12 @@ impl<'m> Gatherer<'m> {
     }
 
     /// An import.
-    fn import(&mut self, input: &mut Input<'_>) -> Result<(), ModuleError> {
+    fn import(&mut self, input: &mut Input<'_>) -> Result<(), ModuleError>
+        ensures { self.old.copier.left ≡ None → OnOk result ((space : Space)
+            × GathersNext space None space (copied_import own_index input.old.end input.old.rest.now) input.new.rest.now self.old self.new) }
+    {
         let at = input.at();
+        self.copier.clear();
         let space = done!(self.copier.import(input));
         let number = done!(self.next_number(space, at));
         done!(self.sizes.add_imported(space));
@@ -190,70 +290,53 @@ impl<'m> Gatherer<'m> {
         self.refer(number, at)
     }
 
-    /// Adds references to and from an active segment.
-    fn active(&mut self, number: u32, active: &Active, at: usize) -> Result<(), ModuleError> {
-        if !self.sizes.has(active) {
-            return self.references.add_numbers(MODULE, number);
+    /// Adds the reference to a segment with this number, if it is active.
+    fn activate(
+        &mut self,
+        number: u32,
+        active: Option<Active>,
+        at: usize,
+    ) -> Result<(), ModuleError>
+        ensures ok { OnOk result
+            (Activates number (option_map item_of_active active) self.old.references self.new.references) }
+        ensures same { self.new ≡ record self.old { references = self.new.references } }
+    {
+        match active {
+            Some(active) => {
+                let is_within = self.sizes.has(&active);
+                self.references.activate(number, &active, is_within, at)
+            }
+            None => Ok(()),
         }
-        let target = Item {
-            space: active.space,
-            index: active.index,
-        };
-        let target = done!(self.references.number(target, at));
-        self.references.add_numbers(target, number)
     }
 
     /// An item of this space that the module defines, which isn't a function.
     fn defined(&mut self, space: Space, input: &mut Input<'_>) -> Result<(), ModuleError> {
         let begin = *input;
+        self.copier.clear();
         let number = done!(self.next_number(space, begin.at()));
-        let mut active = None;
-        match space {
-            Space::Tables => {
-                done!(self.sizes.add_table(begin));
-                done!(self.copier.table(input));
-            }
-            Space::Memories => {
-                done!(self.sizes.add_memory(begin));
-                done!(self.copier.limits(input));
-            }
-            Space::Tags => done!(self.copier.tag(input)),
-            Space::Globals => done!(self.copier.global(input)),
-            Space::Elements => {
-                active = done!(active_elements(begin));
-                done!(self.copier.element(input));
-            }
-            Space::Data => {
-                active = done!(active_data(begin));
-                done!(self.copier.data(input));
-            }
-            _ => done!(self.copier.index(input, Space::Types)),
-        }
-        if let Some(active) = active {
-            done!(self.active(number, &active, begin.at()));
-        }
-        done!(
-            self.references
-                .taken
-                .declare_all(number, &self.copier.found)
-        );
+        done!(self.sizes.add_defined(space, begin));
+        let active = done!(active_of(space, begin));
+        done!(self.copier.defined(space, input));
+        done!(self.activate(number, active, begin.at()));
+        done!(self.references.declare_all(number, &self.copier.found));
         self.refer(number, begin.at())
     }
 
     /// An export, to which the module itself refers.
     fn export(&mut self, input: &mut Input<'_>) -> Result<(), ModuleError> {
         let at = input.at();
+        self.copier.clear();
         done!(self.copier.export(input));
-        done!(
-            self.references
-                .taken
-                .declare_all(MODULE, &self.copier.found)
-        );
+        done!(self.references.declare_all(MODULE, &self.copier.found));
         self.refer(MODULE, at)
     }
 
     /// The start function.
-    fn start(&mut self, mut input: Input<'_>) -> Result<(), ModuleError> {
+    fn start(&mut self, mut input: Input<'_>) -> Result<(), ModuleError>
+        ensures { self.old.copier.left ≡ None → OnOk result ((following : List ℕ)
+            × GathersOwn (copied_index own_index OfFuncs input.entry.end input.entry.rest.now) following self.old self.new) }
+    {
         let at = input.at();
         self.copier.clear();
         done!(self.copier.index(&mut input, Space::Funcs));
@@ -265,7 +348,6 @@ impl<'m> Gatherer<'m> {
         let mut input = section.contents;
         let count = done!(input.number());
         for _ in 0..count {
-            self.copier.clear();
             match section.kind {
                 SectionKind::Import => done!(self.import(&mut input)),
                 SectionKind::Export => done!(self.export(&mut input)),
@@ -320,14 +402,10 @@ impl<'m> Gatherer<'m> {
         let number = done!(self.references.number(item, at));
         self.copier.clear();
         let mut input = body.input;
-        let declarations = done!(input.number());
-        for _ in 0..declarations {
-            done!(self.copier.number(&mut input));
-            done!(self.copier.value_type(&mut input));
-        }
+        done!(self.copier.vector(VectorOf::Runs, &mut input));
         done!(
             self.copier
-                .find_operators(&input, &mut self.references.taken, func)
+                .find_operators(input, &mut self.references.taken, func)
         );
         self.refer(number, at)
     }

@@ -1,5 +1,8 @@
 //! A module without the items that are removed.
 
+ghost use Rattle.std.specs.Prelude.{◌≡◌, ◌++◌, OnOk};
+ghost use Rattle.wasm_sections.specs.Sections.{section, section_id};
+
 use crate::code::LeftCode;
 use crate::copier::Copier;
 use crate::counting::defined_space;
@@ -37,60 +40,54 @@ struct Writer<'m> {
 }
 
 /// Appends a section with these contents.
-fn put_section(out: &mut Vec<u8>, kind: SectionKind, contents: &[u8]) -> Result<(), ModuleError> {
+#[tactic(auto, using(wasm_encode::proofs::Appending::appending))]
+fn put_section(out: &mut Vec<u8>, kind: SectionKind, contents: &[u8]) -> Result<(), ModuleError>
+    ensures { OnOk result (out.new.items ≡ out.old.items ++ section (section_id kind) contents.now) }
+{
     out.push(kind.id())?;
     write_bytes(out, contents)
 }
 
 impl<'m> Writer<'m> {
-    /// Copies an item of a section of this kind.
-    fn copy(
-        copier: &mut Copier<'m>,
-        kind: SectionKind,
-        input: &mut Input<'_>,
-    ) -> Result<(), ModuleError> {
-        copier.clear();
-        match kind {
-            SectionKind::Import => {
-                done!(copier.import(input));
-                Ok(())
-            }
-            SectionKind::Function => copier.index(input, Space::Types),
-            SectionKind::Table => copier.table(input),
-            SectionKind::Memory => copier.limits(input),
-            SectionKind::Tag => copier.tag(input),
-            SectionKind::Global => copier.global(input),
-            SectionKind::Export => copier.export(input),
-            SectionKind::Element => copier.element(input),
-            _ => copier.data(input),
-        }
-    }
+    ghost use Rattle.std.specs.Prelude.{◌≡◌, ◌++◌, true, OnOk};
+    ghost use Rattle.item_sets.specs.ItemsLeft.{is_left, left_count};
+    ghost use Rattle.wasm_operators.specs.declared.types.Space.TheVariants.{Data as OfData};
+    ghost use Rattle.module_removal.specs.ItemNumbers.{count_of, counted_more, with_more_items};
+    ghost use Rattle.module_removal.specs.LeftSpaces.{marks_of};
+    ghost use Rattle.module_removal.specs.CopiedItems.{copied_export, copied_defined};
+    ghost use Rattle.module_removal.specs.Written.{data_count_section, WritesIf, WritesNextItem};
 
     /// Adds the item that was copied to those of the section.
-    fn add(&mut self) -> Result<(), ModuleError> {
+    fn add(&mut self) -> Result<(), ModuleError>
+        ensures items { OnOk result (self.new.items.items ≡ self.old.items.items ++ self.old.kept.out.items) }
+        ensures count { OnOk result (self.new.count ≡ counted_more self.old.count 1) }
+        ensures same { self.new ≡ record self.old { items = self.new.items; count = self.new.count } }
+    {
         self.items.extend_from_slice(&self.kept.out)?;
         self.count = self.count.saturating_add(1);
         Ok(())
     }
 
     /// Whether the next item of this space is left.
-    fn is_next_left(&mut self, space: Space) -> bool {
+    fn is_next_left(&mut self, space: Space) -> bool
+        ensures is { result ≡ is_left (marks_of self.old.remainder.now.left space) (count_of self.old.next space) }
+        ensures same { self.new ≡ record self.old { next = with_more_items space 1 self.old.next } }
+    {
         let index = self.next.add(space);
         self.remainder.left.space(space).is_left(index)
     }
 
     /// An item of this space, if it is left.
-    fn item(
-        &mut self,
-        kind: SectionKind,
-        space: Space,
-        input: &mut Input<'_>,
-    ) -> Result<(), ModuleError> {
+    fn item(&mut self, space: Space, input: &mut Input<'_>) -> Result<(), ModuleError>
+        ensures { OnOk result (WritesNextItem space (λ w. copied_defined w space) input.old.end input.old.rest.now input.new.rest.now self.old self.new) }
+    {
         if self.is_next_left(space) {
-            done!(Writer::copy(&mut self.kept, kind, input));
+            self.kept.clear();
+            done!(self.kept.defined(space, input));
             return self.add();
         }
-        Writer::copy(&mut self.passed, kind, input)
+        self.passed.clear();
+        self.passed.defined(space, input)
     }
 
     /// An import, if it is left.
@@ -99,7 +96,8 @@ impl<'m> Writer<'m> {
         self.passed.clear();
         let space = done!(self.passed.import(&mut after));
         if self.is_next_left(space) {
-            done!(Writer::copy(&mut self.kept, SectionKind::Import, input));
+            self.kept.clear();
+            done!(self.kept.import(input));
             return self.add();
         }
         *input = after;
@@ -107,8 +105,11 @@ impl<'m> Writer<'m> {
     }
 
     /// An export: all are left.
-    fn export(&mut self, input: &mut Input<'_>) -> Result<(), ModuleError> {
-        done!(Writer::copy(&mut self.kept, SectionKind::Export, input));
+    fn export(&mut self, input: &mut Input<'_>) -> Result<(), ModuleError>
+        ensures { OnOk result (WritesIf true copied_export input.old.end input.old.rest.now input.new.rest.now self.old self.new) }
+    {
+        self.kept.clear();
+        done!(self.kept.export(input));
         self.add()
     }
 
@@ -151,7 +152,7 @@ impl<'m> Writer<'m> {
                 SectionKind::Import => done!(self.import(&mut input)),
                 SectionKind::Export => done!(self.export(&mut input)),
                 kind => match defined_space(kind) {
-                    Some(space) => done!(self.item(kind, space, &mut input)),
+                    Some(space) => done!(self.item(space, &mut input)),
                     None => return Ok(()),
                 },
             }
@@ -213,7 +214,10 @@ impl<'m> Writer<'m> {
     }
 
     /// The number of data segments, if there are any.
-    fn data_count(&mut self) -> Result<(), ModuleError> {
+    fn data_count(&mut self) -> Result<(), ModuleError>
+        ensures { OnOk result (self.new.out.items
+            ≡ self.old.out.items ++ data_count_section (left_count (marks_of self.old.remainder.now.left OfData))) }
+    {
         let count = self.remainder.left.space(Space::Data).count();
         if count == 0 {
             return Ok(());

@@ -1,0 +1,124 @@
+-- What is gathered of an item: the part that is read, its number, and the edges from it.
+use Rattle.std.proofs.Common.{◌≡◌, ◌⊎◌, ℕ, ◌+◌, ◌<◌, List, [], ◌∷◌, ◌++◌, option_map, Option, Some, None, Result, Ok, Err, OnOk, refl, sym, ap, subst, ◌∙◌, inl, inr, arith}
+use Rattle.std.proofs.lemmas.List.{append-nil}
+use Rattle.wasm_operators.specs.declared.types.Space.{Space}
+use Rattle.reaching.specs.Reaching.{edges_of}
+use Rattle.wasm_sections.specs.declared.fault.ModuleError.{ModuleError}
+use Rattle.module_removal.specs.declared.bounds.Active.{Active}
+use denote.Ref.{Bor}
+use Rattle.module_removal.specs.declared.copier.Copier.{Copier}
+use Rattle.module_removal.specs.declared.item.Item.{Item}
+use Rattle.module_removal.specs.declared.item.ItemCounts.{ItemCounts}
+use Rattle.module_removal.specs.declared.left.LeftItems.{LeftItems}
+use Rattle.module_removal.specs.declared.references.Gatherer.{Gatherer}
+use Rattle.module_removal.specs.declared.references.References.{References}
+use Rattle.module_removal.specs.LeftSpaces.{index_written}
+use Rattle.module_removal.specs.ItemNumbers.{count_of, all_numbers, number_of_item, with_more_items}
+use Rattle.module_removal.specs.CopiedParts.{Copied, CopiedPart, NewIndices, item_at, AppendsCopied, Copies}
+use Rattle.module_removal.specs.Edges.{RefersTo, AddsReferencesTo}
+use Rattle.module_removal.specs.Gathered.{own_index, IsActivated, Activates, item_of_active, GathersNext, GathersOwn}
+use Rattle.module_removal.proofs.EdgeLemmas.{number_within}
+
+refers_as :
+    (c d : ItemCounts) (from : ℕ) (xs ys : List Item) (es fs new : List (ℕ × ℕ)) → c ≡ d → xs ≡ ys → es ≡ fs → RefersTo c from xs es new → RefersTo d from ys fs new
+refers_as c d from xs ys es fs new p q r t =
+    subst (λ (k : ItemCounts). RefersTo k from ys fs new) p
+    (subst (λ (l : List Item). RefersTo c from l fs new) q (subst (λ (l : List (ℕ × ℕ)). RefersTo c from xs l new) r t))
+
+-- what is found after nothing was
+found_is : (cleared mid : Copier) (a : Copied) → cleared.found.items ≡ [] → AppendsCopied cleared a mid → mid.found.items ≡ a.named
+found_is cleared mid a none p = p.found ∙ ap (λ (l : List Item). l ++ a.named) none
+
+-- a part whose items keep their indices
+own_part :
+    {A : Type 0} (part : NewIndices → CopiedPart A) (end : ℕ) (text : List ℕ) (cleared : Copier) (r : Result ((A × Copied) × List ℕ) ModuleError) →
+    cleared.left ≡ None → part (index_written cleared.left) end text ≡ r → part own_index end text ≡ r
+own_part part end text cleared r none e = ap (λ (l : Option (Bor LeftItems)). part (index_written l) end text) (sym none) ∙ e
+
+pub gathers_next :
+    {A : Type 0} (space : Space) (target : Option Item) (value : A) (part : NewIndices → CopiedPart A) (end : ℕ) (text following : List ℕ) (old new : Gatherer)
+    (cleared mid : Copier) (act base : References) (number : ℕ) (r : Result (Unit {0}) ModuleError) → cleared.left ≡ None → cleared.found.items ≡ [] →
+    Copies cleared mid following (Ok value) (part (index_written cleared.left) end text) →
+    number_of_item old.references.counts (item_at space (count_of old.next space)) ≡ Some number → Activates number target old.references act →
+    base.counts ≡ act.counts → base.graph ≡ act.graph → new.next ≡ with_more_items space 1 old.next → new.copier.left ≡ mid.left →
+    OnOk r (AddsReferencesTo number mid.found.items base new.references) →
+    OnOk r (GathersNext space target value (part own_index end text) following old new)
+gathers_next space target value part end text following old new cleared mid act base number (Err e) left none copies is activates c g next same adds = tt
+gathers_next space target value part end text following old new cleared mid act base number (Ok u) left none copies is activates c g next same adds =
+    let within = number_within old.references.counts (item_at space (count_of old.next space)) number is in
+    let active = activates.edges within in
+    let counts : base.counts ≡ old.references.counts = c ∙ activates.counts in
+    record {
+      number = number;
+      number_is = is;
+      next = next;
+      counts = adds.counts ∙ counts;
+      finds = same ∙ copies.2.left ∙ left;
+      copied = copies.0;
+      read = own_part part end text cleared (Ok ((value, copies.0), following)) left copies.1;
+      active = active.0;
+      is_active = active.1;
+      refers =
+          refers_as base.counts old.references.counts number mid.found.items copies.0.named (edges_of base.graph) (edges_of old.references.graph ++ active.0)
+          (edges_of new.references.graph) counts (found_is cleared mid copies.0 none copies.2) (ap edges_of g ∙ active.2)
+          (adds.refers (subst (λ (k : ItemCounts). number < all_numbers k) (sym counts) within));
+    }
+
+-- no segment is activated
+pub activates_none : (number : ℕ) (old : References) → Activates number None old old
+activates_none number old = record { counts = refl; edges = λ within. ([], refl, sym (append-nil (edges_of old.graph))) }
+
+pub gathers_own :
+    (part : NewIndices → CopiedPart (Unit {0})) (end : ℕ) (text following : List ℕ) (old new : Gatherer) (cleared mid : Copier) (base : References)
+    (r : Result (Unit {0}) ModuleError) → cleared.left ≡ None → cleared.found.items ≡ [] →
+    Copies cleared mid following (Ok tt) (part (index_written cleared.left) end text) → base.counts ≡ old.references.counts → base.graph ≡ old.references.graph →
+    new.next ≡ old.next → new.copier.left ≡ mid.left → OnOk r (AddsReferencesTo 0 mid.found.items base new.references) →
+    OnOk r (GathersOwn (part own_index end text) following old new)
+gathers_own part end text following old new cleared mid base (Err e) left none copies counts graph next same adds = tt
+gathers_own part end text following old new cleared mid base (Ok u) left none copies counts graph next same adds = record {
+  next = next;
+  counts = adds.counts ∙ counts;
+  finds = same ∙ copies.2.left ∙ left;
+  copied = copies.0;
+  read = own_part part end text cleared (Ok ((tt, copies.0), following)) left copies.1;
+  refers =
+      refers_as base.counts old.references.counts 0 mid.found.items copies.0.named (edges_of base.graph) (edges_of old.references.graph)
+      (edges_of new.references.graph) counts (found_is cleared mid copies.0 none copies.2) (ap edges_of graph) (adds.refers (omega arith));
+}
+
+-- ---- results
+
+pub with_its_space : (r : Result (Unit {0}) ModuleError) (P : Space → Type 0) (space : Space) → OnOk r (P space) → OnOk r ((s : Space) × P s)
+with_its_space (Ok u) P space p = (space, p)
+with_its_space (Err e) P space p = tt
+
+pub with_following : (r : Result (Unit {0}) ModuleError) (P : List ℕ → Type 0) (following : List ℕ) → OnOk r (P following) → OnOk r ((f : List ℕ) × P f)
+with_following (Ok u) P following p = (following, p)
+with_following (Err e) P following p = tt
+
+-- ---- active segments
+
+pub activates_some :
+    (number : ℕ) (active : Option Active) (a : Active) (old new : References) (r : Result (Unit {0}) ModuleError) → active ≡ Some a →
+    OnOk r (Activates number (Some (item_of_active a)) old new) → OnOk r (Activates number (option_map item_of_active active) old new)
+activates_some number active a old new r e p = subst (λ (o : Option Active). OnOk r (Activates number (option_map item_of_active o) old new)) (sym e) p
+
+pub activates_no : (number : ℕ) (active : Option Active) (old : References) → active ≡ None → Activates number (option_map item_of_active active) old old
+activates_no number active old e = subst (λ (o : Option Active). Activates number (option_map item_of_active o) old old) (sym e) (activates_none number old)
+
+pub activates_own :
+    (number : ℕ) (target : Item) (old new : References) (r : Result (Unit {0}) ModuleError) → new.counts ≡ old.counts →
+    OnOk r (0 < all_numbers old.counts → number < all_numbers old.counts → edges_of new.graph ≡ edges_of old.graph ++ (0, number) ∷ []) →
+    OnOk r (Activates number (Some target) old new)
+activates_own number target old new (Ok u) counts p =
+    record { counts = counts; edges = λ within. ((0, number) ∷ [], inl refl, p (omega arith) within) }
+activates_own number target old new (Err e) counts p = tt
+
+pub activates_from :
+    (number t : ℕ) (target : Item) (old new : References) (r : Result (Unit {0}) ModuleError) → new.counts ≡ old.counts →
+    number_of_item old.counts target ≡ Some t →
+    OnOk r (t < all_numbers old.counts → number < all_numbers old.counts → edges_of new.graph ≡ edges_of old.graph ++ (t, number) ∷ []) →
+    OnOk r (Activates number (Some target) old new)
+activates_from number t target old new (Ok u) counts is p =
+    record { counts = counts; edges = λ within. ((t, number) ∷ [], inr (t, is, refl), p (number_within old.counts target t is) within) }
+activates_from number t target old new (Err e) counts is p = tt

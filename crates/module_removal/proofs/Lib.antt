@@ -1,0 +1,14 @@
+-- the marks of items by their numbers
+pub mod MarkLemmas
+-- references to items
+pub mod EdgeLemmas
+-- what is copied: one part after the other; of items, types and operators; of kinds; and of constant expressions
+pub mod CopyLemmas
+pub mod ItemCopies
+pub mod KindCopies
+pub mod OperatorCopies
+-- items that operators name; what is gathered of an item
+pub mod NamedLemmas
+pub mod GatherLemmas
+-- what is reached is left
+pub mod ReachedLemmas
