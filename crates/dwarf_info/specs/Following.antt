@@ -78,15 +78,15 @@ abbrev pub length_at : Format → (start : ℕ) → ℕ
 length_at Dwarf32 start = start
 length_at Dwarf64 start = in_64_bits (start + 4)
 
-abbrev pub contents_at : Format → (start : ℕ) → ℕ
-contents_at Dwarf32 start = in_64_bits (start + 4)
-contents_at Dwarf64 start = in_64_bits (start + 12)
+abbrev pub after_unit_length : Format → (start : ℕ) → ℕ
+after_unit_length Dwarf32 start = in_64_bits (start + 4)
+after_unit_length Dwarf64 start = in_64_bits (start + 12)
 
 -- the length of a unit or a table between two places of its section
 abbrev pub length_steps : (own : List SectionChange) → Format → (start end : ℕ) → MergeSteps
 length_steps own format start end =
-    sized_steps (length_at format start) (offset_size format) (end - contents_at format start)
-    (offset_followed own end - offset_followed own (contents_at format start))
+    sized_steps (length_at format start) (offset_size format) (end - after_unit_length format start)
+    (offset_followed own end - offset_followed own (after_unit_length format start))
 
 -- ---- the steps of a unit
 

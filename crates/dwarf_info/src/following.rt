@@ -7,7 +7,7 @@ ghost use Rattle.dwarf_bytes.specs.declared.fault.DebugError.TheVariants.{Memory
 ghost use Rattle.dwarf_bytes.specs.Merging.{merging, AreMerged, IsFaultOfMerging, AreAllMerged, IsFaultOfAll};
 ghost use Rattle.dwarf_bytes.specs.Patches.{changes};
 ghost use Rattle.dwarf_info.specs.EntryViews.{attribute_spelled};
-ghost use Rattle.dwarf_info.specs.Following.{offset_followed, distance_followed, shifts_of, length_at, contents_at, sized_steps, length_steps, type_steps, shifted_offset, value_followed, number_part, follow_attribute, follow_attributes, follow_entries, follow_unit, follow_section};
+ghost use Rattle.dwarf_info.specs.Following.{offset_followed, distance_followed, shifts_of, length_at, after_unit_length, sized_steps, length_steps, type_steps, shifted_offset, value_followed, number_part, follow_attribute, follow_attributes, follow_entries, follow_unit, follow_section};
 ghost use Rattle.dwarf_info.specs.FollowViews.{section_shifts, follow_setting};
 ghost use Rattle.dwarf_info.specs.Views.{tables_of, value_spelled};
 
@@ -117,8 +117,8 @@ fn length_at(format: Format, start: usize) -> usize
 }
 
 // the place after that length, from which it counts
-fn contents_at(format: Format, start: usize) -> usize
-    ensures { result ≡ contents_at format start }
+fn after_unit_length(format: Format, start: usize) -> usize
+    ensures { result ≡ after_unit_length format start }
 {
     match format {
         Format::Dwarf32 => start.saturating_add(4),
@@ -143,7 +143,7 @@ pub fn follow_length(
         × IsFaultOfMerging (length_steps (changes own.now) format bounds.0 bounds.1) (merging out.old) fault)) }
 {
     let (start, end) = bounds;
-    let contents = contents_at(format, start);
+    let contents = after_unit_length(format, start);
     let old = end.saturating_sub(contents);
     let new = own.moved(end).saturating_sub(own.moved(contents));
     let place = (length_at(format, start), format.offset_size());
