@@ -1,5 +1,5 @@
 -- A body that is refused: what the contracts of parsing and rewriting say about it.
-use Rattle.std.proofs.Common.{◌≡◌, ◌⊎◌, ℕ, List, [], Option, Some, None, Result, Ok, Err, IfErr, inl, inr, subst, ◌∙◌}
+use Rattle.std.proofs.Common.{◌≡◌, ◌⊎◌, ℕ, List, [], Option, Some, None, Result, Ok, Err, IfErr, inl, inr, subst, ap, ◌∙◌}
 use Rattle.std.specs.Borrow.{Bor}
 use Rattle.std.specs.Fn.{Shared}
 use Rattle.wasm_body.specs.SourceTree.{Body}
@@ -13,15 +13,14 @@ use Rattle.walrus_parser.specs.Settings.{BothOrNone}
 use Rattle.walrus_numbering.specs.NumberMaps.{numbers_by}
 use Rattle.walrus_rewrite.specs.declared.error.RewriteError.{RewriteError}
 use Rattle.walrus_rewrite.specs.declared.error.RewriteError.TheVariants.{Parse, Walk, Emit}
-use Rattle.walrus_rewrite.specs.Errors.{IsOutOfMemory}
 use Rattle.walrus_rewrite.specs.RewrittenBodies.{RefusesRewriting}
 use Rattle.wasm_sections.specs.declared.fault.ModuleError.{ModuleError}
-use Rattle.wasm_sections.specs.declared.fault.ModuleFault.TheVariants.{Memory}
+use Rattle.wasm_sections.specs.Faults.{parse_fault, walk_fault, emit_fault}
 use Rattle.wasm_module.specs.declared.parsed.ParsedModule.{ParsedModule}
 use Rattle.wasm_sections.specs.CodeSections.{BodyAt}
 use Rattle.wasm_sections.specs.LocalsBelow.{locals_below}
 use Rattle.wasm_module.specs.RewrittenCode.{Extends, Enters}
-use Rattle.wasm_module.specs.Refusals.{place_in_file, HasFaultAt, IsRefusedBody, IsNotRewritten}
+use Rattle.wasm_module.specs.Refusals.{rewriting_fault, place_in_file, HasFirstFault, IsRefusedBody, IsNotRewritten}
 use Rattle.wasm_module.proofs.RewritingLemmas.{entered_then}
 
 -- ---- a parse
@@ -30,15 +29,16 @@ pub refused :
     (source now : ParsedModule) (function : ℕ) (b : BodyAt) (type id : ℕ) (args : List ℕ) (count : ℕ) (body : FunctionBody) (f : ParseFailure) (e : ModuleError) →
     Enters source function b now type args count body → id ≡ 0 →
     (f.error ≡ parse.Memory) ⊎ FirstFault (body_setting now.module now.spaces.indices id type body locals_below count None) (body_operators body) f →
-    (f.error ≡ parse.Memory → e.fault ≡ Memory) → e.at ≡ f.at → IsRefusedBody source function b now e
-refused source now function b type id args count body f e enters is_first r out_of_memory place =
+    e.fault ≡ parse_fault f.error → e.at ≡ f.at → IsRefusedBody source function b now e
+refused source now function b type id args count body f e enters is_first r named place =
     elim r [
-      | inl memory ↦ inl (out_of_memory memory)
+      | inl memory ↦ inl (named ∙ ap parse_fault memory)
       | inr fault ↦ inr (inr (record {
         entered = record { type = type; args = args; count = count; body = body; enters = enters };
         failure = f;
         is_first =
             subst (λ (n : ℕ). FirstFault (body_setting now.module now.spaces.indices n type body locals_below count None) (body_operators body) f) is_first fault;
+        fault = named;
         place = place;
       }))
     ]
@@ -68,29 +68,28 @@ pub not_rewritten :
     (source now : ParsedModule) (function : ℕ) (b : BodyAt) (type id : ℕ) (args : List ℕ) (count : ℕ) (body : FunctionBody) (start : ℕ) (x : RewriteError) (e : ModuleError) →
     Enters source function b now type args count body → id ≡ 0 → start ≡ b.start →
     RefusesRewriting calls (body_input now.module now.spaces.indices id type body (no_location_function F) locals_below count)
-    (record { to = numbers_by now.module.types now.spaces.numbers []; types = now.module.locals; args = args }) x → (IsOutOfMemory x → e.fault ≡ Memory) → e.at ≡ place_in_file start x →
+    (record { to = numbers_by now.module.types now.spaces.numbers []; types = now.module.locals; args = args }) x → e.fault ≡ rewriting_fault x → e.at ≡ place_in_file start x →
     IsNotRewritten source function b now e
-not_rewritten F calls source now function b type id args count body start (Parse f) e enters is_first same r out_of_memory place =
-    inl (refused source now function b type id args count body f e enters is_first (first_alone F (λ locations. body_setting now.module now.spaces.indices id type body locals_below count locations) (body_operators body) f r) out_of_memory place)
-not_rewritten F calls source now function b type id args count body start (Walk w) e enters is_first same r out_of_memory place = inl (inl (out_of_memory r))
-not_rewritten F calls source now function b type id args count body start (Emit x) e enters is_first same r out_of_memory place =
+not_rewritten F calls source now function b type id args count body start (Parse f) e enters is_first same r named place =
+    inl (refused source now function b type id args count body f e enters is_first (first_alone F (λ locations. body_setting now.module now.spaces.indices id type body locals_below count locations) (body_operators body) f r) named place)
+not_rewritten F calls source now function b type id args count body start (Walk w) e enters is_first same r named place = inl (inl (named ∙ ap walk_fault r))
+not_rewritten F calls source now function b type id args count body start (Emit x) e enters is_first same r named place =
     let At : ℕ → Type 0 =
     λ n. RefusesRewriting calls (body_input now.module now.spaces.indices n type body (no_location_function F) locals_below count)
     (record { to = numbers_by now.module.types now.spaces.numbers []; types = now.module.locals; args = args }) (Emit x) in
     elim (subst At is_first r) [
-      | inl memory ↦ inl (inl (out_of_memory memory))
-      | inr none ↦ inr (
-        place ∙ same,
-        record {
-          entered = record { type = type; args = args; count = count; body = body; enters = enters };
-          tree = none.0;
-          accepted =
-              accepted_without F (λ locations. body_setting now.module now.spaces.indices 0 type body locals_below count locations) (body_operators body) none.0
-              none.1.locations none.1.are_given none.1.accepted;
-          error = x;
-          has_none = none.2;
-        },
-      )
+      | inl memory ↦ inl (inl (named ∙ ap emit_fault memory))
+      | inr none ↦ inr (record {
+        entered = record { type = type; args = args; count = count; body = body; enters = enters };
+        tree = none.0;
+        accepted =
+            accepted_without F (λ locations. body_setting now.module now.spaces.indices 0 type body locals_below count locations) (body_operators body) none.0
+            none.1.locations none.1.are_given none.1.accepted;
+        error = x;
+        has_none = none.2;
+        fault = named;
+        place = place ∙ same;
+      })
     ]
 
 -- the same, with arguments that are these
@@ -99,21 +98,22 @@ pub not_rewritten_flat :
     (source now : ParsedModule) (function : ℕ) (b : BodyAt) (type id : ℕ) (given args : List ℕ) (count : ℕ) (body : FunctionBody) (start : ℕ) (x : RewriteError) (e : ModuleError) →
     Enters source function b now type args count body → id ≡ 0 → start ≡ b.start → given ≡ args →
     RefusesRewriting calls (body_input now.module now.spaces.indices id type body (no_location_function F) locals_below count)
-    (record { to = numbers_by now.module.types now.spaces.numbers []; types = now.module.locals; args = given }) x → (IsOutOfMemory x → e.fault ≡ Memory) → e.at ≡ place_in_file start x →
+    (record { to = numbers_by now.module.types now.spaces.numbers []; types = now.module.locals; args = given }) x → e.fault ≡ rewriting_fault x → e.at ≡ place_in_file start x →
     IsNotRewritten source function b now e
-not_rewritten_flat F calls source now function b type id given args count body start x e enters is_first same args_are r out_of_memory place =
+not_rewritten_flat F calls source now function b type id given args count body start x e enters is_first same args_are r named place =
     let At : List ℕ → Type 0 =
     λ xs. RefusesRewriting calls (body_input now.module now.spaces.indices id type body (no_location_function F) locals_below count)
     (record { to = numbers_by now.module.types now.spaces.numbers []; types = now.module.locals; args = xs }) x in
-    not_rewritten F calls source now function b type id args count body start x e enters is_first same (subst At args_are r) out_of_memory place
+    not_rewritten F calls source now function b type id args count body start x e enters is_first same (subst At args_are r) named place
 
 -- ---- in a module that extends the source
 
-fault_then : (source a now : ParsedModule) (function : ℕ) (b : BodyAt) (at : ℕ) → Extends source a → HasFaultAt a function b now at → HasFaultAt source function b now at
-fault_then source a now function b at e p = record {
-  entered = entered_then source a now function b e p.entered;
+fault_then : (source a now : ParsedModule) (function : ℕ) (b : BodyAt) (e : ModuleError) → Extends source a → HasFirstFault a function b now e → HasFirstFault source function b now e
+fault_then source a now function b e extends p = record {
+  entered = entered_then source a now function b extends p.entered;
   failure = p.failure;
   is_first = p.is_first;
+  fault = p.fault;
   place = p.place;
 }
 
@@ -123,7 +123,7 @@ refused_then source a now function b e extends r =
       | inl memory ↦ inl memory
       | inr other ↦ elim other [
         | inl none ↦ inr (inl none)
-        | inr fault ↦ inr (inr (fault_then source a now function b e.at extends fault))
+        | inr fault ↦ inr (inr (fault_then source a now function b e extends fault))
       ]
     ]
 
@@ -140,14 +140,13 @@ if_not_rewritten_then source a now function b (Ok x) extends p = tt
 if_not_rewritten_then source a now function b (Err e) extends p =
     elim p [
       | inl refused ↦ inl (refused_then source a now function b e extends refused)
-      | inr none ↦ inr (
-        none.0,
-        record {
-          entered = entered_then source a now function b extends none.1.entered;
-          tree = none.1.tree;
-          accepted = none.1.accepted;
-          error = none.1.error;
-          has_none = none.1.has_none;
-        },
-      )
+      | inr none ↦ inr (record {
+        entered = entered_then source a now function b extends none.entered;
+        tree = none.tree;
+        accepted = none.accepted;
+        error = none.error;
+        has_none = none.has_none;
+        fault = none.fault;
+        place = none.place;
+      })
     ]

@@ -1,11 +1,9 @@
 //! Why a module isn't read or rewritten.
 ghost use Rattle.std.specs.Prelude.{◌≡◌};
 ghost use Rattle.walrus_ir.specs.declared.error.WalkError.TheVariants as walk;
-ghost use Rattle.wasm_body.specs.declared.error.EmitError.TheVariants as emit;
 ghost use Rattle.wasm_body.specs.declared.error.IndexError.TheVariants as index;
-ghost use Rattle.wasm_body.specs.declared.error.ParseError.TheVariants as parse;
 ghost use Rattle.wasm_sections.specs.declared.fault.ModuleFault.TheVariants.{Memory};
-ghost use Rattle.wasm_sections.specs.Faults.{index_fault, section_index_fault, walk_fault};
+ghost use Rattle.wasm_sections.specs.Faults.{index_fault, section_index_fault, walk_fault, parse_fault, emit_fault};
 
 use std::alloc::{AllocError, AllocFailed};
 use std::error::Error;
@@ -183,7 +181,7 @@ impl ModuleFault {
     /// The fault of a body that isn't accepted. The validator refuses locals that the function
     /// doesn't have.
     fn of_parse(error: ParseError) -> ModuleFault
-        ensures { error ≡ parse.Memory → result ≡ Memory }
+        ensures { result ≡ parse_fault error }
     {
         match error {
             ParseError::Read(error) => ModuleFault::Read(error.fault),
@@ -207,7 +205,7 @@ impl ModuleFault {
 
     /// The fault of a function that can't be written.
     pub fn of_emit(error: EmitError) -> ModuleFault
-        ensures { error ≡ emit.Memory → result ≡ Memory }
+        ensures { result ≡ emit_fault error }
     {
         match error {
             EmitError::Index(error) => ModuleFault::of_index(error),
@@ -284,7 +282,7 @@ impl ModuleError {
 
     /// The error of a body that isn't parsed.
     pub fn of_parse(failure: ParseFailure) -> ModuleError
-        ensures memory { failure.error ≡ parse.Memory → result.fault ≡ Memory }
+        ensures fault { result.fault ≡ parse_fault failure.error }
         ensures place { result.at ≡ failure.at }
     {
         ModuleError {

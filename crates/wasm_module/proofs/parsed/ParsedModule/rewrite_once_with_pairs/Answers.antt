@@ -34,4 +34,4 @@ returns-in-Err-clause-refused c =
     not_rewritten _ _ c.args.self.now _ c.args.body.func (body_at c.args.body) made.ty c.local_lists-lists.result made.args.items made.locals made.body c.start.result c.in-Err.error
     c.body_error.result
     (enters_kept c.args.self.now c.enter.new.self _ c.args.body.func (body_at c.args.body) made.ty made.args.items made.locals made.body
-    (record { bytes = refl; tags = refl; func_types = refl; imported = refl }) refl refl refl c.in_ok-ty.ensures.enters) c.local_lists-lists.ensures c.start.ensures.place c.in-Err.ensures.refused c.body_error.ensures.memory c.body_error.ensures.place
+    (record { bytes = refl; tags = refl; func_types = refl; imported = refl }) refl refl refl c.in_ok-ty.ensures.enters) c.local_lists-lists.ensures c.start.ensures.place c.in-Err.ensures.refused c.body_error.ensures.fault c.body_error.ensures.place
