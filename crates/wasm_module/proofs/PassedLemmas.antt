@@ -1,5 +1,6 @@
 -- The bodies of a module that was read, one after the other: those that are passed, and those that are left.
-use Rattle.std.proofs.Common.{◌≡◌, ℕ, ◌+◌, ◌-◌, ◌≤◌, ◌^◌, nat_le, Bool, true, if◌then◌else◌, List, [], ◌∷◌, ◌++◌, length, take, drop, Option, Some, None, MatchOption, Result, Ok, Err, IsErr, refl, sym, ap, ◌∙◌, subst, inl, inr, arith, append_assoc, length-append}
+use Rattle.std.proofs.Common.{◌≡◌, ◌≢◌, ℕ, ◌+◌, ◌-◌, ◌≤◌, ◌^◌, nat_le, Bool, true, if◌then◌else◌, List, [], ◌∷◌, ◌++◌, length, take, drop, Option, Some, None, MatchOption, Result, Ok, Err, IsErr, refl, sym, ap, ◌∙◌, subst, inl, inr, arith, append_assoc, length-append}
+use Rattle.std.proofs.lemmas.Bool.{cases_lt}
 use Rattle.std.proofs.lemmas.Bool.Decides.{nat_tests}
 use Rattle.std.proofs.lemmas.List.{append-nil}
 use Rattle.wasm_numbers.specs.Numbers.{u32}
@@ -12,7 +13,7 @@ use Rattle.wasm_sections.specs.CodeSections.{BodyAt, AreBodies, IsCode, body_at,
 use Rattle.wasm_sections.specs.Parts.{fault_here, item_fault, number, piece, bytes_part}
 use Rattle.wasm_sections.proofs.TypeReadingLemmas.{first_gives}
 use Rattle.wasm_module.specs.declared.parsed.ParsedModule.{ParsedModule}
-use Rattle.wasm_module.specs.ModuleCode.{AreBodiesOf}
+use Rattle.wasm_module.specs.ModuleCode.{AreBodiesOf, IsBodyOfFunction, HasNoFunctionBody}
 use Rattle.wasm_module.specs.ReadFrom.{IsModuleOf}
 use Rattle.wasm_module.specs.ReadModules.{components_of, HasBodiesOf}
 use Rattle.wasm_module.proofs.ModuleCodeLemmas.{same_entry, none_empty, module_read}
@@ -131,3 +132,44 @@ all_passed source passed s t r p i takes =
     let taken : TakesBody s None t = subst (λ (o : Option Body). TakesBody s o t) i takes in
     let none = none_left source passed p.others s t p.are_bodies p.next_is p.others_are p.few taken in
     subst (λ (l : List BodyAt). AreBodiesOf (components_of source) l) (ap (λ (l : List BodyAt). passed ++ l) none ∙ append-nil passed) p.are_bodies
+
+-- ---- the body of a function
+
+-- Bodies are passed, of functions before this one.
+pub record PassedBefore (source : ParsedModule) (index : ℕ) (left : Bodies) : Type 0 where
+  pub passed : List BodyAt
+  pub left_is : BodiesLeft source passed left
+  pub before : source.imported ≤ index → source.imported + length passed ≤ index
+
+pub none_before :
+    (file : List ℕ) (source : ParsedModule) (index : ℕ) (left : Bodies) → IsModuleOf file source → left.next ≡ source.imported → HasBodiesOf (components_of source).code left →
+    PassedBefore source index left
+none_before file source index left reads next h = record { passed = []; left_is = none_passed file source left reads next h; before = λ most. omega arith }
+
+module _ (source : ParsedModule) (index : ℕ) (s t : Bodies) (r : Option Body) where
+  pub one_before : (b : Body) → PassedBefore source index s → r ≡ Some b → TakesBody s r t → b.func ≢ index → PassedBefore source index t
+  one_before b p i takes other =
+      let next = one_passed source p.passed s t r b p.left_is i takes in
+      record {
+        passed = p.passed ++ body_at b ∷ [];
+        left_is = next.left;
+        before = λ most.
+            let least = p.before most in let len = length-append p.passed (body_at b ∷ []) in
+            elim (cases_lt (source.imported + length p.passed) index) [
+              | inl less ↦ omega arith
+              | inr more ↦ absurd (other (next.function_is ∙ omega arith))
+            ];
+      }
+
+  pub found_before : (b : Body) → PassedBefore source index s → r ≡ Some b → TakesBody s r t → b.func ≡ index → IsBodyOfFunction (components_of source) index (body_at b)
+  found_before b p i takes same =
+      let next = one_passed source p.passed s t r b p.left_is i takes in
+      record { before = p.passed; after = next.after; are_bodies = next.are_bodies; index_is = sym same ∙ next.function_is }
+
+  pub none_found_of : PassedBefore source index s → r ≡ None → TakesBody s r t → HasNoFunctionBody (components_of source) index
+  none_found_of p i takes =
+      let all = all_passed source p.passed s t r p.left_is i takes in
+      elim (cases_lt index source.imported) [
+        | inl less ↦ inl less
+        | inr more ↦ inr (let count = all.are_all in let least = p.before more in omega arith)
+      ]

@@ -1,5 +1,5 @@
 -- The sections of a module that was read are read again without a fault.
-use Rattle.std.proofs.Common.{◌≡◌, ◌≢◌, ◌⊎◌, ℕ, suc, ◌<◌, ◌≤◌, List, [], ◌∷◌, ◌++◌, length, Some, Result, Ok, Err, sym, ap, ◌∙◌, inl, inr, arith, length-append}
+use Rattle.std.proofs.Common.{◌≡◌, ◌≢◌, ◌⊎◌, ℕ, suc, ◌==◌, ◌<◌, ◌≤◌, ◌^◌, ◌-◌, if◌then◌else◌, Bool, true, false, List, [], ◌∷◌, ◌++◌, length, Some, Result, Ok, Err, IsOk, refl, sym, ap, ◌∙◌, inl, inr, arith, length-append}
 use Rattle.wasm_numbers.specs.Numbers.{unsigned}
 use Rattle.wasm_numbers.specs.Results.{◌>>=◌, with_fault}
 use Rattle.wasm_numbers.proofs.ResultLemmas.{bind_ok}
@@ -7,8 +7,9 @@ use Rattle.wasm_sections.specs.declared.fault.ModuleError.{ModuleError}
 use Rattle.wasm_sections.specs.declared.fault.ModuleFault.TheVariants as fault
 use Rattle.wasm_sections.specs.declared.sections.Section.{Section}
 use Rattle.wasm_sections.specs.declared.sections.Sections.{Sections}
-use Rattle.wasm_sections.specs.Components.{Components, no_components, contents_of, sections_from, preamble_part, counts_agree, module_of}
-use Rattle.wasm_sections.specs.Parts.{fault_here}
+use Rattle.wasm_sections.specs.Components.{Components, no_components, custom_section, few_types, type_section_part, start_part, bodies_part, code_part, data_count_part, items_part, contents_of, sections_from, preamble_part, counts_agree, module_of}
+use Rattle.wasm_sections.specs.Format.{name_part, types_part}
+use Rattle.wasm_sections.specs.Parts.{fault_here, number, bytes_part, whole_part}
 use Rattle.wasm_sections.specs.References.{contents_references}
 use Rattle.wasm_sections.specs.Sections.{section_id, section_part, rank_with, TakesSection}
 use Rattle.wasm_sections.proofs.NumberLemmas.{number_takes, is_shorter}
@@ -23,6 +24,41 @@ pub begins_with_preamble : (file : List ℕ) (m : Components) (e : ModuleError) 
 begins_with_preamble file m e is p =
     no_both (module_of file) m e is
     (first_fails (preamble_part (length file) file) (λ x. sections_from (length x.1) 0 no_components (length file) x.1 >>= λ m. counts_agree m (length file)) e p)
+
+-- ---- the contents of each section begin with a number
+
+either_fails :
+    (b : Bool) (f g : (end : ℕ) → (text : List ℕ) → Result Components ModuleError) (end : ℕ) (text : List ℕ) (e : ModuleError) → f end text ≡ Err e → g end text ≡ Err e →
+    (if b then f else g) end text ≡ Err e
+either_fails true f g end text e h k = h
+either_fails false f g end text e h k = k
+
+uncounted : (id : ℕ) (m : Components) (end : ℕ) (text : List ℕ) (e : ModuleError) → number end text ≡ Err e → contents_of id m end text ≡ Err e
+uncounted id m end text e h =
+    either_fails (id == 0) (custom_section m) _ end text e
+    (first_fails (name_part end text) _ e (first_fails (bytes_part end text) _ e (first_fails (number end text) _ e h)))
+    (either_fails (id == 1) (type_section_part m) _ end text e
+    (first_fails (whole_part (types_part (2 ^ 64 - 1)) end text >>= few_types) _ e (first_fails (whole_part (types_part (2 ^ 64 - 1)) end text) few_types e (first_fails (types_part (2 ^ 64 - 1) end text) _ e (first_fails (number end text) _ e h))))
+    (either_fails (id == 8) _ _ end text e
+    (first_fails (start_part m end text) _ e (first_fails _ _ e (first_fails (number end text) _ e h)))
+    (either_fails (id == 10) _ _ end text e
+    (first_fails (code_part m end text) _ e (first_fails (bodies_part m end text) _ e (first_fails _ _ e (first_fails (number end text) _ e h))))
+    (either_fails (id == 12) _ _ end text e
+    (first_fails (data_count_part m end text) _ e (first_fails (number end text) _ e h))
+    (first_fails (items_part id m end text) _ e (first_fails (number end text) _ e h))))))
+
+ok_or_not : {A : Type 0} (r : Result A ModuleError) → IsOk r ⊎ ((e : ModuleError) × (r ≡ Err e))
+ok_or_not (Ok x) = inl refl
+ok_or_not (Err e) = inr (e, refl)
+
+counted : (id : ℕ) (m n : Components) (end : ℕ) (text : List ℕ) → contents_of id m end text ≡ Ok n → IsOk (number end text)
+counted id m n end text is =
+    elim (ok_or_not (number end text)) [
+      | inl ok ↦ ok
+      | inr h ↦ absurd (no_both (contents_of id m end text) n h.0 is (uncounted id m end text h.0 h.1))
+    ]
+
+-- ---- the sections that are left
 
 -- The sections that are left spell something, from what those before them spell on.
 pub record StillSpell (left : Sections) : Type 0 where
@@ -96,6 +132,9 @@ module _ (a b : Sections) (section : Section) (so : StillSpell a) (takes : Takes
       ∙ first_gives (with_fault here (rank_with a.rank id)) (λ next. rest_of over.0 so.before a.left.end ((id, contents), b.left.rest.now) next) b.rank taken.rank_is
       ∙ ap (λ (k : ℕ). contents_of id so.before k contents >>= λ n. sections_from over.0 b.rank n a.left.end b.left.rest.now) (sym takes.0.end_is) in
       bind_ok (contents_of id so.before section.contents.end contents) (λ n. sections_from over.0 b.rank n a.left.end b.left.rest.now) so.after (sym passed ∙ so.spell)
+
+  pub section_counted : IsOk (number section.contents.end section.contents.rest.now)
+  section_counted = counted (section_id section.kind) so.before section_spells.0 section.contents.end section.contents.rest.now section_spells.1
 
   pub others_spell : StillSpell b
   others_spell = record {

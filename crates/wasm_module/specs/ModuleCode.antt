@@ -1,6 +1,6 @@
 -- The bodies of the functions of a module that was read (WebAssembly core specification 3.0, binary format, code section and
 -- modules).
-use Rattle.std.specs.Prelude.{◌≡◌, ◌==◌, ℕ, if◌then◌else◌, List, [], ◌∷◌, length, Option, Some, None, MatchOption}
+use Rattle.std.specs.Prelude.{◌≡◌, ◌⊎◌, ◌==◌, ◌<◌, ◌≤◌, ◌+◌, ℕ, if◌then◌else◌, List, [], ◌∷◌, ◌++◌, length, Option, Some, None, MatchOption}
 use Rattle.wasm_sections.specs.CodeSections.{BodyAt, IsCode}
 use Rattle.wasm_sections.specs.Components.{Components, body_count_of}
 use Rattle.wasm_sections.specs.Sections.{SectionAt}
@@ -27,3 +27,14 @@ pub record HasCode (m : Components) (sections : List SectionAt) : Type 0 where
   pub bodies : List BodyAt
   pub are_bodies : AreBodiesOf m bodies
   pub only : (others : List BodyAt) → AreBodiesOf m others → others ≡ bodies
+
+-- This is the body of the function with this index: as many bodies come before it as functions that aren't imported.
+pub record IsBodyOfFunction (m : Components) (index : ℕ) (body : BodyAt) : Type 0 where
+  pub before : List BodyAt
+  pub after : List BodyAt
+  pub are_bodies : AreBodiesOf m (before ++ body ∷ after)
+  pub index_is : index ≡ m.imported + length before
+
+-- The function with this index is imported, or there is none.
+abbrev pub HasNoFunctionBody : Components → (index : ℕ) → Type 0
+HasNoFunctionBody m index = (index < m.imported) ⊎ (length m.functions ≤ index)

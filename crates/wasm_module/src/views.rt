@@ -1,10 +1,15 @@
 //! Views of a module that was read: its sections by kind, and the items in them. They take no
 //! memory.
 
-ghost use Rattle.std.specs.Prelude.{◌≡◌, List, length, option_map, Ok, IsOk, IfOk, IfSome};
+ghost use Rattle.std.specs.Prelude.{◌≡◌, ℕ, List, length, option_map, Ok, IsOk, IfOk, IfSome, MatchOption};
+ghost use Rattle.wasm_sections.specs.CodeSections.{body_at};
 ghost use Rattle.wasm_sections.specs.Components.{Components, module_of};
+ghost use Rattle.wasm_sections.specs.Parts.{number};
 ghost use Rattle.wasm_sections.specs.Sections.{SectionAt, IsModule, first_with, section_id, section_at};
 ghost use Rattle.wasm_sections.specs.Views.{HasItems, HasBodies, HasSomeItems, HasStart};
+ghost use Rattle.wasm_module.specs.ModuleCode.{IsBodyOfFunction, HasNoFunctionBody};
+ghost use Rattle.wasm_module.specs.ReadFrom.{IsModuleOf};
+ghost use Rattle.wasm_module.specs.ReadModules.{components_of};
 
 use crate::parsed::ParsedModule;
 use walrus_ir::FunctionId;
@@ -22,6 +27,9 @@ impl<'a> ParsedModule<'a> {
     pub fn section(&self, kind: SectionKind) -> Result<Option<Section<'a>>, ModuleError>
         ensures found { (all : List SectionAt) → IsModule self.now.bytes.now all
             → IfOk result (λ found. first_with (section_id kind) all ≡ option_map section_at found) }
+        // The contents of each section begin with a number.
+        ensures counted { (m : Components) → module_of self.now.bytes.now ≡ Ok m → IfOk result
+            (λ found. IfSome found (λ s. IsOk (number s.contents.end s.contents.rest.now))) }
         ensures never_refused { (m : Components) → module_of self.now.bytes.now ≡ Ok m
             → IsOk result }
     {
@@ -45,8 +53,10 @@ impl<'a> ParsedModule<'a> {
 
     /// The items of the section of this kind; none if there is no such section.
     pub(crate) fn items(&self, kind: SectionKind) -> Result<Items<'a>, ModuleError>
-        ensures { (all : List SectionAt) → IsModule self.now.bytes.now all
+        ensures are { (all : List SectionAt) → IsModule self.now.bytes.now all
             → IfOk result (λ items. HasItems (first_with (section_id kind) all) items) }
+        ensures never_refused { (m : Components) → module_of self.now.bytes.now ≡ Ok m
+            → IsOk result }
     {
         match self.section(kind) {
             Ok(Some(section)) => Items::of_contents(section.contents),
@@ -64,8 +74,10 @@ impl<'a> ParsedModule<'a> {
     ///
     /// None, since the sections were read before.
     pub fn item_count(&self, kind: SectionKind) -> Result<u32, ModuleError>
-        ensures { (all : List SectionAt) → IsModule self.now.bytes.now all
+        ensures is { (all : List SectionAt) → IsModule self.now.bytes.now all
             → IfOk result (HasSomeItems (first_with (section_id kind) all)) }
+        ensures never_refused { (m : Components) → module_of self.now.bytes.now ≡ Ok m
+            → IsOk result }
     {
         match self.items(kind) {
             Ok(items) => Ok(items.count),
@@ -79,8 +91,10 @@ impl<'a> ParsedModule<'a> {
     ///
     /// None, since the sections were read before.
     pub fn start(&self) -> Result<Option<FunctionId>, ModuleError>
-        ensures { (all : List SectionAt) → IsModule self.now.bytes.now all
+        ensures is { (all : List SectionAt) → IsModule self.now.bytes.now all
             → IfOk result (HasStart (first_with 8 all)) }
+        ensures never_refused { (m : Components) → module_of self.now.bytes.now ≡ Ok m
+            → IsOk result }
     {
         match self.section(SectionKind::Start) {
             Ok(Some(section)) => {
@@ -101,8 +115,10 @@ impl<'a> ParsedModule<'a> {
     ///
     /// None, since the sections were read before.
     pub fn exports(&self) -> Result<Exports<'a>, ModuleError>
-        ensures { (all : List SectionAt) → IsModule self.now.bytes.now all
+        ensures are { (all : List SectionAt) → IsModule self.now.bytes.now all
             → IfOk result (λ exports. HasItems (first_with 7 all) exports.items) }
+        ensures never_refused { (m : Components) → module_of self.now.bytes.now ≡ Ok m
+            → IsOk result }
     {
         match self.items(SectionKind::Export) {
             Ok(items) => Ok(Exports { items }),
@@ -116,8 +132,10 @@ impl<'a> ParsedModule<'a> {
     ///
     /// None, since the sections were read before.
     pub fn imports(&self) -> Result<Imports<'a>, ModuleError>
-        ensures { (all : List SectionAt) → IsModule self.now.bytes.now all
+        ensures are { (all : List SectionAt) → IsModule self.now.bytes.now all
             → IfOk result (λ imports. HasItems (first_with 2 all) imports.items) }
+        ensures never_refused { (m : Components) → module_of self.now.bytes.now ≡ Ok m
+            → IsOk result }
     {
         match self.items(SectionKind::Import) {
             Ok(items) => Ok(Imports { items }),
@@ -132,8 +150,10 @@ impl<'a> ParsedModule<'a> {
     ///
     /// None, since the sections were read before.
     pub fn globals(&self) -> Result<Globals<'a>, ModuleError>
-        ensures { (all : List SectionAt) → IsModule self.now.bytes.now all
+        ensures are { (all : List SectionAt) → IsModule self.now.bytes.now all
             → IfOk result (λ globals. HasItems (first_with 6 all) globals.items) }
+        ensures never_refused { (m : Components) → module_of self.now.bytes.now ≡ Ok m
+            → IsOk result }
     {
         match self.items(SectionKind::Global) {
             Ok(items) => Ok(Globals { items }),
@@ -148,8 +168,10 @@ impl<'a> ParsedModule<'a> {
     ///
     /// None, since the sections were read before.
     pub fn tables(&self) -> Result<Tables<'a>, ModuleError>
-        ensures { (all : List SectionAt) → IsModule self.now.bytes.now all
+        ensures are { (all : List SectionAt) → IsModule self.now.bytes.now all
             → IfOk result (λ tables. HasItems (first_with 4 all) tables.items) }
+        ensures never_refused { (m : Components) → module_of self.now.bytes.now ≡ Ok m
+            → IsOk result }
     {
         match self.items(SectionKind::Table) {
             Ok(items) => Ok(Tables { items }),
@@ -164,8 +186,10 @@ impl<'a> ParsedModule<'a> {
     ///
     /// None, since the sections were read before.
     pub fn memories(&self) -> Result<Memories<'a>, ModuleError>
-        ensures { (all : List SectionAt) → IsModule self.now.bytes.now all
+        ensures are { (all : List SectionAt) → IsModule self.now.bytes.now all
             → IfOk result (λ memories. HasItems (first_with 5 all) memories.items) }
+        ensures never_refused { (m : Components) → module_of self.now.bytes.now ≡ Ok m
+            → IsOk result }
     {
         match self.items(SectionKind::Memory) {
             Ok(items) => Ok(Memories { items }),
@@ -180,8 +204,10 @@ impl<'a> ParsedModule<'a> {
     ///
     /// None, since the sections were read before.
     pub fn tags(&self) -> Result<Tags<'a>, ModuleError>
-        ensures { (all : List SectionAt) → IsModule self.now.bytes.now all
+        ensures are { (all : List SectionAt) → IsModule self.now.bytes.now all
             → IfOk result (λ tags. HasItems (first_with 13 all) tags.items) }
+        ensures never_refused { (m : Components) → module_of self.now.bytes.now ≡ Ok m
+            → IsOk result }
     {
         match self.items(SectionKind::Tag) {
             Ok(items) => Ok(Tags { items }),
@@ -200,6 +226,8 @@ impl<'a> ParsedModule<'a> {
         ensures imported { IfOk result (λ s. s.imported ≡ self.now.imported) }
         ensures bodies { (all : List SectionAt) → IsModule self.now.bytes.now all
             → IfOk result (λ s. HasBodies (first_with 10 all) self.now.imported s.bodies) }
+        ensures never_refused { (m : Components) → module_of self.now.bytes.now ≡ Ok m
+            → IsOk result }
     {
         match self.code_bodies() {
             Ok(bodies) => Ok(Functions {
@@ -216,7 +244,10 @@ impl<'a> ParsedModule<'a> {
     /// if there is no such function. It is found by going over the bodies before it: a tool that
     /// needs those of many functions goes over `bodies` once.
     pub fn body_of(&self, index: usize) -> Option<Body<'a>>
-        ensures { IfSome result (λ body. body.func ≡ index) }
+        ensures index { IfSome result (λ body. body.func ≡ index) }
+        ensures is { (source : List ℕ) → IsModuleOf source self.now
+            → MatchOption result (HasNoFunctionBody (components_of self.now) index)
+            (λ body. IsBodyOfFunction (components_of self.now) index (body_at body)) }
     {
         'bodies: for body in self.bodies() {
             if body.func == index {
@@ -228,8 +259,10 @@ impl<'a> ParsedModule<'a> {
 
     /// The bodies of the code section; none if there is no code section.
     fn code_bodies(&self) -> Result<Bodies<'a>, ModuleError>
-        ensures { (all : List SectionAt) → IsModule self.now.bytes.now all
+        ensures are { (all : List SectionAt) → IsModule self.now.bytes.now all
             → IfOk result (HasBodies (first_with 10 all) self.now.imported) }
+        ensures never_refused { (m : Components) → module_of self.now.bytes.now ≡ Ok m
+            → IsOk result }
     {
         match self.section(SectionKind::Code) {
             Ok(Some(section)) => match Bodies::of_section(section.contents, self.imported()) {

@@ -5,7 +5,7 @@ use Rattle.wasm_sections.specs.declared.sections.Sections.{Sections}
 use Rattle.wasm_sections.specs.Components.{module_of}
 use Rattle.wasm_sections.specs.Sections.{preamble, IsModule, section_id, TakesSection}
 use Rattle.wasm_sections.proofs.ViewLemmas.{none_passed, one_passed, one_found, none_found}
-use Rattle.wasm_module.proofs.SpelledSectionLemmas.{begins_with_preamble, all_spell, never_fails, others_spell}
+use Rattle.wasm_module.proofs.SpelledSectionLemmas.{begins_with_preamble, all_spell, never_fails, section_counted, others_spell}
 use Rattle.wasm_module.proofs.parsed.ParsedModule.section.Goals as goal
 
 pub sections-init : goal.sections-init
@@ -61,3 +61,11 @@ returns-in-Err-section-clause-never_refused c = λ m e.
 pub returns-in-Err-clause-never_refused : goal.returns-in-Err-clause-never_refused
 returns-in-Err-clause-never_refused c = λ m e.
     absurd (begins_with_preamble c.bytes.result.now m c.in-Err.error (ap (λ (l : List ℕ). module_of l) c.bytes.ensures ∙ e) c.in-Err.ensures.is)
+
+pub returns-then-next-id-clause-counted : goal.returns-then-next-id-clause-counted
+returns-then-next-id-clause-counted c = λ m e.
+    let section = c.in-Ok-section.section in
+    let at = c.sections.section-iterator in
+    let next = c.next.new.self in
+    section_counted at next section (c.sections.invariant.spell m e)
+    (subst (λ (o : Option (Result Section ModuleError)). TakesSection at o next) (c.in-Some.is ∙ ap (λ (r : _). Some r) c.in-Ok-section.is) c.next.ensures.steps)
