@@ -1,5 +1,5 @@
 -- What is copied: a value that is read, one part after the other, and a part so many times.
-use Rattle.std.proofs.Common.{◌≡◌, ◌⊎◌, ℕ, zero, suc, ◌+◌, ◌-◌, ◌<◌, ◌≤◌, List, [], ◌∷◌, ◌++◌, length, take, Result, Ok, Err, OnOk, IfErr, refl, sym, ap, ◌∙◌, inl, inr, append_assoc, Option, arith}
+use Rattle.std.proofs.Common.{◌≡◌, ◌⊎◌, ℕ, suc, ◌+◌, ◌-◌, ◌<◌, ◌≤◌, List, [], ◌∷◌, ◌++◌, length, take, Result, Ok, Err, OnOk, IfErr, refl, sym, ap, ◌∙◌, inl, inr, append_assoc, Option, arith}
 use Rattle.std.proofs.lemmas.List.{append-nil}
 use Rattle.wasm_numbers.specs.Results.{◌>>=◌, with_fault}
 use Rattle.wasm_sections.specs.declared.fault.ModuleError.{ModuleError}

@@ -1,5 +1,5 @@
 -- What is copied of an item that is named, of a type, and of an operator of a constant expression.
-use Rattle.std.proofs.Common.{◌≡◌, ◌⊎◌, ℕ, ◌-◌, Bool, true, List, [], ◌∷◌, ◌++◌, length, take, Option, Some, None, Result, Ok, Err, OnOk, IfErr, refl, sym, ap, subst, ◌∙◌, inl, inr, pos}
+use Rattle.std.proofs.Common.{◌≡◌, ℕ, Bool, List, [], ◌∷◌, ◌++◌, Option, Some, None, Result, Ok, Err, OnOk, IfErr, refl, sym, ap, subst, ◌∙◌, inl, inr, pos}
 use Rattle.std.proofs.lemmas.List.{append-nil}
 use denote.Ref.{Bor}
 use Rattle.wasm_types.specs.declared.val_type.HeapType.{HeapType}
@@ -17,7 +17,7 @@ use Rattle.wasm_body.specs.declared.error.IndexError.TheVariants as index
 use Rattle.wasm_sections.specs.declared.fault.ModuleError.{ModuleError}
 use Rattle.wasm_sections.specs.declared.fault.ModuleFault.{ModuleFault}
 use Rattle.wasm_sections.specs.declared.fault.ModuleFault.TheVariants as fault
-use Rattle.wasm_sections.specs.Format.{operator_part, is_end_opcode}
+use Rattle.wasm_sections.specs.Format.{is_end_opcode}
 use Rattle.module_removal.specs.declared.item.Item.{Item}
 use Rattle.module_removal.specs.declared.left.LeftItems.{LeftItems}
 use Rattle.module_removal.specs.declared.copier.Copier.{Copier}

@@ -7,7 +7,7 @@ use Rattle.wasm_sections.specs.declared.fault.ModuleError.{ModuleError}
 use Rattle.wasm_sections.specs.declared.fault.ModuleFault.{ModuleFault}
 use Rattle.wasm_sections.specs.Parts.{checked, one_byte, fault_here}
 use Rattle.module_removal.specs.declared.copier.Copier.{Copier}
-use Rattle.module_removal.specs.CopiedParts.{Copied, writes, copied_byte, NewIndices, copied_index, AppendsCopied, Copies}
+use Rattle.module_removal.specs.CopiedParts.{Copied, writes, copied_byte, NewIndices, copied_index, Copies}
 use Rattle.module_removal.specs.CopiedItems.{copied_imported, copied_tag, copied_defined}
 use Rattle.module_removal.proofs.CopyLemmas.{Fails}
 

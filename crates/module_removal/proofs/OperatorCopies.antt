@@ -1,20 +1,19 @@
 -- What is copied of a constant expression, operator by operator.
-use Rattle.std.proofs.Common.{◌≡◌, ◌⊎◌, ℕ, zero, suc, ◌+◌, ◌-◌, ◌<◌, ◌≤◌, Bool, true, false, cond, List, [], ◌∷◌, ◌++◌, length, take, Option, Result, Ok, Err, refl, sym, ap, ◌∙◌, inl, inr, arith}
+use Rattle.std.proofs.Common.{◌≡◌, ℕ, zero, suc, ◌-◌, ◌<◌, ◌≤◌, Bool, true, false, cond, List, [], ◌∷◌, length, take, Option, Result, Ok, Err, sym, ap, ◌∙◌, inl, inr, arith}
 use denote.Ref.{Bor}
 use Rattle.wasm_numbers.specs.declared.fault.ReadFault.TheVariants as unread
-use Rattle.wasm_numbers.specs.Results.{◌>>=◌, with_fault}
+use Rattle.wasm_numbers.specs.Results.{◌>>=◌}
 use Rattle.wasm_operators.specs.Opcodes.{opcode}
 use Rattle.wasm_operators.specs.Operations.{RawOperation}
 use Rattle.wasm_operators.specs.Spelling.{read_operation}
 use Rattle.wasm_sections.specs.declared.fault.ModuleError.{ModuleError}
 use Rattle.wasm_sections.specs.declared.fault.ModuleFault.TheVariants as fault
 use Rattle.wasm_sections.specs.Format.{operator_part}
-use Rattle.wasm_sections.specs.Parts.{Part, ◌>=>◌, just, fault_here}
+use Rattle.wasm_sections.specs.Parts.{◌>=>◌, just, fault_here}
 use Rattle.wasm_sections.proofs.TypeReadingLemmas.{first_gives, first_fails}
 use Rattle.module_removal.specs.declared.left.LeftItems.{LeftItems}
 use Rattle.module_removal.specs.declared.copier.Copier.{Copier}
-use Rattle.module_removal.specs.LeftSpaces.{index_written}
-use Rattle.module_removal.specs.CopiedParts.{Copied, writes, copied_both, CopiedPart, nothing, ◌>+>◌, NewIndices, AppendsCopied, Copies}
+use Rattle.module_removal.specs.CopiedParts.{Copied, writes, copied_both, nothing, NewIndices, AppendsCopied, Copies}
 use Rattle.module_removal.specs.CopiedConstants.{copied_operator, copied_operators, copied_constant, with_extent}
 use Rattle.module_removal.proofs.CopyLemmas.{Read, Fails, appends_nothing, appends_both, after_this, after_none, after_two}
 

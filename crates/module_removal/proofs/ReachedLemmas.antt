@@ -1,5 +1,5 @@
 -- What is reached is left.
-use Rattle.std.proofs.Common.{◌≡◌, ◌↔◌, ℕ, zero, suc, ◌+◌, ◌-◌, ◌<◌, ◌^◌, min, Bool, true, false, cond, nat_lt, List, [], ◌∷◌, ◌++◌, map, length, take, get_or, Option, Some, None, refl, sym, ap, subst, ◌∙◌, arith}
+use Rattle.std.proofs.Common.{◌≡◌, ℕ, zero, suc, ◌+◌, ◌-◌, ◌<◌, ◌^◌, min, Bool, true, false, cond, nat_lt, List, [], ◌∷◌, map, take, get_or, Option, Some, None, refl, sym, ap, subst, ◌∙◌, arith}
 use Rattle.std.proofs.lemmas.Bool.{ltb-true}
 use Rattle.std.proofs.lemmas.List.Elements.{Contains-append_right}
 use Rattle.std.specs.List.{Contains}
@@ -11,8 +11,8 @@ use Rattle.module_removal.specs.declared.item.ItemCounts.{ItemCounts}
 use Rattle.module_removal.specs.declared.left.LeftItems.{LeftItems}
 use Rattle.module_removal.specs.ItemNumbers.{count_of, first_number, all_numbers, number_if, number_of_item}
 use Rattle.module_removal.specs.LeftSpaces.{marks_of, index_of, AreMarked}
-use Rattle.module_removal.specs.Edges.{edges_from, RefersTo}
-use Rattle.module_removal.specs.LeftLaws.{HaveIndices, ReferencesAreLeft}
+use Rattle.module_removal.specs.Edges.{edges_from}
+use Rattle.module_removal.specs.LeftLaws.{ReferencesAreLeft}
 use Rattle.module_removal.proofs.EdgeLemmas.{number_within}
 
 -- the first of two lists and all others

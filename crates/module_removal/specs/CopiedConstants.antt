@@ -1,6 +1,6 @@
 -- What is copied of a constant expression (WebAssembly core specification 3.0, binary format, expressions; validation, constant
 -- expressions): its operators, up to the `end`.
-use Rattle.std.specs.Prelude.{ℕ, zero, suc, ◌-◌, Bool, if◌then◌else◌, List, [], ◌∷◌, ◌++◌, length, take, Result, Ok, Err}
+use Rattle.std.specs.Prelude.{ℕ, zero, suc, ◌-◌, Bool, if◌then◌else◌, List, length, take, Result, Ok, Err}
 use Rattle.wasm_types.specs.declared.val_type.HeapType.{HeapType}
 use Rattle.wasm_numbers.specs.declared.fault.ReadFault.TheVariants as unread
 use Rattle.wasm_numbers.specs.Results.{◌>>=◌}

@@ -1,11 +1,11 @@
 -- What is copied of a part of a module whose items have other indices (WebAssembly core specification 3.0, binary format, values and
 -- types): what is written for it, with the new indices, and the items that it names.
-use Rattle.std.specs.Prelude.{◌≡◌, ◌⊎◌, ℕ, zero, suc, ◌-◌, ◌==◌, if◌then◌else◌, List, [], ◌∷◌, ◌++◌, length, take, Option, Result, Ok, Err}
+use Rattle.std.specs.Prelude.{◌≡◌, ◌⊎◌, ℕ, zero, suc, List, [], ◌∷◌, ◌++◌, Option, Result, Ok, Err}
 use Rattle.wasm_types.specs.declared.val_type.HeapType.{HeapType}
 use Rattle.wasm_types.specs.declared.val_type.HeapType.TheVariants.{Abstract, Concrete}
 use Rattle.wasm_types.specs.declared.val_type.ValType.{ValType}
 use Rattle.wasm_types.specs.declared.val_type.ValType.TheVariants.{Ref}
-use Rattle.wasm_numbers.specs.Results.{◌>>=◌, with_fault, some_or}
+use Rattle.wasm_numbers.specs.Results.{◌>>=◌, some_or}
 use Rattle.wasm_operators.specs.declared.types.Space.{Space}
 use Rattle.wasm_operators.specs.declared.types.Space.TheVariants.{Types}
 use Rattle.wasm_operators.specs.Shortest.{short_number, short_value}
@@ -18,7 +18,6 @@ use Rattle.wasm_sections.specs.Format.{value_part, limits_part}
 use Rattle.wasm_sections.specs.Parts.{Part, ◌>=>◌, just, checked, extent, number, one_byte, bytes_part}
 use Rattle.module_removal.specs.declared.item.Item.{Item}
 use Rattle.module_removal.specs.declared.copier.Copier.{Copier}
-use Rattle.module_removal.specs.LeftSpaces.{index_written}
 
 -- what is written for a part, and the items that it names, in order
 pub record Copied : Type 0 where

@@ -1,4 +1,3 @@
-use Rattle.std.proofs.Common.{[], Err}
 use Rattle.module_removal.specs.CopiedItems.{copied_storage, passed_byte}
 use Rattle.module_removal.proofs.CopyLemmas.{then_copies, first_stops}
 use Rattle.module_removal.proofs.copier.Copier.field.Goals as goal

@@ -1,4 +1,3 @@
-use Rattle.std.proofs.Common.{[], Err}
 use Rattle.module_removal.specs.CopiedConstants.{copied_constant}
 use Rattle.module_removal.specs.CopiedItems.{copied_global_type}
 use Rattle.module_removal.proofs.CopyLemmas.{then_copies, first_stops}

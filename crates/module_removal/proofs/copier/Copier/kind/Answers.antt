@@ -2,7 +2,6 @@ use Rattle.std.proofs.Common.{[], ◌∷◌, Option, Ok, sym, ap, subst}
 use Rattle.wasm_numbers.specs.Results.{◌>>=◌, some_or}
 use Rattle.wasm_operators.specs.declared.types.Space.{Space}
 use Rattle.wasm_sections.specs.declared.fault.ModuleError.{ModuleError}
-use Rattle.wasm_sections.specs.Parts.{checked, one_byte}
 use Rattle.module_removal.specs.CopiedParts.{writes}
 use Rattle.module_removal.specs.CopiedItems.{space_of_kind, copied_kind}
 use Rattle.module_removal.proofs.CopyLemmas.{Fails}

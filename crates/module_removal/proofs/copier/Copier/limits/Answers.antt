@@ -1,4 +1,3 @@
-use Rattle.std.proofs.Common.{List, ℕ}
 use Rattle.wasm_sections.specs.Parts.{extent}
 use Rattle.wasm_sections.specs.Format.{limits_part}
 use Rattle.module_removal.specs.CopiedParts.{writes}

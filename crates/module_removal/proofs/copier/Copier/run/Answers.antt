@@ -1,4 +1,3 @@
-use Rattle.std.proofs.Common.{[], Err}
 use Rattle.module_removal.specs.CopiedParts.{copied_number, copied_value}
 use Rattle.module_removal.proofs.CopyLemmas.{then_copies, first_stops}
 use Rattle.module_removal.proofs.copier.Copier.run.Goals as goal

@@ -1,4 +1,3 @@
-use Rattle.std.proofs.Common.{[], Err}
 use Rattle.module_removal.specs.CopiedParts.{copied_value, copied_limits}
 use Rattle.module_removal.proofs.CopyLemmas.{then_copies, first_stops}
 use Rattle.module_removal.proofs.copier.Copier.table_type.Goals as goal

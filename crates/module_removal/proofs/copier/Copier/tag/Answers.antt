@@ -1,4 +1,3 @@
-use Rattle.std.proofs.Common.{[], Err}
 use Rattle.wasm_operators.specs.declared.types.Space.TheVariants.{Types}
 use Rattle.module_removal.specs.CopiedParts.{copied_byte, copied_index}
 use Rattle.module_removal.proofs.CopyLemmas.{then_copies, first_stops}

@@ -1,4 +1,4 @@
-use Rattle.std.proofs.Common.{[], nat_le, Err}
+use Rattle.std.proofs.Common.{nat_le}
 use Rattle.module_removal.specs.CopiedItems.{copied_element_type, copied_elements}
 use Rattle.module_removal.proofs.CopyLemmas.{then_copies, first_stops}
 use Rattle.module_removal.proofs.copier.Copier.typed_elements.Goals as goal

@@ -1,4 +1,3 @@
-use Rattle.std.proofs.Common.{◌∙◌}
 use Rattle.wasm_numbers.specs.Results.{◌>>=◌}
 use Rattle.module_removal.specs.CopiedParts.{fault_with_place, new_type, written_type}
 use Rattle.module_removal.specs.LeftSpaces.{index_written}

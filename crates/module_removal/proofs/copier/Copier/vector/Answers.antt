@@ -1,4 +1,3 @@
-use Rattle.std.proofs.Common.{[], Err}
 use Rattle.module_removal.specs.CopiedParts.{copied_number, times}
 use Rattle.module_removal.specs.CopiedItems.{copied_one}
 use Rattle.module_removal.proofs.CopyLemmas.{then_copies, first_stops}
