@@ -1,9 +1,12 @@
 -- What is gathered of an item: the part that is read, its number, and the edges from it.
-use Rattle.std.proofs.Common.{◌≡◌, ◌⊎◌, ℕ, ◌+◌, ◌<◌, List, [], ◌∷◌, ◌++◌, option_map, Option, Some, None, Result, Ok, Err, OnOk, refl, sym, ap, subst, ◌∙◌, inl, inr, arith}
+use Rattle.std.proofs.Common.{◌≡◌, ℕ, ◌<◌, List, [], ◌∷◌, ◌++◌, flat_map, option_map, Option, Some, None, Result, Ok, Err, OnOk, refl, sym, ap, subst, ◌∙◌, inl, inr, arith}
 use Rattle.std.proofs.lemmas.List.{append-nil}
 use Rattle.wasm_operators.specs.declared.types.Space.{Space}
+use Rattle.wasm_operators.specs.declared.types.Space.TheVariants.{Funcs, Elements, Data}
 use Rattle.reaching.specs.Reaching.{edges_of}
 use Rattle.wasm_sections.specs.declared.fault.ModuleError.{ModuleError}
+use Rattle.wasm_sections.specs.Parts.{Part, ◌>=>◌, number as number_part}
+use Rattle.wasm_sections.proofs.TypeReadingLemmas.{first_gives}
 use Rattle.module_removal.specs.declared.bounds.Active.{Active}
 use denote.Ref.{Bor}
 use Rattle.module_removal.specs.declared.copier.Copier.{Copier}
@@ -15,8 +18,10 @@ use Rattle.module_removal.specs.declared.references.References.{References}
 use Rattle.module_removal.specs.LeftSpaces.{index_written}
 use Rattle.module_removal.specs.ItemNumbers.{count_of, all_numbers, number_of_item, with_more_items}
 use Rattle.module_removal.specs.CopiedParts.{Copied, CopiedPart, NewIndices, item_at, AppendsCopied, Copies}
+use Rattle.module_removal.specs.CopiedItems.{copied_locals}
+use Rattle.module_removal.specs.NamedItems.{named_by, FindsOperators}
 use Rattle.module_removal.specs.Edges.{RefersTo, AddsReferencesTo}
-use Rattle.module_removal.specs.Gathered.{own_index, IsActivated, Activates, item_of_active, GathersNext, GathersOwn}
+use Rattle.module_removal.specs.Gathered.{own_index, Activates, item_of_active, defined_target, GathersNext, GathersOwn, GathersBody}
 use Rattle.module_removal.proofs.EdgeLemmas.{number_within}
 
 refers_as :
@@ -86,11 +91,46 @@ gathers_own part end text following old new cleared mid base (Ok u) left none co
       (edges_of new.references.graph) counts (found_is cleared mid copies.0 none copies.2) (ap edges_of graph) (adds.refers (omega arith));
 }
 
+pub gathers_body :
+    (func end : ℕ) (text rest : List ℕ) (old new : Gatherer) (cleared mid last : Copier) (base : References) (number : ℕ) (r : Result (Unit {0}) ModuleError) →
+    cleared.left ≡ None → cleared.found.items ≡ [] →
+    Copies cleared mid rest (Ok tt) (copied_locals (index_written cleared.left) end text) → FindsOperators mid last (Ok tt) end rest →
+    number_of_item old.references.counts (item_at Funcs func) ≡ Some number → base.counts ≡ old.references.counts → base.graph ≡ old.references.graph →
+    new.next ≡ old.next → new.copier.left ≡ last.left → OnOk r (AddsReferencesTo number last.found.items base new.references) →
+    OnOk r (GathersBody func end text old new)
+gathers_body func end text rest old new cleared mid last base number (Err e) left none copies found is counts graph next same adds = tt
+gathers_body func end text rest old new cleared mid last base number (Ok u) left none copies found is counts graph next same adds =
+    let within = number_within old.references.counts (item_at Funcs func) number is in
+    let named = found.2.found ∙ ap (λ (l : List Item). l ++ flat_map named_by found.0) (found_is cleared mid copies.0 none copies.2) in
+    record {
+      next = next;
+      counts = adds.counts ∙ counts;
+      finds = same ∙ found.2.left ∙ copies.2.left ∙ left;
+      number = number;
+      number_is = is;
+      locals = copies.0;
+      rest = rest;
+      read = own_part copied_locals end text cleared (Ok ((tt, copies.0), rest)) left copies.1;
+      operators = found.0;
+      are = found.1;
+      refers =
+          refers_as base.counts old.references.counts number last.found.items (copies.0.named ++ flat_map named_by found.0) (edges_of base.graph)
+          (edges_of old.references.graph) (edges_of new.references.graph) counts named (ap edges_of graph)
+          (adds.refers (subst (λ (c : ItemCounts). number < all_numbers c) (sym counts) within));
+    }
+
 -- ---- results
 
 pub with_its_space : (r : Result (Unit {0}) ModuleError) (P : Space → Type 0) (space : Space) → OnOk r (P space) → OnOk r ((s : Space) × P s)
 with_its_space (Ok u) P space p = (space, p)
 with_its_space (Err e) P space p = tt
+
+pub with_its_target :
+    (r : Result (Unit {0}) ModuleError) (given : Result (Option Item × List ℕ) ModuleError) (P : Option Item → Type 0) (target : Option Item)
+    (following : List ℕ) → given ≡ Ok (target, following) → OnOk r (P target) →
+    OnOk r ((target : Option Item) × (following : List ℕ) × (given ≡ Ok (target, following)) × P target)
+with_its_target (Ok u) given P target following e p = (target, following, e, p)
+with_its_target (Err x) given P target following e p = tt
 
 pub with_following : (r : Result (Unit {0}) ModuleError) (P : List ℕ → Type 0) (following : List ℕ) → OnOk r (P following) → OnOk r ((f : List ℕ) × P f)
 with_following (Ok u) P following p = (following, p)
@@ -122,3 +162,18 @@ pub activates_from :
 activates_from number t target old new (Ok u) counts is p =
     record { counts = counts; edges = λ within. ((t, number) ∷ [], inr (t, is, refl), p (number_within old.counts target t is) within) }
 activates_from number t target old new (Err e) counts is p = tt
+
+-- a number, and then what it says of the target
+pub target_read :
+    (flagged : ℕ → Part (Option Item)) (end other : ℕ) (text rest following : List ℕ) (flags : ℕ) (o : Option Item) → number_part end text ≡ Ok (flags, rest) →
+    other ≡ end → flagged flags other rest ≡ Ok (o, following) → (number_part >=> flagged) end text ≡ Ok (o, following)
+target_read flagged end other text rest following flags o e s f =
+    first_gives (number_part end text) (λ y. flagged y.0 end y.1) (flags, rest) e ∙ ap (λ (n : ℕ). flagged flags n rest) (sym s) ∙ f
+
+-- what isn't a segment has none
+pub no_target :
+    (s : Space) (end : ℕ) (text : List ℕ) → (s ≡ Elements → ⊥) → (s ≡ Data → ⊥) →
+    defined_target s end text ≡ (let r : Result (Option Item × List ℕ) ModuleError = Ok (None, text) in r)
+no_target Elements end text e d = absurd (e refl)
+no_target Data end text e d = absurd (d refl)
+no_target _ end text e d = refl

@@ -1,6 +1,5 @@
 -- What is copied of the items of sections (WebAssembly core specification 3.0, binary format, modules and types).
-use Rattle.std.specs.Prelude.{ℕ, ◌%◌, ◌==◌, nat_le, not, Bool, true, false, if◌then◌else◌, List, [], ◌∷◌, Option, Some, None, Result, Ok, Err}
-use Rattle.wasm_numbers.specs.declared.fault.ReadFault.TheVariants as unread
+use Rattle.std.specs.Prelude.{ℕ, ◌%◌, ◌==◌, nat_le, not, Bool, true, false, if◌then◌else◌, List, [], ◌∷◌, Option, Some, None, Result, Ok}
 use Rattle.wasm_numbers.specs.Reading.{starts}
 use Rattle.wasm_numbers.specs.Results.{◌>>=◌, with_fault, some_or}
 use Rattle.wasm_operators.specs.declared.types.Space.{Space}
@@ -9,10 +8,10 @@ use Rattle.wasm_operators.specs.Types.{row_at}
 use Rattle.wasm_sections.specs.declared.fault.ModuleFault.{ModuleFault}
 use Rattle.wasm_sections.specs.declared.fault.ModuleFault.TheVariants as fault
 use Rattle.wasm_sections.specs.Format.{after_table_mark, export_rows, is_packed_byte, has_supertypes, composite_byte}
-use Rattle.wasm_sections.specs.Parts.{just, ◌>=>◌, checked, one_byte, fault_here}
+use Rattle.wasm_sections.specs.Parts.{checked, one_byte, fault_here}
 use Rattle.module_removal.specs.declared.vectors.VectorOf.{VectorOf}
 use Rattle.module_removal.specs.declared.vectors.VectorOf.TheVariants as vectors
-use Rattle.module_removal.specs.CopiedParts.{Copied, writes, names_item, CopiedPart, puts, nothing, ◌>+>◌, with_other_value, copied_byte, copied_number, copied_bytes, copied_vector, NewIndices, item_at, named_item, copied_index, copied_value, copied_limits}
+use Rattle.module_removal.specs.CopiedParts.{Copied, writes, CopiedPart, puts, nothing, ◌>+>◌, with_other_value, copied_byte, copied_number, copied_bytes, copied_vector, NewIndices, item_at, named_item, copied_index, copied_value, copied_limits}
 use Rattle.module_removal.specs.CopiedConstants.{copied_constant}
 
 -- a byte whose value isn't asked
@@ -159,11 +158,19 @@ copied_derived w = copied_supertypes w >+> λ u. copied_composite w
 abbrev pub copied_subtype : NewIndices → CopiedPart (Unit {0})
 copied_subtype w end text = if starts has_supertypes text then copied_derived w end text else copied_composite w end text
 
+-- whether a recursive group begins, rather than a type alone
+abbrev pub begins_group : List ℕ → Bool
+begins_group text = starts (λ b. b == 0x4e) text
+
 -- ---- bodies (modules, code section)
 
 -- a run of locals: how many, and their type
 abbrev pub copied_run : NewIndices → CopiedPart (Unit {0})
 copied_run w = copied_number >+> λ n. copied_value w
+
+-- the locals that a body declares
+abbrev pub copied_locals : NewIndices → CopiedPart (Unit {0})
+copied_locals w = copied_vector (copied_run w)
 
 -- ---- an item that a section defines, by its space
 

@@ -1,5 +1,9 @@
 //! Whether active segments are within their tables and memories when a module is instantiated.
 
+ghost use Rattle.std.specs.Prelude.{◌≡◌, ℕ, List, true, option_map, Some, Ok, IfOk};
+ghost use Rattle.module_removal.specs.CopiedParts.{item_at};
+ghost use Rattle.module_removal.specs.Gathered.{target_of, element_target, data_target, defined_target, item_of_active};
+
 use crate::parts::done;
 use std::alloc::Global;
 use wasm_ops::{Operator, Reader, Space};
@@ -49,12 +53,19 @@ fn offset(input: &mut Input<'_>) -> Result<Option<u64>, ModuleError> {
 }
 
 /// The index of the table or memory of an active segment: the next number, or 0 if it has none.
-fn target(has_index: bool, space: Space, input: &mut Input<'_>) -> Result<u32, ModuleError> {
+fn target(has_index: bool, space: Space, input: &mut Input<'_>) -> Result<u32, ModuleError>
+    ensures same_end { input.new.end ≡ input.old.end }
+    ensures is { IfOk result (λ index. target_of space true has_index input.old.end input.old.rest.now
+        ≡ Ok (Some (item_at space index), input.new.rest.now)) }
+{
     if has_index { input.number() } else { Ok(0) }
 }
 
 /// The active element segment at the front; None if it isn't active.
-fn active_elements(mut input: Input<'_>) -> Result<Option<Active>, ModuleError> {
+fn active_elements(mut input: Input<'_>) -> Result<Option<Active>, ModuleError>
+    ensures { IfOk result (λ active. (following : List ℕ)
+        × (element_target input.entry.end input.entry.rest.now ≡ Ok (option_map item_of_active active, following))) }
+{
     let flags = done!(input.number());
     if flags % 2 != 0 {
         return Ok(None);
@@ -72,7 +83,10 @@ fn active_elements(mut input: Input<'_>) -> Result<Option<Active>, ModuleError> 
 }
 
 /// The active data segment at the front; None if it isn't active.
-fn active_data(mut input: Input<'_>) -> Result<Option<Active>, ModuleError> {
+fn active_data(mut input: Input<'_>) -> Result<Option<Active>, ModuleError>
+    ensures { IfOk result (λ active. (following : List ℕ)
+        × (data_target input.entry.end input.entry.rest.now ≡ Ok (option_map item_of_active active, following))) }
+{
     let flags = done!(input.number());
     if flags == 1 {
         return Ok(None);
@@ -89,7 +103,10 @@ fn active_data(mut input: Input<'_>) -> Result<Option<Active>, ModuleError> {
 }
 
 /// The active segment at the front, which is an item of this space; None if it isn't one.
-pub(crate) fn active_of(space: Space, input: Input<'_>) -> Result<Option<Active>, ModuleError> {
+pub(crate) fn active_of(space: Space, input: Input<'_>) -> Result<Option<Active>, ModuleError>
+    ensures { IfOk result (λ active. (following : List ℕ)
+        × (defined_target space input.entry.end input.entry.rest.now ≡ Ok (option_map item_of_active active, following))) }
+{
     match space {
         Space::Elements => active_elements(input),
         Space::Data => active_data(input),

@@ -187,14 +187,15 @@ impl References {
 }
 
 impl<'m> Gatherer<'m> {
-    ghost use Rattle.std.specs.Prelude.{ℕ, List, option_map, OnOk};
+    ghost use Rattle.std.specs.Prelude.{ℕ, List, Ok, Option, option_map, OnOk};
     ghost use Rattle.wasm_operators.specs.declared.types.Space.{Space};
     ghost use Rattle.wasm_operators.specs.declared.types.Space.TheVariants.{Funcs as OfFuncs};
+    ghost use Rattle.module_removal.specs.declared.item.Item.{Item};
     ghost use Rattle.module_removal.specs.ItemNumbers.{count_of, with_more_items};
     ghost use Rattle.module_removal.specs.CopiedParts.{item_at, copied_index};
-    ghost use Rattle.module_removal.specs.CopiedItems.{copied_import};
+    ghost use Rattle.module_removal.specs.CopiedItems.{copied_import, copied_export, copied_defined};
     ghost use Rattle.module_removal.specs.Edges.{AddsReferencesTo, IsNotThere};
-    ghost use Rattle.module_removal.specs.Gathered.{own_index, item_of_active, Activates, GathersNext, GathersOwn};
+    ghost use Rattle.module_removal.specs.Gathered.{own_index, item_of_active, defined_target, Activates, GathersNext, GathersOwn, GathersBody};
 
     /// Adds references to what was found in an item, which begins at this place.
     fn refer(&mut self, from: u32, at: usize) -> Result<(), ModuleError>
@@ -311,7 +312,11 @@ impl<'m> Gatherer<'m> {
     }
 
     /// An item of this space that the module defines, which isn't a function.
-    fn defined(&mut self, space: Space, input: &mut Input<'_>) -> Result<(), ModuleError> {
+    fn defined(&mut self, space: Space, input: &mut Input<'_>) -> Result<(), ModuleError>
+        ensures { self.old.copier.left ≡ None → OnOk result ((target : Option Item) × (following : List ℕ)
+            × (defined_target space input.old.end input.old.rest.now ≡ Ok (target, following))
+            × GathersNext space target tt (copied_defined own_index space input.old.end input.old.rest.now) input.new.rest.now self.old self.new) }
+    {
         let begin = *input;
         self.copier.clear();
         let number = done!(self.next_number(space, begin.at()));
@@ -324,7 +329,10 @@ impl<'m> Gatherer<'m> {
     }
 
     /// An export, to which the module itself refers.
-    fn export(&mut self, input: &mut Input<'_>) -> Result<(), ModuleError> {
+    fn export(&mut self, input: &mut Input<'_>) -> Result<(), ModuleError>
+        ensures { self.old.copier.left ≡ None → OnOk result
+            (GathersOwn (copied_export own_index input.old.end input.old.rest.now) input.new.rest.now self.old self.new) }
+    {
         let at = input.at();
         self.copier.clear();
         done!(self.copier.export(input));
@@ -390,7 +398,10 @@ impl<'m> Gatherer<'m> {
     }
 
     /// A body: the types of its locals, and what its operators name.
-    fn body(&mut self, body: &Body<'_>) -> Result<(), ModuleError> {
+    fn body(&mut self, body: &Body<'_>) -> Result<(), ModuleError>
+        ensures { self.old.copier.left ≡ None → OnOk result
+            (GathersBody body.now.func body.now.input.end body.now.input.rest.now self.old self.new) }
+    {
         let at = body.start();
         let Ok(func) = u32::try_from(body.func) else {
             return Err(too_great(at));

@@ -1,10 +1,8 @@
 use Rattle.std.proofs.Common.{refl, ap, subst, ◌∙◌, None, OnOk}
-use Rattle.module_removal.specs.declared.copier.Copier.{Copier}
 use Rattle.module_removal.specs.declared.references.Gatherer.{Gatherer}
-use Rattle.module_removal.specs.CopiedParts.{copied_index}
 use Rattle.module_removal.specs.CopiedItems.{copied_import}
 use Rattle.module_removal.specs.Edges.{AddsReferencesTo}
-use Rattle.module_removal.specs.Gathered.{own_index, GathersNext, GathersOwn}
+use Rattle.module_removal.specs.Gathered.{own_index, GathersNext}
 use Rattle.module_removal.proofs.GatherLemmas.{gathers_next, activates_none, with_its_space}
 use Rattle.module_removal.proofs.references.Gatherer.import.Goals as goal
 

@@ -1,10 +1,7 @@
-use Rattle.std.proofs.Common.{refl, ap, subst, ◌∙◌, None, OnOk}
-use Rattle.module_removal.specs.declared.copier.Copier.{Copier}
+use Rattle.std.proofs.Common.{refl, ap, ◌∙◌}
 use Rattle.module_removal.specs.declared.references.Gatherer.{Gatherer}
 use Rattle.module_removal.specs.CopiedParts.{copied_index}
-use Rattle.module_removal.specs.CopiedItems.{copied_import}
-use Rattle.module_removal.specs.Edges.{AddsReferencesTo}
-use Rattle.module_removal.specs.Gathered.{own_index, GathersNext, GathersOwn}
+use Rattle.module_removal.specs.Gathered.{own_index, GathersOwn}
 use Rattle.wasm_operators.specs.declared.types.Space.TheVariants.{Funcs}
 use Rattle.module_removal.proofs.GatherLemmas.{gathers_own, with_following}
 use Rattle.module_removal.proofs.references.Gatherer.start.Goals as goal
