@@ -10,5 +10,6 @@ pub mod OperatorCopies
 -- items that operators name; what is gathered of an item
 pub mod NamedLemmas
 pub mod GatherLemmas
--- what is reached is left
+-- what is reached is left, and what is left is copied
 pub mod ReachedLemmas
+pub mod KeptCopies

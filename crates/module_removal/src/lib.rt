@@ -24,7 +24,7 @@ mod writing;
 
 pub use code::LeftCode;
 pub use item::{Item, ItemCounts, MODULE, SPACES};
-pub use laws::law_references_are_left;
+pub use laws::{law_items_are_copied, law_references_are_left};
 pub use left::LeftItems;
 pub use references::{References, references_of};
 pub use remainder::Remainder;
