@@ -10,6 +10,10 @@ pub mod OperatorCopies
 -- items that operators name; what is gathered of an item
 pub mod NamedLemmas
 pub mod GatherLemmas
+-- steps, one after the other
+pub mod SeveralStepsLemmas
 -- what is reached is left, and what is left is copied
 pub mod ReachedLemmas
 pub mod KeptCopies
+-- what is written for an item
+pub mod WritingLemmas

@@ -1,3 +1,5 @@
+-- steps, one after the other
+pub mod SeveralSteps
 -- the numbers of items, and their marks
 pub mod ItemNumbers
 -- which items are left, and the index that is written for each

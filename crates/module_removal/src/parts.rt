@@ -1,8 +1,9 @@
 //! The items of sections, copied.
 
-ghost use Rattle.std.specs.Prelude.{◌≡◌, option_map, IfSome};
+ghost use Rattle.std.specs.Prelude.{◌≡◌, option_map, Ok, IfOk, IfSome};
 ghost use Rattle.wasm_operators.specs.Types.{row_at};
-ghost use Rattle.wasm_sections.specs.Format.{after_table_mark, export_rows};
+ghost use Rattle.wasm_sections.specs.Format.{after_table_mark, export_rows, members_part};
+ghost use Rattle.module_removal.specs.CopiedItems.{begins_group};
 
 use crate::copier::Copier;
 use crate::item::Item;
@@ -481,12 +482,17 @@ impl Copier<'_> {
     }
 }
 
-/// The number of types in the recursive group at the front; a type alone is a group of one.
-pub(crate) fn group_members(input: &mut Input<'_>) -> Result<(u32, bool), ModuleError> {
+/// The number of types in the recursive group at the front, and whether it is marked as one; a type alone is a group of one.
+pub(crate) fn group_members(input: &mut Input<'_>) -> Result<(u32, bool), ModuleError>
+    ensures same_end { input.new.end ≡ input.old.end }
+    ensures count { IfOk result
+        (λ x. members_part input.old.end input.old.rest.now ≡ Ok (x.0, input.new.rest.now)) }
+    ensures mark { IfOk result (λ x. x.1 ≡ begins_group input.old.rest.now) }
+{
     if !matches!(input.rest(), [0x4e, ..]) {
         return Ok((1, false));
     }
-    input.pass(1);
+    done!(input.byte());
     match input.number() {
         Ok(count) => Ok((count, true)),
         Err(error) => Err(error),

@@ -49,13 +49,16 @@ fn put_section(out: &mut Vec<u8>, kind: SectionKind, contents: &[u8]) -> Result<
 }
 
 impl<'m> Writer<'m> {
-    ghost use Rattle.std.specs.Prelude.{◌≡◌, ◌++◌, true, OnOk};
+    ghost use Rattle.std.specs.Prelude.{◌≡◌, ◌++◌, ℕ, List, true, Ok, OnOk};
     ghost use Rattle.item_sets.specs.ItemsLeft.{is_left, left_count};
-    ghost use Rattle.wasm_operators.specs.declared.types.Space.TheVariants.{Data as OfData};
+    ghost use Rattle.wasm_operators.specs.declared.types.Space.TheVariants.{Types as OfTypes, Data as OfData, Funcs as OfFuncs};
+    ghost use Rattle.wasm_sections.specs.Sections.{section};
     ghost use Rattle.module_removal.specs.ItemNumbers.{count_of, counted_more, with_more_items};
-    ghost use Rattle.module_removal.specs.LeftSpaces.{marks_of};
+    ghost use Rattle.module_removal.specs.LeftSpaces.{marks_of, index_written};
+    ghost use Rattle.module_removal.specs.CopiedParts.{Copied, copied_index};
     ghost use Rattle.module_removal.specs.CopiedItems.{copied_export, copied_defined};
-    ghost use Rattle.module_removal.specs.Written.{data_count_section, WritesIf, WritesNextItem};
+    ghost use Rattle.module_removal.specs.Written.{data_count_section, group_mark, is_group_left, BeginsGroupIf, WritesIf, WritesNextItem, WritesImport, WritesType, WritesGroup};
+    ghost use Rattle.module_removal.specs.SeveralSteps.{SoManySteps};
 
     /// Adds the item that was copied to those of the section.
     fn add(&mut self) -> Result<(), ModuleError>
@@ -91,7 +94,10 @@ impl<'m> Writer<'m> {
     }
 
     /// An import, if it is left.
-    fn import(&mut self, input: &mut Input<'_>) -> Result<(), ModuleError> {
+    fn import(&mut self, input: &mut Input<'_>) -> Result<(), ModuleError>
+        ensures same_end { input.new.end ≡ input.old.end }
+        ensures is { OnOk result (WritesImport input.old.end input.old.rest.now input.new.rest.now self.old self.new) }
+    {
         let mut after = *input;
         self.passed.clear();
         let space = done!(self.passed.import(&mut after));
@@ -113,33 +119,73 @@ impl<'m> Writer<'m> {
         self.add()
     }
 
-    /// The types of a recursive group, if they are left.
-    fn group(&mut self, input: &mut Input<'_>) -> Result<(), ModuleError> {
-        let (members, is_group) = done!(group_members(input));
-        if is_group
-            && self
-                .remainder
-                .left
-                .space(Space::Types)
-                .is_left(self.next.types)
-        {
-            self.items.push(0x4e)?;
-            done!(write_number(&mut self.items, members as usize));
-        }
-        for member in 0..members {
-            if !self.is_next_left(Space::Types) {
-                self.passed.clear();
-                done!(self.passed.subtype(input));
-                continue;
-            }
+    /// The next type, if it is left.
+    fn member(&mut self, input: &mut Input<'_>) -> Result<(), ModuleError>
+        ensures same_end { input.new.end ≡ input.old.end }
+        ensures is { OnOk result
+            (WritesType input.old.end (self.old, input.old.rest.now) (self.new, input.new.rest.now)) }
+    {
+        if self.is_next_left(Space::Types) {
             self.kept.clear();
             done!(self.kept.subtype(input));
             self.items.extend_from_slice(&self.kept.out)?;
-            if member == 0 {
-                self.count = self.count.saturating_add(1);
-            }
+            return Ok(());
+        }
+        self.passed.clear();
+        self.passed.subtype(input)
+    }
+
+    /// The next types, so many, if they are left.
+    fn members(&mut self, count: u32, input: &mut Input<'_>) -> Result<(), ModuleError>
+        ensures same_end { input.new.end ≡ input.old.end }
+        ensures is { OnOk result (SoManySteps (WritesType input.old.end) count
+            (self.old, input.old.rest.now) (self.new, input.new.rest.now)) }
+    {
+        'members: for _ in 0..count {
+            done!(self.member(input));
         }
         Ok(())
+    }
+
+    /// Begins a recursive group with so many types.
+    fn begin_group(&mut self, members: u32, is_group: bool) -> Result<(), ModuleError>
+        ensures items { OnOk result (self.new.items.items ≡ self.old.items.items ++ group_mark is_group members) }
+        ensures count { OnOk result (self.new.count ≡ counted_more self.old.count 1) }
+        ensures same { self.new ≡ record self.old { items = self.new.items; count = self.new.count } }
+    {
+        self.count = self.count.saturating_add(1);
+        if !is_group {
+            return Ok(());
+        }
+        self.items.push(0x4e)?;
+        write_number(&mut self.items, members as usize)
+    }
+
+    /// Begins a recursive group with so many types if it is left: if its first type is. One without types isn't.
+    fn begin_if_left(&mut self, members: u32, is_group: bool) -> Result<(), ModuleError>
+        ensures { OnOk result (BeginsGroupIf
+            (is_group_left members (is_left (marks_of self.old.remainder.now.left OfTypes) self.old.next.types))
+            is_group members self.old self.new) }
+    {
+        if members == 0 {
+            return Ok(());
+        }
+        let types = self.remainder.left.space(Space::Types);
+        if !types.is_left(self.next.types) {
+            return Ok(());
+        }
+        self.begin_group(members, is_group)
+    }
+
+    /// The types of a recursive group, if they are left.
+    fn group(&mut self, input: &mut Input<'_>) -> Result<(), ModuleError>
+        ensures same_end { input.new.end ≡ input.old.end }
+        ensures is { OnOk result
+            (WritesGroup input.old.end (self.old, input.old.rest.now) (self.new, input.new.rest.now)) }
+    {
+        let (members, is_group) = done!(group_members(input));
+        done!(self.begin_if_left(members, is_group));
+        self.members(members, input)
     }
 
     /// The items of a section that are left.
@@ -207,7 +253,11 @@ impl<'m> Writer<'m> {
     }
 
     /// The start function.
-    fn start(&mut self, mut input: Input<'_>) -> Result<(), ModuleError> {
+    fn start(&mut self, mut input: Input<'_>) -> Result<(), ModuleError>
+        ensures { OnOk result ((copied : Copied) × (following : List ℕ)
+            × (copied_index (index_written self.old.kept.left) OfFuncs input.entry.end input.entry.rest.now ≡ Ok ((tt, copied), following))
+            × (self.new.out.items ≡ self.old.out.items ++ section 8 copied.written)) }
+    {
         self.kept.clear();
         done!(self.kept.index(&mut input, Space::Funcs));
         put_section(&mut self.out, SectionKind::Start, &self.kept.out)
