@@ -2,7 +2,7 @@
 
 ghost use Rattle.std.specs.Prelude.{◌<◌, ◌≤◌, length, OnOk};
 
-use crate::replacing::replace_number;
+use crate::replacing::{read_placed, replace_number};
 use dwarf_bytes::{Cursor, DebugError, DebugFault, Patches, Size};
 use dwarf_line::Moved;
 use std::alloc::Global;
@@ -98,8 +98,7 @@ fn follow_unit(
         _ => Size::Eight,
     };
     if flags & HAS_LINE_TABLE != 0 {
-        let at = input.at();
-        let old = input.sized(size)?;
+        let (at, old) = read_placed(input, size)?;
         let new = moved_table(tables, old)?;
         replace_number(at, size, old, new, scratch, out)?;
     }

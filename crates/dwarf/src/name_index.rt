@@ -3,9 +3,9 @@
 ghost use Rattle.std.specs.Prelude.{◌<◌, ◌≤◌, length, OnOk};
 
 use crate::index_abbreviations::{IndexAbbreviations, IndexAttribute, IndexForm, IndexMeaning};
-use crate::replacing::replace_number;
-use dwarf_bytes::{Cursor, DebugError, DebugFault, Patches, Size, write_padded};
-use dwarf_info::{moved_distance, moved_offset};
+use crate::replacing::follow_unit_offset;
+use dwarf_bytes::{Cursor, DebugError, DebugFault, Patches, Size, write_padded, write_sized};
+use dwarf_info::moved_distance;
 use std::alloc::Global;
 
 /// An index of names: the parts that lead to entries.
@@ -236,10 +236,7 @@ impl Following<'_> {
         let size = self.index.size;
         let mut left = list;
         while !left.is_empty() {
-            let at = left.at();
-            let unit = left.sized(size)?;
-            let new = moved_offset(self.info, unit);
-            replace_number(at, size, unit, new, scratch, out)?;
+            follow_unit_offset(&mut left, size, self.info, scratch, out)?;
         }
         Ok(())
     }
@@ -254,11 +251,14 @@ impl Following<'_> {
     ) -> Result<(), DebugError> {
         let unit = usize::try_from(unit).map_err(|_| DebugFault::BadOffset)?;
         let new = moved_distance(self.info, unit, offset.number)?;
-        if let IndexForm::Sized(size) = offset.form {
-            return replace_number(offset.at, size, offset.number, new, scratch, out);
+        if new == offset.number {
+            return Ok(());
         }
         scratch.clear();
-        write_padded(scratch, new, offset.width)?;
+        match offset.form {
+            IndexForm::Sized(size) => write_sized(scratch, size, new)?,
+            IndexForm::Unsigned => write_padded(scratch, new, offset.width)?,
+        }
         match scratch.len() == offset.width {
             true => out.push(offset.at, offset.width, scratch),
             false => Err(DebugError::Fault(DebugFault::DoesNotFit)),

@@ -1,0 +1,6 @@
+-- parts that are replaced one after the other
+pub mod Repeating
+-- how many bytes a number takes
+pub mod Taken
+-- tables of lists that follow
+pub mod ListTableLemmas

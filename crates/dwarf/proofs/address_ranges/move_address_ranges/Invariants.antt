@@ -1,5 +1,0 @@
-use Rattle.std.proofs.Common.{length}
-use Rattle.dwarf.proofs.address_ranges.move_address_ranges.Given as goal
-
-abbrev pub decreases-loop-input : goal.decreases-loop-input
-decreases-loop-input l = length l.input.rest.now

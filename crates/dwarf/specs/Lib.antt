@@ -1,0 +1,11 @@
+-- numbers that are replaced where they are
+pub mod Replacing
+-- tables of names
+pub mod Names
+pub mod NamesViews
+-- address ranges
+pub mod AddressRanges
+pub mod RangesViews
+-- tables of lists
+pub mod ListTables
+pub mod ListTablesViews
