@@ -4,3 +4,7 @@ pub mod Repeating
 pub mod Taken
 -- tables of lists that follow
 pub mod ListTableLemmas
+-- entries of macros that are passed
+pub mod MacroLemmas
+-- line tables by ascending offsets
+pub mod TablesAscend

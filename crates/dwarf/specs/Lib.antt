@@ -9,3 +9,6 @@ pub mod RangesViews
 -- tables of lists
 pub mod ListTables
 pub mod ListTablesViews
+-- macros
+pub mod Macros
+pub mod MacrosViews

@@ -289,7 +289,7 @@ impl Ranges<'_> {
 ///
 /// The first fault of a table: `Truncated`, `BadLength`, `UnknownVersion`; `Unsupported` for addresses of neither four nor eight bytes, for
 /// segments, and for code that begins in a body and doesn't end in one; `DoesNotFit` if a new number is too great. Out of memory.
-pub(crate) fn move_address_ranges(
+pub fn move_address_ranges(
     alloc: Global,
     section: &[u8],
     code: &[CodeRange],

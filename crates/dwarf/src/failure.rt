@@ -1,5 +1,7 @@
 //! Why debug information isn't moved.
 
+ghost use Rattle.std.specs.Prelude.{◌≡◌, Ok, Err, IfOk, IfErr};
+
 use crate::sections::SectionName;
 use dwarf_bytes::{DebugError, DebugFault};
 use std::fmt;
@@ -34,7 +36,10 @@ impl Display for DebugFailure {
 pub(crate) fn within<T>(
     section: SectionName,
     moved: Result<T, DebugError>,
-) -> Result<T, DebugFailure> {
+) -> Result<T, DebugFailure>
+    ensures moved { IfOk result (λ value. moved ≡ Ok value) }
+    ensures refused { IfErr result (λ failure. (failure.section ≡ section) × (moved ≡ Err failure.error)) }
+{
     match moved {
         Ok(value) => Ok(value),
         Err(error) => Err(DebugFailure { section, error }),

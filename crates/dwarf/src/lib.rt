@@ -14,6 +14,10 @@ mod names;
 mod replacing;
 mod sections;
 
+pub use address_ranges::move_address_ranges;
 pub use failure::DebugFailure;
+pub use list_tables::follow_list_tables;
+pub use macros::follow_macros;
 pub use moving::{MovedSections, move_sections};
+pub use names::follow_names;
 pub use sections::{DebugSections, SectionName};

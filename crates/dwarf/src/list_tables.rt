@@ -143,7 +143,7 @@ fn follow_table(
 ///
 /// The first fault of a table: `Truncated`, `BadLength`; `BadOffset` if an offset is of no place; `DoesNotFit` if a new number is too
 /// great; `Overlap` if a field is also replaced before. Out of memory.
-pub(crate) fn follow_list_tables(
+pub fn follow_list_tables(
     alloc: Global,
     section: &[u8],
     own: &Patches,

@@ -162,7 +162,7 @@ fn follow_table(
 ///
 /// The first fault of a table: `Truncated`, `BadLength`, `UnknownVersion`; `BadOffset` if an offset is of no place, or `DoesNotFit` if the
 /// new one is too great. Out of memory.
-pub(crate) fn follow_names(
+pub fn follow_names(
     alloc: Global,
     section: &[u8],
     is_gnu: bool,
