@@ -8,3 +8,8 @@ pub mod ListTableLemmas
 pub mod MacroLemmas
 -- line tables by ascending offsets
 pub mod TablesAscend
+-- fields in order, of the same sizes
+pub mod FieldLemmas
+pub mod NamesKeep
+pub mod RangesKeep
+pub mod MacrosKeep

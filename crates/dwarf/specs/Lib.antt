@@ -12,3 +12,5 @@ pub mod ListTablesViews
 -- macros
 pub mod Macros
 pub mod MacrosViews
+-- every other byte stays
+pub mod NewFields

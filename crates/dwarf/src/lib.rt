@@ -5,6 +5,7 @@
 mod address_ranges;
 mod failure;
 mod index_abbreviations;
+mod law;
 mod list_tables;
 mod lists;
 mod macros;
@@ -16,6 +17,7 @@ mod sections;
 
 pub use address_ranges::move_address_ranges;
 pub use failure::DebugFailure;
+pub use law::law_new_fields;
 pub use list_tables::follow_list_tables;
 pub use macros::follow_macros;
 pub use moving::{MovedSections, move_sections};
