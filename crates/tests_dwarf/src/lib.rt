@@ -1,5 +1,5 @@
-//! Tests of debug information: where code goes, numbers and patches, line tables, expressions, and lists of ranges and of
-//! locations.
+//! Tests of debug information: where code goes, numbers and patches, line tables, expressions, lists of ranges and of
+//! locations, names, address ranges and macros.
 #![tactic(auto)]
 
 #[cfg(test)]
@@ -14,3 +14,5 @@ mod lists;
 mod moves;
 #[cfg(test)]
 mod new_lists;
+#[cfg(test)]
+mod sections;
