@@ -14,3 +14,6 @@ pub mod Macros
 pub mod MacrosViews
 -- every other byte stays
 pub mod NewFields
+-- the index of names
+pub mod NameIndex
+pub mod NameIndexViews

@@ -1,6 +1,8 @@
 //! How the entries of a name index are spelt (DWARF 5, section 6.1.1.4.7).
 
-ghost use Rattle.std.specs.Prelude.{◌<◌, ◌≤◌, length, OnOk};
+ghost use Rattle.std.specs.Prelude.{◌≡◌, ◌<◌, ◌≤◌, length, OnOk};
+ghost use Rattle.wasm_numbers.specs.Results.{Gives};
+ghost use Rattle.dwarf.specs.NameIndex.{index_meaning, index_form, index_value};
 
 use dwarf_bytes::{Cursor, DebugError, DebugFault, Size};
 use std::alloc::Global;
@@ -57,7 +59,9 @@ impl IndexMeaning {
     /// # Errors
     ///
     /// `Unsupported` if it isn't known.
-    fn of(name: u64) -> Result<IndexMeaning, DebugFault> {
+    fn of(name: u64) -> Result<IndexMeaning, DebugFault>
+        ensures { result ≡ index_meaning name }
+    {
         match name {
             1 => Ok(IndexMeaning::CompileUnit),
             2 => Ok(IndexMeaning::TypeUnit),
@@ -75,7 +79,9 @@ impl IndexForm {
     /// # Errors
     ///
     /// `UnknownForm` if it is none of a constant, a flag or a reference.
-    fn of(number: u64) -> Result<Option<IndexForm>, DebugFault> {
+    fn of(number: u64) -> Result<Option<IndexForm>, DebugFault>
+        ensures { result ≡ index_form number }
+    {
         match number {
             // data1, flag, ref1
             0x0b | 0x0c | 0x11 => Ok(Some(IndexForm::Sized(Size::One))),
@@ -99,7 +105,9 @@ impl IndexForm {
     ///
     /// `Truncated` or `BadNumber`.
     pub(crate) fn read(self, input: &mut Cursor<'_>) -> Result<u64, DebugFault>
-        ensures { length input.new.rest.now ≤ length input.old.rest.now }
+        ensures gives { Gives (λ x. (x, input.new.rest.now)) result (index_value self input.old.rest.now) }
+        ensures end { input.new.end ≡ input.old.end }
+        ensures shorter { length input.new.rest.now ≤ length input.old.rest.now }
     {
         match self {
             IndexForm::Sized(size) => input.sized(size),

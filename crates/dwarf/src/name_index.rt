@@ -1,6 +1,9 @@
 //! The index of names (DWARF 5, section 6.1.1), where entries are at other places.
 
-ghost use Rattle.std.specs.Prelude.{◌<◌, ◌≤◌, length, OnOk};
+ghost use Rattle.std.specs.Prelude.{◌≡◌, ◌-◌, ◌<◌, ◌≤◌, length, IfOk, OnOk};
+ghost use Rattle.wasm_numbers.specs.Results.{Gives};
+ghost use Rattle.dwarf.specs.NameIndex.{augmentation_passed, index_counts, numbers_part, hashes_passed, index_parts, spelled_index};
+ghost use Rattle.dwarf.specs.NameIndexViews.{counts_of, index_spelled};
 
 use crate::index_abbreviations::{IndexAbbreviations, IndexAttribute, IndexForm, IndexMeaning};
 use crate::replacing::follow_unit_offset;
@@ -59,7 +62,16 @@ struct Target {
 }
 
 /// The next `count` numbers of this size, as a part of their own.
-fn numbers<'a>(table: &mut Cursor<'a>, count: u64, size: Size) -> Result<Cursor<'a>, DebugFault> {
+///
+/// # Errors
+///
+/// `BadLength` if there are fewer.
+fn numbers<'a>(table: &mut Cursor<'a>, count: u64, size: Size) -> Result<Cursor<'a>, DebugFault>
+    ensures gives { Gives (λ x. (x.rest.now, table.new.rest.now)) result (numbers_part count size table.old.rest.now) }
+    ensures end { table.new.end ≡ table.old.end }
+    ensures part_end { IfOk result (λ x. x.end ≡ table.old.end - length table.new.rest.now) }
+    ensures shorter { length table.new.rest.now ≤ length table.old.rest.now }
+{
     let bytes = count
         .checked_mul(size.bytes() as u64)
         .ok_or(DebugFault::BadLength)?;
@@ -79,53 +91,71 @@ fn number_at(list: Cursor<'_>, index: u64, size: Size) -> Result<u64, DebugFault
     }
 }
 
+/// Reads the augmentation of an index, up to a multiple of four bytes.
+fn skip_augmentation(table: &mut Cursor<'_>) -> Result<(), DebugFault>
+    ensures gives { Gives (λ u. (tt, table.new.rest.now)) result (augmentation_passed table.old.rest.now) }
+    ensures end { table.new.end ≡ table.old.end }
+{
+    let size = table.sized(Size::Four)?;
+    table.part(size)?;
+    table.part((4 - size % 4) % 4)?;
+    Ok(())
+}
+
 /// Reads the header of an index, from its version on (DWARF 5, section 6.1.1.4.1).
-fn read_counts(table: &mut Cursor<'_>) -> Result<Counts, DebugFault> {
+fn read_counts(table: &mut Cursor<'_>) -> Result<Counts, DebugFault>
+    ensures gives { Gives (λ c. (counts_of c, table.new.rest.now)) result (index_counts table.old.rest.now) }
+    ensures end { table.new.end ≡ table.old.end }
+{
     if table.sized(Size::Two)? != 5 {
         return Err(DebugFault::UnknownVersion);
     }
     // padding
     table.sized(Size::Two)?;
-    let counts = Counts {
-        compile_units: table.sized(Size::Four)?,
-        type_units: table.sized(Size::Four)?,
-        foreign: table.sized(Size::Four)?,
-        buckets: table.sized(Size::Four)?,
-        names: table.sized(Size::Four)?,
-        abbreviations: table.sized(Size::Four)?,
-    };
-    // the augmentation, up to a multiple of four bytes
-    let augmentation = table.sized(Size::Four)?;
-    table.part(augmentation)?;
-    let over = augmentation % 4;
-    if over > 0 {
-        table.part(4 - over)?;
+    let compile_units = table.sized(Size::Four)?;
+    let type_units = table.sized(Size::Four)?;
+    let foreign = table.sized(Size::Four)?;
+    let buckets = table.sized(Size::Four)?;
+    let names = table.sized(Size::Four)?;
+    let abbreviations = table.sized(Size::Four)?;
+    skip_augmentation(table)?;
+    Ok(Counts {
+        compile_units,
+        type_units,
+        foreign,
+        buckets,
+        names,
+        abbreviations,
+    })
+}
+
+/// Reads the hash table of an index: without buckets there are no hashes of names.
+fn skip_hashes(counts: &Counts, table: &mut Cursor<'_>) -> Result<(), DebugFault>
+    ensures gives { Gives (λ u. (tt, table.new.rest.now)) result (hashes_passed (counts_of counts.now) table.old.rest.now) }
+    ensures end { table.new.end ≡ table.old.end }
+{
+    if counts.buckets > 0 {
+        numbers(table, counts.buckets, Size::Four)?;
+        numbers(table, counts.names, Size::Four)?;
     }
-    Ok(counts)
+    Ok(())
 }
 
 impl<'a> NameIndex<'a> {
-    /// Reads the next index up to its pool.
-    ///
-    /// # Errors
-    ///
-    /// `Truncated` or `BadLength`; `UnknownVersion`.
-    fn read(input: &mut Cursor<'a>) -> Result<NameIndex<'a>, DebugFault>
-        ensures { OnOk result (length input.new.rest.now < length input.old.rest.now) }
+    /// Reads the parts of an index after its header, up to its pool.
+    fn read_parts(
+        size: Size,
+        counts: &Counts,
+        input: Cursor<'a>,
+    ) -> Result<NameIndex<'a>, DebugFault>
+        ensures { Gives index_spelled result (index_parts size input.entry.end (counts_of counts.now) input.entry.rest.now) }
     {
-        let (format, length) = input.initial_length()?;
-        let mut table = input.part(length)?;
-        let counts = read_counts(&mut table)?;
-        let size = format.offset_size();
+        let mut table = input;
         let compile_units = numbers(&mut table, counts.compile_units, size)?;
         let type_units = numbers(&mut table, counts.type_units, size)?;
         // signatures of type units
         numbers(&mut table, counts.foreign, Size::Eight)?;
-        if counts.buckets > 0 {
-            numbers(&mut table, counts.buckets, Size::Four)?;
-            // the hashes of names
-            numbers(&mut table, counts.names, Size::Four)?;
-        }
+        skip_hashes(counts, &mut table)?;
         // the offsets of names in `.debug_str`
         numbers(&mut table, counts.names, size)?;
         let names = numbers(&mut table, counts.names, size)?;
@@ -140,6 +170,22 @@ impl<'a> NameIndex<'a> {
             abbreviations,
             pool: table,
         })
+    }
+
+    /// Reads the next index up to its pool.
+    ///
+    /// # Errors
+    ///
+    /// `Truncated` or `BadLength`; `UnknownVersion`.
+    fn read(input: &mut Cursor<'a>) -> Result<NameIndex<'a>, DebugFault>
+        ensures gives { Gives (λ i. (index_spelled i, input.new.rest.now)) result (spelled_index input.old.end input.old.rest.now) }
+        ensures end { input.new.end ≡ input.old.end }
+        ensures shorter { OnOk result (length input.new.rest.now < length input.old.rest.now) }
+    {
+        let (format, length) = input.initial_length()?;
+        let mut table = input.part(length)?;
+        let counts = read_counts(&mut table)?;
+        NameIndex::read_parts(format.offset_size(), &counts, table)
     }
 
     /// Whether all entries are in one compile unit, so that none has to say which.
