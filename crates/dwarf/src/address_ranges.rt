@@ -1,7 +1,7 @@
 //! The addresses that units have (DWARF 4, section 6.1.2). Memory is in the same tables, under the same numbers: an
 //! address is one of code where a function of the unit begins there, and has as many bytes.
 
-ghost use Rattle.std.specs.Prelude.{◌≡◌, ◌<◌, ◌≤◌, ◌⊎◌, ◌+◌, ◌-◌, ◌*◌, ◌++◌, Bool, length, Ok, Err, IfOk, IfErr, OnOk};
+ghost use Rattle.std.specs.Prelude.{◌≡◌, ◌<◌, ◌≤◌, ◌⊎◌, ◌+◌, ◌-◌, ◌*◌, Bool, length, Ok, Err, IfOk, IfErr, OnOk};
 ghost use Rattle.std.specs.List.{list_any, AllWithin};
 ghost use Rattle.std.specs.List.Sorted.{IsNonDecreasingBy};
 ghost use Rattle.wasm_numbers.specs.Results.{Gives};
@@ -10,7 +10,6 @@ ghost use Rattle.dwarf_bytes.specs.declared.fault.DebugError.TheVariants.{Memory
 ghost use Rattle.dwarf_bytes.specs.Numbers.{size_in_bytes, offset_size};
 ghost use Rattle.dwarf_bytes.specs.Patches.{changes};
 ghost use Rattle.dwarf_info.specs.declared.moved.CodeRange.{CodeRange as ARange};
-ghost use Rattle.dwarf_info.specs.Units.{size_of_address};
 ghost use Rattle.dwarf.specs.AddressRanges.{is_range_of, has_code, range_moved, range_replaced, unit_range_replaced, range_followed, padding_of_ranges, size_of_ranges, ranges_of_part_followed, ranges_table_followed, address_ranges_followed, code_followed};
 ghost use Rattle.dwarf.specs.RangesViews.{ranges_following};
 ghost use Rattle.dwarf.specs.Replacing.{each_replaced};

@@ -1,11 +1,10 @@
 //! Tables of lists, where lists change their sizes (DWARF 5, sections 7.28 and 7.29).
 
-ghost use Rattle.std.specs.Prelude.{ℕ, List, ◌≡◌, ◌<◌, ◌≤◌, ◌⊎◌, length, Ok, Err, IfOk, IfErr, OnOk};
+ghost use Rattle.std.specs.Prelude.{◌≡◌, ◌<◌, ◌⊎◌, length, Ok, IfOk, IfErr, OnOk};
 ghost use Rattle.wasm_numbers.specs.Results.{Gives};
 ghost use Rattle.dwarf_bytes.specs.declared.fault.DebugFault.{DebugFault as AFault};
 ghost use Rattle.dwarf_bytes.specs.declared.fault.DebugError.TheVariants.{Memory, Fault};
 ghost use Rattle.dwarf_bytes.specs.Merging.{merging, AreMerged, IsFaultOfMerging, AreAllMerged, IsFaultOfAll};
-ghost use Rattle.dwarf_bytes.specs.Numbers.{size_in_bytes, fixed_number};
 ghost use Rattle.dwarf_bytes.specs.Patches.{changes};
 ghost use Rattle.dwarf.specs.ListTables.{spelled_list_table, list_offset_steps, list_offsets_steps, table_offsets_steps, list_table_steps, list_section_steps};
 ghost use Rattle.dwarf.specs.ListTablesViews.{list_table_of, offsets_of};
