@@ -2,11 +2,11 @@
 _wgc() {
     local current=${COMP_WORDS[COMP_CWORD]} before=${COMP_WORDS[COMP_CWORD - 1]}
     case $before in
-    --names-from) ;;
-    --keep|--pattern) return ;;
+    --names-from|-o|--output|--map|--source-map|--output-source-map) ;;
+    --keep|--pattern|--source-map-url|--remove-section|--keep-section) return ;;
     *)
         if [[ $current == -* ]]; then
-            mapfile -t COMPREPLY < <(compgen -W '--keep --pattern --names-from --list --force -h --help -V --version' -- "$current")
+            mapfile -t COMPREPLY < <(compgen -W '--validate --engine-limits --keep --pattern --names-from --list -o --output --force --map --source-map --output-source-map --source-map-url --strip --strip-debug --keep-debug --strip-names --strip-producers --remove-section --keep-section -q --quiet -v --verbose -h --help -V --version' -- "$current")
             return
         fi
         ;;

@@ -6,7 +6,7 @@ import subprocess
 import time
 
 from modules import GOOD, GOOD_MAP, GOOD_WRITTEN, NAMED, REFUSED
-from runs import LIKE_WREWRITE, PROGRAMS, case, holds, same
+from runs import PROGRAMS, case, holds, same
 from source_map_texts import source_map
 
 
@@ -19,7 +19,7 @@ def _(room):
         holds(f"usage: {program} ", out)
         for word in ("-h, --help", "-V, --version", "example: "):
             holds(word, out)
-    for program in LIKE_WREWRITE:
+    for program in PROGRAMS:
         for word in ("--map FILE", "--source-map FILE", "--output-source-map FILE", "--source-map-url URL", "--strip-debug", "-v, --verbose"):
             holds(word, room.works(program, "--help").decode())
     holds("types are checked with --validate alone", room.works("wrewrite", "--help").decode())
@@ -53,7 +53,7 @@ def _(room):
 
 @case("an option whose value is given twice is named")
 def _(room):
-    for program in LIKE_WREWRITE:
+    for program in PROGRAMS:
         room.wrong_use(program, "--map=a", "--map", "b", "in", "out", says="option '--map' is given twice")
 
 

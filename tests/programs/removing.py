@@ -1,7 +1,12 @@
-"""What wgc leaves out: items that nothing reaches go from each section, and every index follows; node runs the modules before and after."""
+"""What wgc and `wsnip --gc` leave out: items that nothing reaches go from each section, and every index follows; node runs the modules before
+and after. What follows the code: location maps, source maps and debug information."""
+import glob
+import os
+
 from linear_time import is_nearly_linear
 from modules import PREAMBLE, custom, number, read_number, section, signed, sized, vector
-from runs import case, holds, node, same
+from runs import DATA, TOP, case, holds, node, same
+from source_map_texts import mappings, source_map
 
 # What node logs and returns for `run` of a module, which imports `m.log`; and whether it is valid.
 RUN = """
@@ -215,13 +220,178 @@ def _(room):
 @case("wgc: words that are wrong, and a module that is refused")
 def _(room):
     room.wrong_use("wgc", says="no file to read is given")
-    room.wrong_use("wgc", "--keep", says="option '--keep' requires a value")
+    room.wrong_use("wgc", "in", "--keep", says="option '--keep' requires a value")
     room.wrong_use("wgc", "in", "out", "more", says="unexpected word 'more'")
     room.wrong_use("wgc", "--other", "in", says="unknown option '--other'")
     room.put("in", PREAMBLE + b"\x63\0")
     status, out, err = room.run("wgc", "in", "out")
     same((1, b""), (status, out))
     holds("UnknownSection", err)
+    same(["in"], room.files())
+
+
+# What is called `run` is function 1 of two, and is written as function 0: its operators before and after.
+RUN_BEFORE = b"\1\x20\0\1\1\x41\7\x6a\x0b"
+RUN_AFTER = b"\x20\0\x41\7\x6a\x0b"
+ONE_DEAD = made({1: [SIGNATURES[V], SIGNATURES[II]], 3: [b"\0", b"\1"], 7: [export(b"run", 0, 1)], 10: [body(b"\x41\5\x1a"), sized(b"\0" + RUN_BEFORE)]})
+ONE_LEFT = made({1: [SIGNATURES[II]], 3: [b"\0"], 7: [export(b"run", 0, 0)], 10: [sized(b"\0" + RUN_AFTER)]})
+# The places of local.get, i32.const, i32.add and end, before and after, and of the operators of the function that goes.
+OLD = [ONE_DEAD.index(RUN_BEFORE) + at for at in (1, 5, 7, 8)]
+NEW = [ONE_LEFT.index(RUN_AFTER) + at for at in (0, 2, 4, 5)]
+DEAD = [ONE_DEAD.index(b"\x41\5\x1a\x0b") + at for at in (0, 2, 3)]
+
+
+@case("wgc: --map has a line for each operator that is left, and none of a function that goes")
+def _(room):
+    same(ONE_LEFT, collected(room, ONE_DEAD, "--map", "map"))
+    same("".join(f"{old:x} {new:x}\n" for old, new in zip(OLD, NEW)).encode(), room.get("map"))
+    room.works("wgc", "-o", "other", "in")
+    same(ONE_LEFT, room.get("other"))
+
+
+@case("wgc: mappings of a source map follow, but for those of a function that goes")
+def _(room):
+    room.put("in.map", source_map(mappings([[place, 0, line, 0] for line, place in enumerate([*DEAD, *OLD])])))
+    words = ("--source-map", "in.map", "--output-source-map", "out.map", "--source-map-url", "there")
+    written = collected(room, ONE_DEAD, *words)
+    same(ONE_LEFT + custom(b"sourceMappingURL", sized(b"there")), written)
+    same(source_map(mappings([[place, 0, line, 0] for line, place in enumerate(NEW, len(DEAD))])), room.get("out.map"))
+
+
+def four(value):
+    return value.to_bytes(4, "little")
+
+
+def debug_of(functions):
+    """`.debug_abbrev` and `.debug_info` of DWARF 4 that say the first address and the length of each function."""
+    # a unit with entries in it and without attributes; a function with DW_AT_low_pc (addr) and DW_AT_high_pc (data4)
+    abbreviations = b"\1\x11\1\0\0" + b"\2\x2e\0\x11\1\x12\6\0\0" + b"\0"
+    entries = b"\1" + b"".join(b"\2" + four(low) + four(length) for low, length in functions) + b"\0"
+    unit = b"\4\0" + four(0) + b"\4" + entries
+    return custom(b".debug_abbrev", abbreviations) + custom(b".debug_info", four(len(unit)) + unit)
+
+
+def address(module, operators):
+    """The address of a body with these operators and no locals, from the contents of the code section on."""
+    at = module.index(section(10, b"")[:1], module.index(b"run"))
+    return module.index(b"\0" + operators) - read_number(module, at + 1)[1]
+
+
+@case("wgc: debug information follows, and a function that goes has addresses of no code")
+def _(room):
+    dead, run = b"\x41\5\x1a\x0b", address(ONE_DEAD, RUN_BEFORE)
+    before = debug_of([(address(ONE_DEAD, dead), 5), (run, 1 + len(RUN_BEFORE))])
+    after = debug_of([(0xF0000000, 1), (address(ONE_LEFT, RUN_AFTER), 1 + len(RUN_AFTER))])
+    same(ONE_LEFT + after, collected(room, ONE_DEAD + before))
+    # where no function goes, no address is one of no code
+    one = made({1: [SIGNATURES[II]], 3: [b"\0"], 7: [export(b"run", 0, 0)], 10: [sized(b"\0" + RUN_BEFORE)]})
+    same(ONE_LEFT + debug_of([(address(ONE_LEFT, RUN_AFTER), 1 + len(RUN_AFTER))]), collected(room, one + debug_of([(address(one, RUN_BEFORE), 1 + len(RUN_BEFORE))])))
+    # what is left out, and what stays as it is
+    same(ONE_LEFT, collected(room, ONE_DEAD + before, "--strip-debug"))
+    status, _, err = room.run("wgc", "--keep-debug", "in", "out")
+    same((0, "wgc: warning: debug information is out of date (.debug_info): use --strip-debug\n"), (status, err))
+    same(ONE_LEFT + before, room.get("out"))
+    same("", room.run("wgc", "-q", "--keep-debug", "in", "out")[2])
+
+
+@case("wgc: debug information that can't follow, and a source map that isn't given, are carried over with a warning")
+def _(room):
+    after = custom(b".debug_line", b"\1") + custom(b"sourceMappingURL", sized(b"old"))
+    room.put("in", ONE_DEAD + after)
+    status, _, err = room.run("wgc", "in", "out")
+    want = (
+        "wgc: warning: debug information is out of date (.debug_line), since it can't follow the code (.debug_line: the section ends inside a value): use --strip-debug\n"
+        "wgc: warning: source map is out of date: use --source-map or --strip-debug\n"
+    )
+    same((0, want), (status, err))
+    same(ONE_LEFT + custom(b"sourceMappingURL", sized(b"old")) + custom(b".debug_line", b"\1"), room.get("out"))
+    # code that doesn't change is where it was
+    room.put("in", ONE_LEFT + after)
+    room.works("wgc", "in", "out")
+
+
+@case("wgc: custom sections that are left out, and those that are kept all the same")
+def _(room):
+    names = custom(b"name", b"\0" + sized(sized(b"mod")))
+    more = custom(b"producers", b"\0") + custom(b"other", b"x")
+    same(ONE_LEFT, collected(room, ONE_DEAD + names + more, "--strip"))
+    same(ONE_LEFT + more, collected(room, ONE_DEAD + names + more, "--strip-names"))
+    same(ONE_LEFT + names, collected(room, ONE_DEAD + names + more, "--strip", "--keep-section", "name"))
+    same(ONE_LEFT + names + custom(b"producers", b"\0"), collected(room, ONE_DEAD + names + more, "--remove-section", "other"))
+
+
+# `run` calls function 2, which calls function 1 and is taken away; function 0 is called by none.
+CHAIN = made(
+    {
+        1: [SIGNATURES[II], SIGNATURES[V]],
+        3: [b"\1", b"\0", b"\0", b"\0"],
+        7: [export(b"run", 0, 3)],
+        10: [body(b""), body(b"\x20\0"), body(b"\x20\0" + call(1)), body(b"\x20\0" + call(2))],
+    }
+)
+TRAPS = made({1: [SIGNATURES[II]], 3: [b"\0", b"\0"], 7: [export(b"run", 0, 1)], 10: [body(b"\0"), body(b"\x20\0" + call(0))]})
+
+
+@case("wsnip --gc takes a body away, and leaves out what only it reached")
+def _(room):
+    room.put("in", CHAIN)
+    room.works("wsnip", "--gc", "--map", "map", "in", "out", "2")
+    same(TRAPS, room.get("out"))
+    old, new = CHAIN.index(b"\x20\0" + call(2)), TRAPS.index(b"\x20\0" + call(0))
+    same("".join(f"{old + at:x} {new + at:x}\n" for at in (0, 2, 4)).encode(), room.get("map"))
+    room.works("wsnip", "--gc", "--keep", "1", "in", "out", "2")
+    same({1: 1, 3: 3, 7: 1, 10: 3}, counts(room.get("out")))
+
+
+@case("wsnip --gc warns of what doesn't follow the code, also where nothing is left out after all")
+def _(room):
+    both = lambda operators, more: made({1: [SIGNATURES[II]], 3: [b"\0", b"\0"], 7: [export(b"run", 0, 0), export(b"f", 0, 1)], 10: [body(b"\x20\0"), body(operators)]}) + more
+    url, lines = custom(b"sourceMappingURL", sized(b"old")), custom(b".debug_line", b"\1")
+    room.put("in", both(b"\x20\0", lines + url))
+    status, _, err = room.run("wsnip", "--gc", "in", "out", "f")
+    want = (
+        "wsnip: warning: debug information is out of date (.debug_line), since it can't follow the code (.debug_line: the section ends inside a value): use --strip-debug\n"
+        "wsnip: warning: source map is out of date: use --source-map or --strip-debug\n"
+    )
+    same((0, want), (status, err))
+    same(both(b"\0", url + lines), room.get("out"))
+    # what follows the code is no reason to warn
+    whole = made({1: [SIGNATURES[II]], 3: [b"\0", b"\0"], 7: [export(b"run", 0, 0), export(b"f", 0, 1)], 10: [body(b"\x20\0"), body(b"\x20\0")]})
+    room.put("in", whole + debug_of([(address(whole, b"\x20\0\x0b"), 4)]))
+    room.works("wsnip", "--gc", "in", "out", "f")
+
+
+def composed(first, second):
+    """The location map of two runs, one after the other."""
+    read = lambda text: [tuple(int(it, 16) for it in line.split()) for line in text.decode().splitlines()]
+    sources = {new: old for old, new in read(first)}
+    return "".join(f"{sources[old]:x} {new:x}\n" for old, new in read(second) if old in sources).encode()
+
+
+@case("wsnip --gc does what wsnip and wgc do, one after the other, byte for byte")
+def _(room):
+    paths = [*(f"{DATA}/{it}.wasm" for it in ("mapped", "sample", "fib")), *sorted(glob.glob(f"{TOP}/tests/debug/modules/*.wasm"))]
+    for path in paths:
+        listed = [it.split() for it in room.works("wsnip", "--list", path).decode().splitlines()]
+        largest = max(listed, key=lambda it: int(it[1]))[0]
+        for options in ([], ["--strip-debug"], ["--keep", "0"] if listed[0][0] == "0" else []):
+            room.run("wsnip", "--map", "first", path, "between", largest)
+            room.run("wgc", *options, "--map", "second", "between", "two")
+            status, _, err = room.run("wsnip", "--gc", *options, "--map", "map", path, "one", largest)
+            same(0, status, err)
+            of = f"{os.path.basename(path)} {options}"
+            assert room.get("one") == room.get("two"), f"another module is written of {of}"
+            assert composed(room.get("first"), room.get("second")) == room.get("map"), f"another map is written of {of}"
+
+
+@case("wsnip --gc: words that are wrong")
+def _(room):
+    room.put("in", CHAIN)
+    room.wrong_use("wsnip", "--keep", "1", "in", "out", "2", says="option '--keep' requires '--gc'")
+    room.wrong_use("wsnip", "--gc", "in", "out", says="no function is given")
+    room.wrong_use("wsnip", "--gc", "--list", "in", says="option '--gc' can't be used with '--list', which writes no module")
+    room.wrong_use("wrewrite", "--gc", "in", "out", says="unknown option '--gc'")
+    room.wrong_use("wgc", "--map", "map", "--list", "in", says="option '--map' can't be used with '--list', which writes no module")
     same(["in"], room.files())
 
 

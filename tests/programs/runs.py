@@ -10,9 +10,7 @@ import subprocess
 from modules import GOOD
 
 TOP = os.path.dirname(os.path.dirname(os.path.dirname(os.path.realpath(__file__))))
-# Those that take the options of `wrewrite`; `wgc` has options of its own.
-LIKE_WREWRITE = ("wrewrite", "wsnip", "wcount", "wmeter")
-PROGRAMS = (*LIKE_WREWRITE, "wgc")
+PROGRAMS = ("wrewrite", "wsnip", "wcount", "wmeter", "wgc")
 # The program that is all of them, and what it is tried on.
 TOGETHER = "wtools"
 DATA = f"{TOP}/crates/{TOGETHER}/data"

@@ -1,6 +1,6 @@
 """Modules that are valid and that aren't, by the standard's rules: with `--validate` the first fault is named, and nothing is written."""
 from modules import BAD_LABEL, GOOD, GOOD_WRITTEN, PREAMBLE, REFUSED, module, number, section, sized, vector
-from runs import LIKE_WREWRITE, case, same
+from runs import PROGRAMS, case, same
 
 # Types: of functions from nothing to nothing, from an i32 to nothing, and from nothing to an i32; a struct that is open, with a subtype.
 OPEN = b"\x50\0\x5f\0"
@@ -97,7 +97,7 @@ def _(room):
 @case("all programs take --validate")
 def _(room):
     room.put("in", module([b"\x6a"]))
-    for program in LIKE_WREWRITE:
+    for program in PROGRAMS:
         more = ["0"] if program == "wsnip" else []
         room.refuses(program, "--validate", "in", "out", *more, says=f"in: 0x17: function 0: {EMPTY}")
     same(["in"], room.files())

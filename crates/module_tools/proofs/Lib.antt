@@ -1,1 +1,2 @@
 pub mod WrittenLemmas
+pub mod NamedSectionLemmas

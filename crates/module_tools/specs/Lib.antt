@@ -11,3 +11,5 @@ pub mod Places
 pub mod Words
 -- what a file is that isn't a module
 pub mod NotAModules
+-- sections with the names of others
+pub mod NamedSections

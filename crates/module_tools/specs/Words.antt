@@ -22,12 +22,15 @@ pub record WritesNothing (task : Task) : Type 0 where
   pub sections : task.sections.items ≡ []
 
 -- Functions are asked for of a program that takes them, and of no other, nor where they are listed; where they are listed no module is
--- written; and where no module is written, nothing is.
+-- written; and where no module is written, nothing is. Functions are kept only where what nothing reaches is left out, as a program
+-- does that always does.
 pub record IsTaskOf (program : Program) (task : Task) : Type 0 where
   pub functions : task.lists ≡ false → nat_lt 0 (length task.functions.items) ≡ program.takes_functions
   pub listed : task.lists ≡ true → task.functions.items ≡ []
   pub alone : task.lists ≡ true → task.output ≡ None
   pub output : task.output ≡ None → WritesNothing task
+  pub collects : program.collects ≡ true → task.collects ≡ true
+  pub kept : task.collects ≡ false → task.kept.items ≡ []
 
 abbrev pub IsRequestOf : Program → Request → Type 0
 IsRequestOf program request.Help = Unit {0}

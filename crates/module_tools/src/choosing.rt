@@ -24,6 +24,19 @@ const PANICKING: [&str; 5] = [
 /// Texts of which one is in the demangled name of each function of Rust that formats text.
 const FORMATTING: [&str; 3] = ["core::fmt::", "alloc::fmt::", "std::fmt::"];
 
+/// Checks that standard input isn't read again for one of these. `is_read`: whether it is read, and then whether it is read up to here.
+fn check_names(all: &[Asked<'_>], is_read: &mut bool) -> Result<(), UsageError<'static>> {
+    for asked in all {
+        if matches!(asked, Asked::NamesFrom("-")) {
+            if *is_read {
+                return Err(UsageError::SameFile("-", "-"));
+            }
+            *is_read = true;
+        }
+    }
+    Ok(())
+}
+
 /// Checks that standard input is read once: not as two of the module, a source map, a table of costs
 /// and a file of names.
 ///
@@ -45,15 +58,8 @@ pub(crate) fn check_input<'w>(task: &Task<'w>) -> Result<(), UsageError<'w>> {
         }
         is_read = true;
     }
-    for asked in &task.functions {
-        if matches!(asked, Asked::NamesFrom("-")) {
-            if is_read {
-                return Err(UsageError::SameFile("-", "-"));
-            }
-            is_read = true;
-        }
-    }
-    Ok(())
+    check_names(&task.functions, &mut is_read)?;
+    check_names(&task.kept, &mut is_read)
 }
 
 /// The function with a body that a word names: by its index, or by its name.

@@ -1,277 +1,419 @@
-//! Running `wgc`, which leaves out what nothing reaches.
+//! Running a program that leaves out what nothing reaches.
 
-ghost use Rattle.std.specs.Prelude.{◌≤◌};
+ghost use Rattle.std.specs.Prelude.{◌≡◌, ◌≤◌, ◌++◌, [], ℕ, List, IfOk, OnOk, MatchOption};
 ghost use Rattle.std.specs.Process.{exit_status};
+ghost use Rattle.wasm_sections.specs.Sections.{section as whole_section};
+ghost use Rattle.wasm_module.specs.WrittenModules.{url_contents};
+ghost use Rattle.module_debug.specs.Sections.{AreDebugSections as AreSections};
 
 use crate::checking::refused;
 use crate::choosing::functions_of;
-use crate::ending::{Attempt, ProgramFailure, exit_code, page_code, words};
-use crate::files::{Target, read_file};
+use crate::ending::{ProgramFailure, exit_code, words};
+use crate::files::read_file;
+use crate::left_bodies::LeftModule;
+use crate::left_debug::{debug_bytes, left_debug};
+use crate::left_sections::{CodeChange, chosen, notes_of, push_carried};
+use crate::left_writing::write_left;
 use crate::listing::list_removed;
 use crate::locks::LockFiles;
-use crate::program::{Asked, Program};
+use crate::omitting::following_debug;
+use crate::origins::Origins;
+use crate::program::{Program, Request, Task, read_arguments};
 use crate::removing::{module_of_left, reached};
-use crate::usage_error::UsageError;
-use crate::version::{BUILD, VERSION};
-use std::alloc::Global;
-use std::io::Write;
+use crate::reporting::{Done, Outcome, print_done, status_of_done};
+use crate::running::{Terminals, Tool, check_task, given_source_map, run};
+use crate::snipped_modules::snipped;
+use crate::validating::check_validity;
+use crate::warnings::{DebugOutcome, Notes, warn_of};
+use module_debug::{DebugFailure, DebugSection};
+use module_removal::Remainder;
+use std::alloc::{AllocError, Global};
+use std::io;
 use std::process::ExitCode;
-use std::rt::Env;
-use wasm_module::ParsedModule;
+use std::rt::{Clock, Env};
+use std::time::Instant;
+use wasm_module::{ModuleError, Note, ParsedModule, WriteError, write_source_map_url};
 
-/// What the words ask for. A path is `-` for standard input or output.
+/// How the module that is read was made of another one, if it was.
+#[derive(Clone, Copy)]
+struct Made<'m> {
+    /// Where its operators come from.
+    origins: Option<&'m Origins>,
+    /// Why its debug information doesn't follow that of the other one, if it doesn't.
+    failure: Option<DebugFailure>,
+    /// How its code differs from that of the other one.
+    code: CodeChange,
+}
+
+/// What comes after the code of a module that is left.
 #[derive(Drop)]
-struct Collection<'w> {
-    /// The paths: of the module that is read, and where it is written.
-    files: Vec<&'w str>,
-    /// The functions that are kept with all that they reach.
-    kept: Vec<Asked<'w>>,
-    /// Whether the functions that go are listed, and no module is written.
-    lists: bool,
-    /// Whether a file that is write-protected is replaced.
-    is_forced: bool,
-    /// The option whose value is the next word.
-    awaits: Option<&'static str>,
-    /// Whether `--` came, after which no word is an option.
-    has_ended: bool,
+struct Followers<'a> {
+    /// The sections with debug information that follow the code.
+    debug: Vec<DebugSection<'a>>,
+    /// Why they don't, if they don't.
+    failure: Option<DebugFailure>,
+    code: CodeChange,
+    notes: Vec<Note<'a>>,
 }
 
-/// What the words request.
-#[derive(Drop)]
-enum Requested<'w> {
-    Help,
-    Version,
-    Task(Collection<'w>),
-}
-
-/// Adds to a list.
-fn add<'w, T: Drop>(list: &mut Vec<T>, item: T) -> Result<(), ProgramFailure<'w>> {
-    match list.push(item) {
-        Ok(()) => Ok(()),
-        Err(_) => Err(ProgramFailure::Memory),
+/// The error of a module that is written to memory.
+fn in_memory(error: WriteError) -> ModuleError {
+    match error {
+        WriteError::Module(error) => error,
+        // A list in memory can't fail otherwise.
+        WriteError::Io(_) => ModuleError::from(AllocError),
     }
 }
 
-/// The wrong use of a program.
-fn wrong<'w, T>(error: UsageError<'w>) -> Result<T, ProgramFailure<'w>> {
-    Err(ProgramFailure::UsageError(error))
-}
-
-impl<'w> Collection<'w> {
-    fn new(alloc: Global) -> Collection<'w> {
-        Collection {
-            files: Vec::new(alloc),
-            kept: Vec::new(alloc),
-            lists: false,
-            is_forced: false,
-            awaits: None,
-            has_ended: false,
-        }
-    }
-
-    /// Gives an option its value.
-    fn set(&mut self, option: &str, value: &'w str) -> Result<(), ProgramFailure<'w>> {
-        match option {
-            "--keep" => add(&mut self.kept, Asked::Function(value)),
-            "--pattern" => add(&mut self.kept, Asked::Pattern(value)),
-            _ => add(&mut self.kept, Asked::NamesFrom(value)),
-        }
-    }
-
-    /// Takes an option.
-    fn take_option(&mut self, word: &'w str) -> Result<(), ProgramFailure<'w>> {
-        match word {
-            "--" => self.has_ended = true,
-            "--list" => self.lists = true,
-            "--force" => self.is_forced = true,
-            "--keep" => self.awaits = Some("--keep"),
-            "--pattern" => self.awaits = Some("--pattern"),
-            "--names-from" => self.awaits = Some("--names-from"),
-            word => return self.take_with_value(word),
-        }
-        Ok(())
-    }
-
-    /// Takes an option that is one word with its value.
-    fn take_with_value(&mut self, word: &'w str) -> Result<(), ProgramFailure<'w>> {
-        let Some((option, value)) = word.split_once('=') else {
-            return wrong(UsageError::UnknownOption(word));
-        };
-        match option {
-            "--keep" | "--pattern" | "--names-from" => self.set(option, value),
-            option => wrong(UsageError::UnknownOption(option)),
-        }
-    }
-
-    /// Takes a word.
-    fn take(&mut self, word: &'w str) -> Result<(), ProgramFailure<'w>> {
-        if let Some(option) = self.awaits {
-            self.awaits = None;
-            return self.set(option, word);
-        }
-        if self.has_ended || word == "-" || !word.starts_with('-') {
-            return add(&mut self.files, word);
-        }
-        self.take_option(word)
-    }
-
-    /// What is wrong with all words together, if something is.
-    fn fault(&self) -> Option<UsageError<'w>> {
-        if let Some(option) = self.awaits {
-            return Some(UsageError::NoValue(option));
-        }
-        let most = if self.lists { 1 } else { 2 };
-        match self.files.get(most) {
-            Some(word) => return Some(UsageError::Unexpected(*word)),
-            None => {}
-        }
-        if self.files.is_empty() {
-            return Some(UsageError::NoInput);
-        }
-        match self.files.iter().any(|file| file.is_empty()) {
-            true => Some(UsageError::EmptyPath),
-            false => None,
-        }
-    }
-
-    /// The module that is read.
-    fn input(&self) -> &'w str {
-        match self.files.first() {
-            Some(path) => *path,
-            None => "-",
-        }
-    }
-
-    /// Where the module is written.
-    fn output(&self) -> &'w str {
-        match self.files.get(1) {
-            Some(path) => *path,
-            None => "-",
-        }
-    }
-}
-
-/// What these words request, without the program's own name.
-fn requested_of<'w>(
+/// The sections with debug information, to be written after the module that was made, of which this is left; and why they can't follow the
+/// code, if they can't.
+fn debug_of(
     alloc: Global,
-    words: &'w [String],
-) -> Result<Requested<'w>, ProgramFailure<'w>> {
-    let mut taken = Collection::new(alloc);
-    for word in words {
-        let word = word.as_str();
-        if taken.awaits.is_none() && !taken.has_ended {
-            match word {
-                "-h" | "--help" => return Ok(Requested::Help),
-                "-V" | "--version" => return Ok(Requested::Version),
-                _ => {}
-            }
+    parsed: &mut ParsedModule<'_>,
+    remainder: &Remainder,
+    code: CodeChange,
+    debug: &[DebugSection<'_>],
+    made: &[u8],
+) -> Result<(Vec<u8>, Option<DebugFailure>), WriteError>
+    ensures { IfOk result (λ written. AreSections debug.now written.0.items) }
+{
+    if code.changes {
+        return left_debug(alloc, parsed, remainder, made, debug);
+    }
+    match debug_bytes(alloc, debug, None) {
+        Ok(bytes) => Ok((bytes, None)),
+        Err(error) => Err(error),
+    }
+}
+
+/// Adds the sections with debug information to the module that was made, of which this is left. Returns why they can't follow the code, if
+/// they can't.
+fn push_debug(
+    alloc: Global,
+    parsed: &mut ParsedModule<'_>,
+    remainder: &Remainder,
+    code: CodeChange,
+    debug: &[DebugSection<'_>],
+    made: &mut Vec<u8>,
+) -> Result<Option<DebugFailure>, WriteError>
+    ensures { OnOk result ((sections : List ℕ) × AreSections debug.now sections
+        × (made.new.items ≡ made.old.items ++ sections)) }
+{
+    if debug.is_empty() {
+        return Ok(None);
+    }
+    let (sections, failure) = match debug_of(alloc, parsed, remainder, code, debug, made) {
+        Ok(moved) => moved,
+        Err(error) => return Err(error),
+    };
+    match made.extend_from_slice(&sections) {
+        Ok(()) => Ok(failure),
+        Err(error) => Err(WriteError::from(ModuleError::from(error))),
+    }
+}
+
+/// Adds the section that says where the source map is, if that is given.
+fn push_url(alloc: Global, url: Option<&str>, made: &mut Vec<u8>) -> Result<(), WriteError>
+    ensures { OnOk result ((section : List ℕ)
+        × MatchOption url.entry (section ≡ []) (λ u. section ≡ whole_section 0 (url_contents u.now))
+        × (made.new.items ≡ made.old.items ++ section)) }
+{
+    match url {
+        Some(url) => write_source_map_url(alloc, url, made),
+        None => Ok(()),
+    }
+}
+
+/// Adds the sections after the others: with debug information, and of where the source map is.
+fn push_followers<'a>(
+    alloc: Global,
+    task: &Task<'_>,
+    parsed: &mut ParsedModule<'a>,
+    remainder: &Remainder,
+    failure: Option<DebugFailure>,
+    made: &mut Vec<u8>,
+) -> Result<Followers<'a>, WriteError>
+    // What is carried over, debug information that follows the code, and the section that was asked for.
+    ensures { IfOk result (λ followers. (carried debug section : List ℕ)
+        × AreSections followers.debug.items debug
+        × MatchOption task.now.source_map_url (section ≡ [])
+        (λ u. section ≡ whole_section 0 (url_contents u.now))
+        × (made.new.items ≡ ((made.old.items ++ carried) ++ debug) ++ section)) }
+{
+    let code = CodeChange::between(parsed.bytes(), made)?;
+    let notes = notes_of(alloc, parsed)?;
+    let mut debug = following_debug(alloc, task, parsed)?;
+    if failure.is_some() {
+        debug.clear();
+    }
+    push_carried(task, parsed, &debug, made)?;
+    let own = match push_debug(alloc, parsed, remainder, code, &debug, made) {
+        Ok(own) => own,
+        Err(error) => return Err(error),
+    };
+    match push_url(alloc, task.source_map_url, made) {
+        Ok(()) => Ok(Followers {
+            debug,
+            failure: failure.or(own),
+            code,
+            notes,
+        }),
+        Err(error) => Err(error),
+    }
+}
+
+/// The module of which this is left, without what the task leaves out.
+fn made_of_left(
+    alloc: Global,
+    task: &Task<'_>,
+    parsed: &mut ParsedModule<'_>,
+    remainder: &Remainder,
+) -> Result<Vec<u8>, ModuleError> {
+    match module_of_left(alloc, parsed, remainder) {
+        Ok(made) => chosen(alloc, task, made),
+        Err(error) => Err(error),
+    }
+}
+
+/// A run over a module that was read.
+#[derive(Clone, Copy)]
+struct Collecting<'w, 'm, R> {
+    rt: &'w R,
+    /// The program's name.
+    program: &'m str,
+    task: &'m Task<'w>,
+    made: Made<'m>,
+}
+
+impl<'w, 'm, R> Collecting<'w, 'm, R>
+where
+    R: LockFiles + Input + Clock + Print + Eprint + AllocGlobal + Drop,
+{
+    /// Why the module is refused.
+    fn refused(&self, parsed: &ParsedModule<'_>, error: &ModuleError) -> ProgramFailure<'w> {
+        refused(self.rt.alloc(), parsed, self.task.input, error)
+    }
+
+    /// Writes a module that was made, of which this is left, and what follows it.
+    fn write_made(
+        &self,
+        parsed: &mut ParsedModule<'_>,
+        remainder: &Remainder,
+        made: &mut Vec<u8>,
+        output: &'w str,
+    ) -> Result<u64, ProgramFailure<'w>> {
+        let (rt, task) = (self.rt, self.task);
+        let source = match given_source_map(rt, task) {
+            Ok(map) => map,
+            Err(failure) => return Err(failure),
+        };
+        let failure = self.made.failure;
+        let followers = match push_followers(rt.alloc(), task, parsed, remainder, failure, made) {
+            Ok(followers) => followers,
+            Err(error) => return Err(self.refused(parsed, &in_memory(error))),
+        };
+        let module = LeftModule {
+            remainder,
+            made,
+            origins: self.made.origins,
+        };
+        let written = match write_left(rt, task, parsed, module, &source, output) {
+            Ok(written) => written,
+            Err(failure) => return Err(failure),
+        };
+        let all = Notes {
+            notes: followers.notes.as_slice(),
+            code: followers.code.after(self.made.code),
+        };
+        let outcome = DebugOutcome {
+            sections: followers.debug.as_slice(),
+            failure: followers.failure,
+        };
+        warn_of(rt, self.program, all, task, outcome);
+        Ok(written)
+    }
+
+    /// Writes the module of which this is left, and returns how many bytes it has; or lists the functions that aren't, where no module is
+    /// written.
+    fn write_or_list(
+        &self,
+        parsed: &mut ParsedModule<'_>,
+        remainder: &Remainder,
+    ) -> Result<Option<u64>, ProgramFailure<'w>> {
+        let Some(output) = self.task.output else {
+            return match list_removed(self.rt, parsed, &remainder.left) {
+                Ok(()) => Ok(None),
+                Err(failure) => Err(failure),
+            };
+        };
+        let mut made = match made_of_left(self.rt.alloc(), self.task, parsed, remainder) {
+            Ok(made) => made,
+            Err(error) => return Err(self.refused(parsed, &error)),
+        };
+        match self.write_made(parsed, remainder, &mut made, output) {
+            Ok(written) => Ok(Some(written)),
+            Err(failure) => Err(failure),
         }
-        match taken.take(word) {
+    }
+
+    /// Does what is asked for with a module that was read. Returns how many bytes were written, if a module was.
+    fn collect(&self, parsed: &mut ParsedModule<'_>) -> Result<Option<u64>, ProgramFailure<'w>> {
+        let functions = match functions_of(self.rt, parsed, &self.task.kept) {
+            Ok(functions) => functions,
+            Err(failure) => return Err(failure),
+        };
+        match reached(self.rt.alloc(), parsed, &functions) {
+            Ok(remainder) => self.write_or_list(parsed, &remainder),
+            Err(error) => Err(self.refused(parsed, &error)),
+        }
+    }
+
+    /// The same after the bodies of the functions are taken away that are asked for.
+    fn snip_and_collect(
+        &self,
+        parsed: &mut ParsedModule<'_>,
+    ) -> Result<Option<u64>, ProgramFailure<'w>> {
+        let (rt, task) = (self.rt, self.task);
+        let functions = match functions_of(rt, parsed, &task.functions) {
+            Ok(functions) => functions,
+            Err(failure) => return Err(failure),
+        };
+        let snipped = match snipped(rt.alloc(), task, parsed, functions) {
+            Ok(snipped) => snipped,
+            Err(error) => return Err(self.refused(parsed, &error)),
+        };
+        let made = Made {
+            origins: Some(&snipped.origins),
+            failure: snipped.failure,
+            code: snipped.code,
+        };
+        match ParsedModule::read_in_box(rt.alloc(), &snipped.bytes) {
+            Ok(mut parsed) => Collecting { made, ..*self }.collect(&mut parsed),
+            Err(error) => Err(self.refused(parsed, &error)),
+        }
+    }
+
+    /// Does what is asked for with a module of these bytes.
+    fn run_over(&self, bytes: &[u8]) -> Result<Done, ProgramFailure<'w>> {
+        let (rt, task) = (self.rt, self.task);
+        let mut parsed = match ParsedModule::read_in_box(rt.alloc(), bytes) {
+            Ok(parsed) => parsed,
+            Err(error) => return Err(ProgramFailure::not_read(
+                rt.alloc(),
+                task.input,
+                bytes,
+                &error,
+            )),
+        };
+        match check_validity(rt.alloc(), task, bytes, &parsed) {
             Ok(()) => {}
             Err(failure) => return Err(failure),
         }
-    }
-    match taken.fault() {
-        Some(error) => wrong(error),
-        None => Ok(Requested::Task(taken)),
+        let functions = parsed.body_count();
+        let written = match task.functions.is_empty() {
+            true => self.collect(&mut parsed),
+            false => self.snip_and_collect(&mut parsed),
+        };
+        match written {
+            Ok(written) => Ok(Done {
+                functions,
+                read: bytes.len() as u64,
+                outcome: Outcome {
+                    refused: 0,
+                    written,
+                },
+            }),
+            Err(failure) => Err(failure),
+        }
     }
 }
 
-/// Writes a module to a file.
-fn write_file<'w, R: LockFiles + Print + AllocGlobal + Drop>(
+/// Does what is asked for.
+fn collect_task<'w, 'm, R: LockFiles + Input + Clock + Print + Eprint + AllocGlobal + Drop>(
     rt: &'w R,
-    task: &Collection<'w>,
-    made: &[u8],
-) -> Result<(), ProgramFailure<'w>> {
-    let path = task.output();
-    let mut target = match Target::create(rt, path, task.is_forced) {
-        Ok(target) => target,
+    program: &'m str,
+    task: &'m Task<'w>,
+    terminals: Terminals,
+) -> Result<Done, ProgramFailure<'w>> {
+    match check_task(rt, task, terminals) {
+        Ok(()) => {}
         Err(failure) => return Err(failure),
-    };
-    let written = match target.write_all(made) {
-        Ok(()) => Ok(()),
-        Err(error) => Err(ProgramFailure::file(path, Attempt::Write, error)),
-    };
-    target.end(written)
-}
-
-/// Does what is asked for with a module that was read.
-fn collect<'w, R: LockFiles + Input + Print + AllocGlobal + Drop>(
-    rt: &'w R,
-    task: &Collection<'w>,
-    parsed: &mut ParsedModule<'_>,
-) -> Result<(), ProgramFailure<'w>> {
-    let alloc = rt.alloc();
-    let functions = match functions_of(rt, parsed, &task.kept) {
-        Ok(functions) => functions,
-        Err(failure) => return Err(failure),
-    };
-    let remainder = match reached(alloc, parsed, &functions) {
-        Ok(remainder) => remainder,
-        Err(error) => return Err(refused(alloc, parsed, task.input(), &error)),
-    };
-    if task.lists {
-        return list_removed(rt, parsed, &remainder.left);
     }
-    match module_of_left(alloc, parsed, &remainder) {
-        Ok(made) => write_file(rt, task, &made),
-        Err(error) => Err(refused(alloc, parsed, task.input(), &error)),
+    let made = Made {
+        origins: None,
+        failure: None,
+        code: CodeChange::NONE,
+    };
+    let collecting = Collecting {
+        rt,
+        program,
+        task,
+        made,
+    };
+    match read_file(rt, task.input) {
+        Ok(bytes) => collecting.run_over(&bytes),
+        Err(failure) => Err(failure),
     }
 }
 
-/// Does what is asked for with the module in a file.
-fn collect_file<'w, R: LockFiles + Input + Print + AllocGlobal + Drop>(
-    rt: &'w R,
-    task: &Collection<'w>,
-) -> Result<(), ProgramFailure<'w>> {
-    let path = task.input();
-    let bytes = match read_file(rt, path) {
-        Ok(bytes) => bytes,
-        Err(failure) => return Err(failure),
-    };
-    match ParsedModule::read_in_box(rt.alloc(), &bytes) {
-        Ok(mut parsed) => collect(rt, task, &mut parsed),
-        Err(error) => Err(ProgramFailure::not_read(rt.alloc(), path, &bytes, &error)),
-    }
-}
-
-/// Does what the words ask for.
-fn run_words<R: LockFiles + Input + Print + Eprint + AllocGlobal + Drop>(
+/// Does what is asked for, and returns its status.
+fn collect_timed<R: LockFiles + Input + Clock + Print + Eprint + AllocGlobal + Drop>(
     rt: &R,
-    program: &Program,
-    words: &[String],
-) -> ExitCode
-    ensures { exit_status result ≤ 2 }
+    program: &str,
+    task: &Task<'_>,
+    terminals: Terminals,
+) -> io::Result<ExitCode>
+    ensures { IfOk result (λ code. exit_status code ≤ 2) }
 {
-    let name = program.name;
-    match requested_of(rt.alloc(), words) {
-        Ok(Requested::Help) => {
-            let printed = println!(rt; "{}\n\n{}", program.about, program.ending);
-            page_code(rt, name, printed)
-        }
-        Ok(Requested::Version) => {
-            let printed = println!(rt; "{name} {VERSION} ({BUILD})");
-            page_code(rt, name, printed)
-        }
-        Ok(Requested::Task(task)) => match collect_file(rt, &task) {
-            Ok(()) => ExitCode::SUCCESS,
-            Err(failure) => exit_code(rt, name, failure),
-        },
-        Err(failure) => exit_code(rt, name, failure),
+    let start = Instant::now(rt)?;
+    let done = match collect_task(rt, program, task, terminals) {
+        Ok(done) => done,
+        Err(failure) => return Ok(exit_code(rt, program, failure)),
+    };
+    if task.is_verbose {
+        print_done(rt, program, done, start)?;
+    }
+    Ok(status_of_done(done))
+}
+
+/// What the words ask for, if what nothing reaches is left out.
+fn collection_of<'w>(
+    alloc: Global,
+    program: &Program,
+    words: &'w [String],
+) -> Result<Option<Task<'w>>, ProgramFailure<'w>> {
+    match read_arguments(alloc, program, words) {
+        Ok(Request::Task(task)) if task.collects => Ok(Some(task)),
+        // What they ask for isn't known.
+        Err(ProgramFailure::Memory) => Err(ProgramFailure::Memory),
+        _ => Ok(None),
     }
 }
 
-/// Runs `wgc` over the arguments from this place on, and returns its status: 0 where the module is written or its functions
-/// are listed; 1 where it is refused, or a file can't be read or written; 2 for wrong use.
-pub fn run_collecting<R: LockFiles + Input + Env + Print + Eprint + AllocGlobal + Drop>(
+/// Runs a program that can leave out what nothing reaches, over the arguments from this place on, and returns its status: 0 where the module
+/// is written or its functions are listed; 1 where it is refused, or a file can't be read or written; 2 for wrong use.
+///
+/// # Errors
+///
+/// Those of `run`, which does all that isn't that.
+pub fn run_collecting<R, T: Tool>(
     rt: &R,
+    tool: &T,
     program: &Program,
     first: usize,
-) -> ExitCode
-    ensures { exit_status result ≤ 2 }
+    terminals: Terminals,
+) -> io::Result<ExitCode>
+where
+    R: LockFiles + Input + Env + Clock + Print + Eprint + AllocGlobal + Drop,
+    ensures { IfOk result (λ code. exit_status code ≤ 2) }
 {
-    match words(rt, first) {
-        Ok(words) => run_words(rt, program, &words),
-        Err(failure) => exit_code(rt, program.name, failure),
+    let words = match words(rt, first) {
+        Ok(words) => words,
+        Err(failure) => return Ok(exit_code(rt, program.name, failure)),
+    };
+    match collection_of(rt.alloc(), program, &words) {
+        Ok(Some(task)) => collect_timed(rt, program.name, &task, terminals),
+        Ok(None) => run(rt, tool, program, first, terminals),
+        Err(failure) => Ok(exit_code(rt, program.name, failure)),
     }
 }

@@ -28,6 +28,7 @@ pub(crate) enum Switch {
     Force,
     Quiet,
     Verbose,
+    Collect,
 }
 
 /// An option that takes a value.
@@ -36,6 +37,9 @@ pub(crate) enum Valued {
     Output,
     Pattern,
     NamesFrom,
+    Keep,
+    KeepPattern,
+    KeepNamesFrom,
     Export,
     Costs,
     /// The module of an import, before its name.
@@ -66,6 +70,8 @@ enum Takers {
     Checking,
     /// Those that are given functions.
     Choosing,
+    /// Those that always leave out what nothing reaches.
+    Collecting,
     /// Those that export something.
     Exporting,
     /// Those that charge code.
@@ -78,6 +84,7 @@ impl Takers {
             Takers::All => true,
             Takers::Checking => program.takes_check,
             Takers::Choosing => program.takes_functions,
+            Takers::Collecting => program.collects,
             Takers::Exporting => program.takes_export,
             Takers::Charging => program.takes_costs,
         }
@@ -96,7 +103,7 @@ struct Row {
 }
 
 /// How many options there are.
-const COUNT: usize = 29;
+const COUNT: usize = 35;
 
 /// The options, in the order of the page of help.
 const ROWS: [Row; COUNT] = [
@@ -170,6 +177,59 @@ const ROWS: [Row; COUNT] = [
         help: "
       --list           write no module, and print the index, the size and the
                        name of each function",
+    },
+    Row {
+        letter: None,
+        name: "--gc",
+        choice: Choice::Switch(Switch::Collect),
+        takers: Takers::Choosing,
+        help: "
+      --gc             leave out what nothing reaches any more, as `wgc` does",
+    },
+    Row {
+        letter: None,
+        name: "--keep",
+        choice: Choice::Valued(Valued::Keep),
+        takers: Takers::Choosing,
+        help: "
+      --keep FUNCTION  with --gc, keep a function, by its index or name, and all
+                       that it reaches; may be repeated",
+    },
+    Row {
+        letter: None,
+        name: "--keep",
+        choice: Choice::Valued(Valued::Keep),
+        takers: Takers::Collecting,
+        help: "
+      --keep FUNCTION  keep a function, by its index or name, and all that it
+                       reaches; may be repeated",
+    },
+    Row {
+        letter: None,
+        name: "--pattern",
+        choice: Choice::Valued(Valued::KeepPattern),
+        takers: Takers::Collecting,
+        help: "
+      --pattern REGEX  keep each function whose name contains a match, also where
+                       the name is that of Rust, demangled; may be repeated",
+    },
+    Row {
+        letter: None,
+        name: "--names-from",
+        choice: Choice::Valued(Valued::KeepNamesFrom),
+        takers: Takers::Collecting,
+        help: "
+      --names-from FILE
+                       keep the functions that FILE names, one in each line",
+    },
+    Row {
+        letter: None,
+        name: "--list",
+        choice: Choice::Switch(Switch::List),
+        takers: Takers::Collecting,
+        help: "
+      --list           write no module, and print the index, the size and the
+                       name of each function that would be left out",
     },
     Row {
         letter: None,
@@ -385,8 +445,9 @@ impl Valued {
     pub fn name(self) -> &'static str {
         match self {
             Valued::Output => "--output",
-            Valued::Pattern => "--pattern",
-            Valued::NamesFrom => "--names-from",
+            Valued::Pattern | Valued::KeepPattern => "--pattern",
+            Valued::NamesFrom | Valued::KeepNamesFrom => "--names-from",
+            Valued::Keep => "--keep",
             Valued::Export => "--export",
             Valued::Costs => "--costs",
             Valued::Import | Valued::ImportName => "--import",
@@ -406,6 +467,7 @@ impl Valued {
             self,
             Valued::Output
                 | Valued::NamesFrom
+                | Valued::KeepNamesFrom
                 | Valued::Costs
                 | Valued::Map
                 | Valued::SourceMap

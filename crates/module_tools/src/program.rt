@@ -23,6 +23,8 @@ pub struct Program {
     pub takes_check: bool,
     /// Whether it takes functions, after its files and by options; it then takes `--list` too.
     pub takes_functions: bool,
+    /// Whether it leaves out what nothing reaches, without being asked to.
+    pub collects: bool,
     /// Whether it takes the name of what it exports.
     pub takes_export: bool,
     /// Whether it charges code, and takes what that costs and what it is charged by.
@@ -132,6 +134,10 @@ pub struct Task<'w> {
     pub source_map_url: Option<&'w str>,
     /// The functions that are asked for.
     pub functions: Vec<Asked<'w>>,
+    /// Whether what nothing reaches is left out.
+    pub collects: bool,
+    /// The functions that are kept then, with all that they reach.
+    pub kept: Vec<Asked<'w>>,
     /// The name of what is exported; none where the program chooses it.
     pub export: Option<&'w str>,
     /// What code costs and is charged by; none of a program that charges none.
@@ -210,6 +216,8 @@ struct Options<'w> {
     reads_alone: bool,
     /// Whether they are listed then.
     lists: bool,
+    /// Whether what nothing reaches is left out.
+    collects: bool,
     output: Option<&'w str>,
     map: Option<&'w str>,
     source_map: Option<&'w str>,
@@ -235,6 +243,7 @@ impl<'w> Options<'w> {
             has_limits: false,
             reads_alone: false,
             lists: false,
+            collects: false,
             output: None,
             map: None,
             source_map: None,
@@ -269,6 +278,7 @@ impl<'w> Options<'w> {
             _ if self.source_map_url.is_some() => Some("--source-map-url"),
             _ if self.export.is_some() => Some("--export"),
             _ if self.is_forced => Some("--force"),
+            _ if self.collects => Some("--gc"),
             _ => None,
         }
     }
@@ -325,6 +335,8 @@ struct Words<'w> {
     /// The words that are no options, nor their values.
     operands: Vec<&'w str>,
     functions: Vec<Asked<'w>>,
+    /// The functions that are kept where others are left out.
+    kept: Vec<Asked<'w>>,
     sections: Vec<SectionChoice<'w>>,
 }
 
@@ -335,6 +347,7 @@ impl<'w> Words<'w> {
             has_ended: false,
             operands: Vec::new(alloc),
             functions: Vec::new(alloc),
+            kept: Vec::new(alloc),
             sections: Vec::new(alloc),
         }
     }
@@ -357,6 +370,7 @@ impl<'w> Words<'w> {
             Switch::Force => self.options.is_forced = true,
             Switch::Quiet => self.options.is_quiet = true,
             Switch::Verbose => self.options.is_verbose = true,
+            Switch::Collect => self.options.collects = true,
             Switch::RustPanickingCode => {
                 return add(&mut self.functions, Asked::RustPanickingCode);
             }
@@ -398,6 +412,9 @@ impl<'w> Words<'w> {
             Valued::SourceMapUrl => set_value(&mut self.options.source_map_url, value, name),
             Valued::Pattern => add(&mut self.functions, Asked::Pattern(value)),
             Valued::NamesFrom => add(&mut self.functions, Asked::NamesFrom(value)),
+            Valued::Keep => add(&mut self.kept, Asked::Function(value)),
+            Valued::KeepPattern => add(&mut self.kept, Asked::Pattern(value)),
+            Valued::KeepNamesFrom => add(&mut self.kept, Asked::NamesFrom(value)),
             Valued::KeepSection => add(&mut self.sections, SectionChoice::Keep(value)),
             Valued::RemoveSection => add(&mut self.sections, SectionChoice::LeaveOut(value)),
         }
@@ -553,6 +570,13 @@ impl<'w> Words<'w> {
         }
     }
 
+    /// Whether what nothing reaches is left out.
+    fn collects(&self, program: &Program) -> bool
+        ensures { program.now.collects ≡ true → result ≡ true }
+    {
+        program.collects || self.options.collects
+    }
+
     /// Whether the functions are listed, and no module is written.
     fn lists(&self) -> bool
         ensures { IsTrue result → self.now.options.reads_alone ≡ true }
@@ -593,6 +617,16 @@ impl<'w> Words<'w> {
         }
     }
 
+    /// What is wrong with the functions that are kept, if something is, where what nothing reaches is left out or isn't.
+    fn kept_fault(&self, collects: bool) -> Option<UsageError<'w>>
+        ensures { IsNone result → collects ≡ false → self.now.kept.items ≡ [] }
+    {
+        match (self.kept.first(), collects) {
+            (Some(_), false) => Some(UsageError::Requires("--keep", "--gc")),
+            (None, _) | (Some(_), true) => None,
+        }
+    }
+
     /// What is wrong with the files, if something is.
     fn files_fault(&self) -> Option<UsageError<'w>> {
         let mut files = self.operands.iter().take(self.file_count());
@@ -623,8 +657,10 @@ impl<'w> Words<'w> {
         }
     }
 
-    /// What is wrong with all words together, if something is, where functions are listed or aren't.
-    fn fault(&self, program: &Program, lists: bool) -> Option<UsageError<'w>>
+    /// What is wrong with all words together, if something is, where functions are listed or aren't, and where what nothing reaches is
+    /// left out or isn't.
+    fn fault(&self, program: &Program, lists: bool, collects: bool) -> Option<UsageError<'w>>
+        ensures kept { IsNone result → collects ≡ false → self.now.kept.items ≡ [] }
         ensures asked { IsNone result → lists ≡ false
             → nat_lt 0 (length self.now.functions.items) ≡ program.now.takes_functions }
         ensures listed { IsNone result → lists ≡ true → self.now.functions.items ≡ [] }
@@ -639,12 +675,23 @@ impl<'w> Words<'w> {
         if let Some(fault) = self.files_fault() {
             return Some(fault);
         }
+        if let Some(fault) = self.kept_fault(collects) {
+            return Some(fault);
+        }
         self.functions_fault(program, lists)
     }
 
     /// What the words ask for of this module, after it is known that they are right.
-    fn into_task(self, input: &'w str, lists: bool, charging: Option<Charging<'w>>) -> Task<'w>
+    fn into_task(
+        self,
+        input: &'w str,
+        lists: bool,
+        collects: bool,
+        charging: Option<Charging<'w>>,
+    ) -> Task<'w>
         ensures functions { result.functions ≡ self.entry.functions }
+        ensures kept { result.kept ≡ self.entry.kept }
+        ensures collects { result.collects ≡ collects }
         ensures sections { result.sections ≡ self.entry.sections }
         ensures lists { result.lists ≡ lists }
         ensures none { IsNone result.output → self.entry.options.reads_alone ≡ true }
@@ -673,6 +720,8 @@ impl<'w> Words<'w> {
             source_map,
             source_map_url,
             functions: self.functions,
+            collects,
+            kept: self.kept,
             export,
             charging,
             sections: self.sections,
@@ -698,10 +747,11 @@ impl<'w> Words<'w> {
             Err(failure) => return Err(failure),
         }
         let lists = self.lists();
+        let collects = self.collects(program);
         let charging = self.options.charging(program);
-        match self.fault(program, lists) {
+        match self.fault(program, lists, collects) {
             Some(fault) => Err(ProgramFailure::UsageError(fault)),
-            None => Ok(self.into_task(input, lists, charging)),
+            None => Ok(self.into_task(input, lists, collects, charging)),
         }
     }
 }

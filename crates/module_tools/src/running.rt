@@ -203,7 +203,7 @@ fn changed<'a, R: Eprint + Clock, C: ChangeFunction + Drop>(
 }
 
 /// The source map that is read, if one is.
-fn given_source_map<'w, R: LockFiles + Input + AllocGlobal>(
+pub(crate) fn given_source_map<'w, R: LockFiles + Input + AllocGlobal>(
     rt: &R,
     task: &Task<'w>,
 ) -> Result<Option<SourceMap>, ProgramFailure<'w>> {
@@ -476,7 +476,7 @@ where
 }
 
 /// Checks the files of a task before any is opened.
-fn check_task<'w, R: LockFiles + AllocGlobal>(
+pub(crate) fn check_task<'w, R: LockFiles + AllocGlobal>(
     rt: &R,
     task: &Task<'w>,
     terminals: Terminals,

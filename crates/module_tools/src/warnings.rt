@@ -1,6 +1,7 @@
 //! Warnings of sections that aren't true any more.
 
 use crate::escaped::Escaped;
+use crate::left_sections::CodeChange;
 use crate::program::{SectionChoice, Task};
 use module_debug::{DebugFailure, DebugSection};
 use std::fmt;
@@ -123,27 +124,36 @@ impl fmt::Display for StaleDebug<'_, '_, '_, '_, '_> {
     }
 }
 
+/// What is wrong in a module that was written, if its code changed or moved.
+#[derive(Clone, Copy)]
+pub(crate) struct Notes<'n, 'a> {
+    /// The custom sections that may be wrong.
+    pub notes: &'n [Note<'a>],
+    /// How the code changed.
+    pub code: CodeChange,
+}
+
 /// Prints to standard error what is wrong now in a module that was written, and what helps: nothing
 /// of debug information, names and metadata where its code is what it was, nor of a source map where
 /// the code is where it was too.
-pub(crate) fn warn<B>(
+pub(crate) fn warn_of<'a>(
     rt: &impl Eprint,
     program: &str,
-    module: &RewrittenModule<'_, B>,
+    all: Notes<'_, 'a>,
     task: &Task<'_>,
-    outcome: DebugOutcome<'_, '_>,
+    outcome: DebugOutcome<'_, 'a>,
 ) {
     if task.is_quiet {
         return;
     }
-    let notes = &module.notes;
+    let Notes { notes, code } = all;
     let stale = StaleDebug {
         notes,
         task,
         outcome,
     };
     let reason = Reason(outcome.failure);
-    if module.changes_code() && stale.is_some() {
+    if code.changes && stale.is_some() {
         // The module is written all the same where standard error can't be.
         let _ = eprintln!(rt;
             "{program}: warning: debug information is out of date ({stale}){reason}: use --strip-debug"
@@ -151,13 +161,29 @@ pub(crate) fn warn<B>(
     }
     for note in notes {
         let is_wrong = match note.kind {
-            NoteKind::SourceMap => module.moves_code(),
+            NoteKind::SourceMap => code.moves,
             NoteKind::DebugInfo => false,
-            NoteKind::NotFollowed => module.changes_code(),
+            NoteKind::NotFollowed => code.changes,
         };
         if is_wrong && !task.fixes(note) {
             let warning = Warning(*note);
             let _ = eprintln!(rt; "{program}: warning: {warning}");
         }
     }
+}
+
+/// Prints to standard error what is wrong now in a module whose functions were written anew, and what helps.
+pub(crate) fn warn<'a, B>(
+    rt: &impl Eprint,
+    program: &str,
+    module: &RewrittenModule<'a, B>,
+    task: &Task<'_>,
+    outcome: DebugOutcome<'_, 'a>,
+) {
+    let code = CodeChange {
+        changes: module.changes_code(),
+        moves: module.moves_code(),
+    };
+    let notes = module.notes.as_slice();
+    warn_of(rt, program, Notes { notes, code }, task, outcome);
 }

@@ -19,6 +19,7 @@ OUT.wasm the module goes to standard output. OUT.wasm may be IN.wasm.",
 example: wcount in.wasm counted.wasm",
     takes_check: false,
     takes_functions: false,
+    collects: false,
     takes_export: true,
     takes_costs: false,
 };

@@ -105,10 +105,14 @@ fn run_asked<R: LockFiles + Input + Env + Clock + Print + Eprint + AllocGlobal +
         Some((Chosen::Rewrite, first)) => {
             run(rt, &RewriteAll, &rewriting::PROGRAM, first, terminals)
         }
-        Some((Chosen::Snip, first)) => run(rt, &Snip, &snipping::PROGRAM, first, terminals),
+        Some((Chosen::Snip, first)) => {
+            run_collecting(rt, &Snip, &snipping::PROGRAM, first, terminals)
+        }
         Some((Chosen::Count, first)) => run(rt, &Count, &counting::PROGRAM, first, terminals),
         Some((Chosen::Meter, first)) => run(rt, &Meter, &metering::PROGRAM, first, terminals),
-        Some((Chosen::Collect, first)) => Ok(run_collecting(rt, &collecting::PROGRAM, first)),
+        Some((Chosen::Collect, first)) => {
+            run_collecting(rt, &RewriteAll, &collecting::PROGRAM, first, terminals)
+        }
         Some((Chosen::Measure, first)) => run_passes(rt, first),
         None => run_none(rt),
     }

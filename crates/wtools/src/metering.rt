@@ -23,6 +23,7 @@ IN.wasm.",
 example: wmeter --costs costs.json --global used in.wasm metered.wasm",
     takes_check: false,
     takes_functions: false,
+    collects: false,
     takes_export: false,
     takes_costs: true,
 };

@@ -22,6 +22,7 @@ written; 2 wrong use.
 example: wrewrite --map out.map in.wasm out.wasm",
     takes_check: true,
     takes_functions: false,
+    collects: false,
     takes_export: false,
     takes_costs: false,
 };

@@ -24,6 +24,7 @@ wrong use.
 example: wsnip in.wasm out.wasm 12 unused_function",
     takes_check: false,
     takes_functions: true,
+    collects: false,
     takes_export: false,
     takes_costs: false,
 };

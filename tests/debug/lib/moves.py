@@ -8,6 +8,9 @@ from dataclasses import dataclass, field
 from operators import operators_of
 from wasm import bodies_of, code_begin, contents_of, counts_of_parameters, CODE
 
+# The first address of no code: those of functions that are left out, two for each.
+NO_CODE = 0xF0000000
+
 
 @dataclass
 class Kept:
@@ -101,13 +104,31 @@ class Moves:
         old_begin, new_begin = code_begin(old_module), code_begin(new_module)
         self.pairs = [(old - old_begin, new - new_begin) for old, new in pairs_of(map_text)]
         code, new_code = (it[slice(*contents_of(it, CODE))] for it in (old_module, new_module))
-        both = zip(bodies_of(old_module), bodies_of(new_module), counts_of_parameters(old_module), strict=True)
+        parameters = counts_of_parameters(old_module)
+        both = zip(*self._places(bodies_of(old_module), bodies_of(new_module)), parameters, strict=True)
         self.bodies = [self._body(code, new_code, *of) for of in both]
         self.begins = [it.begin for it in self.bodies]
+
+    def _places(self, old, new):
+        """The places of the bodies, before and after. If some are left out, none of their operators is written."""
+        if len(old) == len(new):
+            return old, new
+        written = sorted(source for source, _ in self.pairs)
+        is_left = [bisect.bisect_left(written, begin) < bisect.bisect_left(written, end) for begin, end in old]
+        if sum(is_left) != len(new):
+            raise ValueError(f"{len(new)} bodies are written, and operators of {sum(is_left)}")
+        places, first = iter(new), NO_CODE
+        after = []
+        for it in is_left:
+            after.append(next(places) if it else (first, first + 1))
+            first += 0 if it else 2
+        return old, after
 
     def _body(self, code, new_code, place, new_place, parameters):
         begin, end = place
         listed, _ = operators_of(code, *place)
+        if new_place[0] >= NO_CODE:
+            return Body(begin, end, *new_place, parameters, [], listed[0].begin, {it.end for it in listed})
         new_listed, _ = operators_of(new_code, *new_place)
         old, new = ({it.begin: it for it in of} for of in (listed, new_listed))
         low = bisect.bisect_left(self.pairs, new_place[0], key=lambda it: it[1])
