@@ -182,6 +182,12 @@ def _(room):
     same(section(1, vector([b"\x4e" + vector([field(1), field(0)]), SIGNATURES[II]])), written[8 : 8 + 2 + written[9]])
 
 
+@case("wgc: a recursive group without types is left out")
+def _(room):
+    written = collected(room, made({1: [b"\x4e\0", SIGNATURES[II]], 3: [b"\0"], 7: [export(b"run", 0, 0)], 10: [body(b"\x20\0")]}))
+    same(section(1, vector([SIGNATURES[II]])), written[8 : 8 + 2 + written[9]])
+
+
 @case("wgc: a block of a type is written with the first type alike, which stays")
 def _(room):
     pair = b"\x60\0\2\x7f\x7f"

@@ -35,7 +35,7 @@ const NAME: &str = "wtools";
 
 const HELP: &str = "usage: wtools PROGRAM [WORD]..
 
-Four programs in one, which read a WebAssembly module and write one, and a benchmark.
+Five programs in one, which read a WebAssembly module and write one, and a benchmark.
 Under the name of one of them, as that of a link or a copy, it runs as that one, and
 PROGRAM is left out.
 
