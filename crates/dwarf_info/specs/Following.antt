@@ -25,7 +25,7 @@ use Rattle.dwarf_info.specs.Units.{SpelledUnit, spelled_unit}
 
 -- ---- offsets
 
--- Places and offsets are numbers of 64 bits: the greatest one stands for all that are greater.
+-- Places and offsets are numbers of 64 bits: all greater ones are taken for the greatest one.
 abbrev pub in_64_bits : ℕ → ℕ
 in_64_bits n = min n (2 ^ 64 - 1)
 

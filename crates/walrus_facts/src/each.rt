@@ -108,7 +108,9 @@ impl<V: VisitInstr> Visitor for Visiting<V> {
 ///     }
 /// }
 ///
-/// let Calls(number) = for_each_instr(function.builder(), function.entry_block(), Calls(0))?;
+/// if function.has_entry() {
+///     let Calls(number) = for_each_instr(function.builder(), function.entry_block(), Calls(0))?;
+/// }
 /// ```
 pub fn for_each_instr<V: VisitInstr + Drop>(
     builder: &FunctionBuilder,
