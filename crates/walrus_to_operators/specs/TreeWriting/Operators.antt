@@ -26,7 +26,7 @@ numbered_operator to around type i =
 abbrev pub numbered_closer : Numbers → Closer → Result RawOperation EmitError
 numbered_closer to c = translate (then_by (numbering to)) (closing c)
 
--- The operator that was answered is this one, or there is none for this fault; or memory ran out.
+-- The operator that is returned is this one, or there is none for this fault; or memory ran out.
 abbrev pub IsOperator : Result RawOperation EmitError → Result Listed EmitError → Type 0
 IsOperator r (Ok op) = (r ≡ Ok (meaning op)) × IsWritable (meaning op)
 IsOperator r (Err e) = (e ≡ Memory) ⊎ (r ≡ Err e)
