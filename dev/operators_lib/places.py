@@ -7,7 +7,7 @@ from .definitions import row_at
 from .families import access_variant
 
 RULES_OF = "crates/wasm_typing/specs/Rules.antt"
-TESTS = re.compile(r"^crates/(tests_\w+|examples|growths|wbody_rows|module_tools)/|/proofs/|^docs/")
+TESTS = re.compile(r"^crates/(tests_\w+|examples|growths|wbody_rows|tool_\w+|left_modules|module_tools|removal_tools)/|/proofs/|^docs/")
 COMMENT = re.compile(r"^\s*(//|--)|^\s*#\[derive")
 
 

@@ -3,19 +3,11 @@
 use crate::counting::add_counter;
 use crate::edits::charge_code;
 use std::alloc::Global;
+use tool_words::ChargeBy;
 use walrus_body::LocalFunction;
 use walrus_ir::{ModuleLocals, ValType};
 use walrus_metering::{Charge, Costs};
 use wasm_module::{ChangeFunction, Changes, ModuleError, ParsedModule};
-
-/// What code is charged by.
-#[derive(Clone, Copy)]
-pub enum ChargeBy<'w> {
-    /// A function that takes an i64, imported from this module under this name.
-    Import(&'w str, &'w str),
-    /// A mutable i64 that is 0 at first, exported under this name.
-    Global(&'w str),
-}
 
 /// Lets each function charge what it executes, each in the same way.
 #[derive(Drop)]

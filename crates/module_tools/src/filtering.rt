@@ -1,12 +1,12 @@
 //! The shortest program of a tool: it reads a module, and prints what the tool makes of it.
 
-use crate::ending::{Attempt, ProgramFailure, exit_code, words};
-use crate::files::read_file;
 use crate::running::Tool;
 use std::io;
 use std::io::{BufWriter, Write};
 use std::process::ExitCode;
 use std::rt::{Env, Files};
+use tool_files::read_file;
+use tool_words::{Attempt, ProgramFailure, exit_code, words};
 use walrus_ir::IdHashSet;
 use wasm_module::{BodyWriter, ModuleError, ParsedModule, Rewriting, RewrittenModule, WriteError};
 

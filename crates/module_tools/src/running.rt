@@ -8,26 +8,7 @@ ghost use Rattle.wasm_module.specs.RewrittenCode.{Extends, IsRewrittenWith};
 ghost use Rattle.wasm_module.specs.WrittenModules.{with_some_pairs};
 ghost use Rattle.wasm_sections.specs.Omissions.{OmitsNothing};
 
-use crate::charging::ChargeBy;
-use crate::checking::{check_bodies, refused};
-use crate::choosing::{check_input, functions_of};
-use crate::cost_files::read_costs;
-use crate::ending::{ProgramFailure, exit_code, page_code, words};
-use crate::files::read_file;
-use crate::listing::list_functions;
-use crate::locks::LockFiles;
-use crate::omitting::{following_debug, omit};
-use crate::places::check_files;
-use crate::program::{Charging, Program, Request, Task, read_arguments};
-use crate::progress::{Progress, Watched, WatchedChange};
-use crate::reporting::{Done, Outcome, print_done, status_of_done};
-use crate::source_map_places::check_source_maps;
-use crate::source_maps::read_source_map;
-use crate::usage_error::UsageError;
-use crate::validating::check_validity;
 use crate::version::{BUILD, VERSION};
-use crate::warnings::{DebugOutcome, warn};
-use crate::writing::write_module;
 use module_debug::DebugSection;
 use source_map::SourceMap;
 use std::alloc::Global;
@@ -35,6 +16,19 @@ use std::io;
 use std::process::ExitCode;
 use std::rt::{Clock, Env};
 use std::time::Instant;
+use tool_files::{
+    Done, LockFiles, Outcome, check_files, check_source_maps, print_done, read_costs, read_file,
+    status_of_done,
+};
+use tool_reading::{
+    Progress, Watched, WatchedChange, check_bodies, check_input, check_validity, functions_of,
+    list_functions, refused,
+};
+use tool_words::{
+    ChargeBy, Charging, Program, ProgramFailure, Request, Task, UsageError, exit_code, page_code,
+    read_arguments, words,
+};
+use tool_writing::{DebugOutcome, following_debug, given_source_map, omit, warn, write_module};
 use walrus_body::LocalFunction;
 use walrus_ir::{FunctionId, IdHashSet, ModuleLocals};
 use walrus_metering::Costs;
@@ -199,20 +193,6 @@ fn changed<'a, R: Eprint + Clock, C: ChangeFunction + Drop>(
             Ok(rest.with_bodies(Watched::new(progress, bodies)))
         }
         Err(error) => Err(error),
-    }
-}
-
-/// The source map that is read, if one is.
-pub(crate) fn given_source_map<'w, R: LockFiles + Input + AllocGlobal>(
-    rt: &R,
-    task: &Task<'w>,
-) -> Result<Option<SourceMap>, ProgramFailure<'w>> {
-    let Some(paths) = task.source_map else {
-        return Ok(None);
-    };
-    match read_source_map(rt, paths.input) {
-        Ok(map) => Ok(Some(map)),
-        Err(failure) => Err(failure),
     }
 }
 
@@ -476,7 +456,7 @@ where
 }
 
 /// Checks the files of a task before any is opened.
-pub(crate) fn check_task<'w, R: LockFiles + AllocGlobal>(
+pub fn check_task<'w, R: LockFiles + AllocGlobal>(
     rt: &R,
     task: &Task<'w>,
     terminals: Terminals,

@@ -19,9 +19,10 @@ use measuring::run_passes;
 use metering::Meter;
 use module_tools::{
     BUILD, LockFiles, ProgramFailure, Terminals, UsageError, VERSION, exit_code, page_code, run,
-    run_collecting, words,
+    words,
 };
 use naming::{Chosen, asked};
+use removal_tools::run_collecting;
 use rewriting::RewriteAll;
 use snipping::Snip;
 use std::alloc::{AllocError, Global};

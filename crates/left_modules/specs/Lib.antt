@@ -1,0 +1,2 @@
+-- sections with the names of others
+pub mod NamedSections

@@ -1,2 +1,0 @@
-pub mod WrittenLemmas
-pub mod NamedSectionLemmas

@@ -1,0 +1,7 @@
+//! Programs that leave out what nothing reaches.
+#![tactic(auto)]
+
+mod collecting;
+mod snipped_modules;
+
+pub use collecting::run_collecting;

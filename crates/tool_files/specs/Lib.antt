@@ -1,0 +1,2 @@
+-- which paths lead to one file
+pub mod Places
