@@ -17,7 +17,7 @@ use std::process::ExitCode;
 use std::rt::{Clock, Env};
 use std::time::Instant;
 use tool_files::{Done, LockFiles, Outcome, print_done, read_file, status_of_done};
-use tool_reading::{check_validity, functions_of, list_removed, refused};
+use tool_reading::{Choice, check_validity, functions_of, list_chosen, refused};
 use tool_words::{Program, ProgramFailure, Request, Task, exit_code, read_arguments, words};
 use tool_writing::{CodeChange, DebugOutcome, Notes, given_source_map, warn_of};
 use walrus_ir::{FunctionId, IdHashSet};
@@ -32,6 +32,16 @@ struct Made<'m> {
     failure: Option<DebugFailure>,
     /// How its code differs from that of the other one.
     code: CodeChange,
+}
+
+/// The functions that aren't left.
+#[derive(Clone, Copy)]
+struct Removed<'m>(&'m Remainder);
+
+impl Choice for Removed<'_> {
+    fn includes(&self, function: usize) -> bool {
+        !self.0.left.has_function(function)
+    }
 }
 
 /// A run over a module that was read.
@@ -129,7 +139,7 @@ where
         remainder: &Remainder,
     ) -> Result<Option<u64>, ProgramFailure<'w>> {
         let Some(output) = self.task.output else {
-            return match list_removed(self.rt, parsed, &remainder.left) {
+            return match list_chosen(self.rt, parsed, &Removed(remainder)) {
                 Ok(()) => Ok(None),
                 Err(failure) => Err(failure),
             };

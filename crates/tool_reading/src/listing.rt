@@ -1,7 +1,6 @@
 //! The functions of a module as lines.
 
 use crate::names::FunctionNames;
-use module_removal::LeftItems;
 use std::io::{BufWriter, Write};
 use std::{fmt, io};
 use tool_words::{Attempt, Escaped, ProgramFailure};
@@ -25,15 +24,31 @@ impl fmt::Display for Listed<'_> {
     }
 }
 
-/// Writes a line for each function with a body that isn't left.
-fn write_lines<W: Write>(
+/// Which functions are listed.
+pub trait Choice {
+    /// Whether the function with this index is, if it has a body.
+    fn includes(&self, function: usize) -> bool;
+}
+
+/// All functions are.
+#[derive(Clone, Copy)]
+struct All;
+
+impl Choice for All {
+    fn includes(&self, _function: usize) -> bool {
+        true
+    }
+}
+
+/// Writes a line for each of these functions with a body.
+fn write_lines<W: Write, C: Choice>(
     parsed: &ParsedModule<'_>,
     names: &FunctionNames<'_>,
-    left: Option<&LeftItems>,
+    choice: &C,
     out: &mut W,
 ) -> io::Result<()> {
     for body in parsed.bodies() {
-        if left.is_some_and(|left| left.has_function(body.func)) {
+        if !choice.includes(body.func) {
             continue;
         }
         let line = Listed {
@@ -46,25 +61,29 @@ fn write_lines<W: Write>(
     out.flush()
 }
 
-/// Writes a line for each function with a body that isn't left, buffered.
-fn print_lines<R: Print + AllocGlobal>(
+/// Writes a line for each of these functions with a body, buffered.
+fn print_lines<R: Print + AllocGlobal, C: Choice>(
     rt: &R,
     parsed: &ParsedModule<'_>,
-    left: Option<&LeftItems>,
     names: &FunctionNames<'_>,
+    choice: &C,
 ) -> io::Result<()> {
     let mut out = BufWriter::new(rt.alloc(), io::writer(rt))?;
-    write_lines(parsed, names, left, &mut out)
+    write_lines(parsed, names, choice, &mut out)
 }
 
-/// Prints a line for each function with a body that isn't left.
-fn list<'w, R: Print + AllocGlobal>(
+/// Prints a line for each of these functions with a body.
+///
+/// # Errors
+///
+/// Where they can't be printed, or memory runs out.
+pub fn list_chosen<'w, R: Print + AllocGlobal, C: Choice>(
     rt: &R,
     parsed: &ParsedModule<'_>,
-    left: Option<&LeftItems>,
+    choice: &C,
 ) -> Result<(), ProgramFailure<'w>> {
     let names = FunctionNames::read(rt.alloc(), parsed)?;
-    match print_lines(rt, parsed, left, &names) {
+    match print_lines(rt, parsed, &names, choice) {
         Ok(()) => Ok(()),
         Err(error) => Err(ProgramFailure::file("-", Attempt::Write, error)),
     }
@@ -74,23 +93,10 @@ fn list<'w, R: Print + AllocGlobal>(
 ///
 /// # Errors
 ///
-/// Where they can't be printed, or memory runs out.
+/// Those of `list_chosen`.
 pub fn list_functions<'w, R: Print + AllocGlobal>(
     rt: &R,
     parsed: &ParsedModule<'_>,
 ) -> Result<(), ProgramFailure<'w>> {
-    list(rt, parsed, None)
-}
-
-/// Prints a line for each function with a body that isn't left.
-///
-/// # Errors
-///
-/// Those of `list_functions`.
-pub fn list_removed<'w, R: Print + AllocGlobal>(
-    rt: &R,
-    parsed: &ParsedModule<'_>,
-    left: &LeftItems,
-) -> Result<(), ProgramFailure<'w>> {
-    list(rt, parsed, Some(left))
+    list_chosen(rt, parsed, &All)
 }
