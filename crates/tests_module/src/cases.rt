@@ -2,6 +2,7 @@
 //! given as its preamble and its sections in hexadecimal, with spaces between them.
 
 use crate::additions::push_has_globals;
+use crate::items::{push_custom_section, push_segments};
 use crate::making::Step;
 use crate::omissions::{Omission, push_omitted};
 use crate::texts::{bytes_of, fault_text};
@@ -25,6 +26,10 @@ pub(crate) enum Query<'i> {
     HasBodies,
     /// Its tables, memories, tags and globals.
     Storage,
+    /// Its data and element segments.
+    Segments,
+    /// The contents of the custom section with this name, and the section as it is written.
+    Custom(&'i str),
     /// The functions that it names outside of bodies.
     References,
     /// The functions that are visited, up to the one with this index, which is refused.
@@ -48,6 +53,8 @@ fn push_result(
         Query::Bodies => push_bodies(text, parsed),
         Query::HasBodies => push_has_bodies(text, parsed),
         Query::Storage => push_storage(text, parsed),
+        Query::Segments => push_segments(text, parsed),
+        Query::Custom(name) => push_custom_section(text, parsed, name),
         Query::References => push_references(text, parsed),
         Query::Visited(last) => push_visited(text, parsed, last),
         Query::Omitted(omissions) => push_omitted(text, parsed, omissions),

@@ -13,6 +13,8 @@ mod defining;
 #[cfg(test)]
 mod importing;
 #[cfg(test)]
+mod items;
+#[cfg(test)]
 mod making;
 #[cfg(test)]
 mod mappings;

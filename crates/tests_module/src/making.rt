@@ -1,4 +1,5 @@
 //! What is done to a module before it is written: items are added, imported and exported.
+use crate::items::{Edit, edit};
 use std::alloc::{AllocError, Global};
 use walrus_body::LocalFunction;
 use walrus_ir::{
@@ -56,6 +57,8 @@ pub(crate) enum Step<'i> {
     Empty,
     /// The module is rewritten, which adds nothing, and may need types that it lacks.
     Rewritten,
+    /// An item of a section is changed.
+    Edit(Edit<'i>),
 }
 
 fn export(
@@ -203,6 +206,7 @@ fn make(
             let (param, returned) = (type_of(*param), type_of(*returned));
             done(parsed.function_type(changes, param.as_slice(), returned.as_slice()))
         }
+        Step::Edit(change) => done(edit(parsed, changes, *change)),
         Step::Import(ty) => parsed.import_function(changes, "t", "r", TypeId::new(*ty)),
         Step::Rewritten => match parsed.rewrite_all() {
             Ok(_rewritten) => Ok(FunctionId::new(0)),

@@ -1,0 +1,8 @@
+-- steps that are repeated, and one more
+pub mod RepeatingLemmas
+-- custom sections, one after the other
+pub mod NamedSectionLemmas
+-- what an import is
+pub mod DescriptionLemmas
+-- an export that is found
+pub mod SeekingLemmas

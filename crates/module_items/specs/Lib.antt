@@ -1,0 +1,8 @@
+-- the items of sections, and one that is replaced
+pub mod Items
+pub mod Replacing
+-- exports and imports under other names, and limits
+pub mod Renaming
+-- segments and custom sections, as they are read
+pub mod Segments
+pub mod CustomSections
