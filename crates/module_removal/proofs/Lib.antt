@@ -17,3 +17,5 @@ pub mod ReachedLemmas
 pub mod KeptCopies
 -- what is written for an item
 pub mod WritingLemmas
+-- what is written for a section, and for a module
+pub mod LeftSectionLemmas

@@ -1,5 +1,5 @@
 -- What is written for the start function, for an item, and for a recursive group.
-use Rattle.std.proofs.Common.{◌≡◌, ℕ, Bool, true, false, List, [], ◌++◌, Option, Result, Ok, Err, OnOk, sym, ap, subst, ◌∙◌}
+use Rattle.std.proofs.Common.{◌≡◌, ℕ, Bool, true, false, List, [], ◌++◌, Option, Result, Ok, Err, OnOk, refl, sym, ap, subst, ◌∙◌}
 use denote.Ref.{Bor}
 use Rattle.wasm_operators.specs.declared.types.Space.{Space}
 use Rattle.wasm_operators.specs.declared.types.Space.TheVariants.{Types, Funcs}
@@ -14,8 +14,8 @@ use Rattle.module_removal.specs.SeveralSteps.{SoManySteps}
 use Rattle.module_removal.specs.ItemNumbers.{count_of, counted_more, with_more_items}
 use Rattle.module_removal.specs.LeftSpaces.{marks_of, index_written}
 use Rattle.module_removal.specs.CopiedParts.{Copied, CopiedPart, NewIndices, copied_index, AppendsCopied, Copies}
-use Rattle.module_removal.specs.CopiedItems.{copied_import, copied_subtype, begins_group}
-use Rattle.module_removal.specs.Written.{WritesIf, WritesNextItem, WritesImport, WritesTypeIf, WritesType, is_group_left, BeginsGroupIf, WritesGroup}
+use Rattle.module_removal.specs.CopiedItems.{copied_import, copied_export, copied_subtype, begins_group}
+use Rattle.module_removal.specs.Written.{Task, task_of, WritesIf, WritesNextItem, WritesImport, WritesExport, WritesTypeIf, WritesType, is_group_left, BeginsGroupIf, WritesGroup}
 
 -- what is written after nothing was
 out_is : (cleared mid : Copier) (a : Copied) → cleared.out.items ≡ [] → AppendsCopied cleared a mid → mid.out.items ≡ a.written
@@ -42,6 +42,16 @@ pub part_as :
     m ≡ l → part (index_written m) end text ≡ r → part (index_written l) end text ≡ r
 part_as part end text l m r e is = ap (λ (o : Option (Bor LeftItems)). part (index_written o) end text) (sym e) ∙ is
 
+-- the same task, if both copiers keep their indices
+abbrev with_indices : (kept passed : Option (Bor LeftItems)) → Writer → Task
+with_indices kept passed w = (w.remainder, w.code, kept, passed)
+
+same_task :
+    (old new : Writer) (kept passed : Option (Bor LeftItems)) → task_of new ≡ with_indices kept passed old → kept ≡ old.kept.left →
+    passed ≡ old.passed.left → task_of new ≡ task_of old
+same_task old new kept passed e k p =
+    e ∙ ap (λ (l : Option (Bor LeftItems)). with_indices l passed old) k ∙ ap (λ (l : Option (Bor LeftItems)). with_indices old.kept.left l old) p
+
 -- ---- items
 
 -- the next item, which is left
@@ -57,9 +67,10 @@ writes_left_item space part end text following old counted new passed cleared ke
     let from_old : cleared.left ≡ old.kept.left = left ∙ ap (λ (w : Writer). w.kept.left) cs in
     record {
       next = ap (λ (w : Writer). w.next) ns ∙ ap (λ (w : Writer). w.next) cs;
-      kept = ap (λ (w : Writer). w.kept.left) ns ∙ copies.2.left ∙ from_old;
-      passed = ap (λ (w : Writer). w.passed.left) ns ∙ ap (λ (w : Writer). w.passed.left) cs ∙ same;
-      remainder = ap (λ (w : Writer). w.remainder) ns ∙ ap (λ (w : Writer). w.remainder) cs;
+      task =
+          same_task old new kept.left passed.left (ap task_of ns ∙ ap (λ (w : Writer). with_indices kept.left w.passed.left w) cs) (copies.2.left ∙ from_old)
+          same;
+      has_elements = ap (λ (w : Writer). w.has_elements) ns ∙ ap (λ (w : Writer). w.has_elements) cs;
       out = ap (λ (w : Writer). w.out) ns ∙ ap (λ (w : Writer). w.out) cs;
       writes =
           subst (λ (b : Bool). WritesIf b part end text following old new) is (
@@ -81,9 +92,8 @@ pub writes_no_item :
     Copies cleared passed following (Ok x) (part (index_written cleared.left) end text) → WritesNextItem space part end text following old new
 writes_no_item space part end text following old new cleared passed x left ns is copies = record {
   next = ap (λ (w : Writer). w.next) ns;
-  kept = ap (λ (w : Writer). w.kept.left) ns;
-  passed = ap (λ (w : Writer). w.passed.left) ns ∙ copies.2.left ∙ left;
-  remainder = ap (λ (w : Writer). w.remainder) ns;
+  task = same_task old new old.kept.left passed.left (ap task_of ns) refl (copies.2.left ∙ left);
+  has_elements = ap (λ (w : Writer). w.has_elements) ns;
   out = ap (λ (w : Writer). w.out) ns;
   writes =
       subst (λ (b : Bool). WritesIf b part end text following old new) is (
@@ -104,6 +114,27 @@ writes_import end text rest following old new cleared passed space (Ok u) left c
     (space, copies.0, rest, part_as copied_import end text old.passed.left cleared.left (Ok ((space, copies.0), rest)) left copies.1, writes)
 writes_import end text rest following old new cleared passed space (Err e) left copies writes = tt
 
+-- an export
+pub writes_export :
+    (end : ℕ) (text following : List ℕ) (old new : Writer) (cleared kept : Copier) (r : Result (Unit {0}) ModuleError) → cleared.left ≡ old.kept.left →
+    cleared.out.items ≡ [] → Copies cleared kept following (Ok tt) (copied_export (index_written cleared.left) end text) →
+    OnOk r (new.items.items ≡ old.items.items ++ kept.out.items) → OnOk r (new.count ≡ counted_more old.count 1) →
+    new ≡ record old { kept = kept; items = new.items; count = new.count } → OnOk r (WritesExport end text following old new)
+writes_export end text following old new cleared kept (Ok u) left none copies items count ns = record {
+  next = ap (λ (w : Writer). w.next) ns;
+  task = same_task old new kept.left old.passed.left (ap task_of ns) (copies.2.left ∙ left) refl;
+  has_elements = ap (λ (w : Writer). w.has_elements) ns;
+  out = ap (λ (w : Writer). w.out) ns;
+  writes = (
+    tt,
+    copies.0,
+    part_as copied_export end text old.kept.left cleared.left (Ok ((tt, copies.0), following)) left copies.1,
+    items ∙ ap (λ (l : List ℕ). old.items.items ++ l) (out_is cleared kept copies.0 none copies.2),
+    count,
+  );
+}
+writes_export end text following old new cleared kept (Err e) left none copies items count ns = tt
+
 -- ---- recursive groups
 
 -- the next type, which is left
@@ -117,9 +148,10 @@ writes_left_type end text following bytes old counted new cleared kept cs is lef
     let from_old : cleared.left ≡ old.kept.left = left ∙ ap (λ (w : Writer). w.kept.left) cs in
     record {
       next = ap (λ (w : Writer). w.next) ns ∙ ap (λ (w : Writer). w.next) cs;
-      kept = ap (λ (w : Writer). w.kept.left) ns ∙ copies.2.left ∙ from_old;
-      passed = ap (λ (w : Writer). w.passed.left) ns ∙ ap (λ (w : Writer). w.passed.left) cs;
-      remainder = ap (λ (w : Writer). w.remainder) ns ∙ ap (λ (w : Writer). w.remainder) cs;
+      task =
+          same_task old new kept.left old.passed.left (ap task_of ns ∙ ap (λ (w : Writer). with_indices kept.left w.passed.left w) cs) (copies.2.left ∙ from_old)
+          refl;
+      has_elements = ap (λ (w : Writer). w.has_elements) ns ∙ ap (λ (w : Writer). w.has_elements) cs;
       out = ap (λ (w : Writer). w.out) ns ∙ ap (λ (w : Writer). w.out) cs;
       count = ap (λ (w : Writer). w.count) ns ∙ ap (λ (w : Writer). w.count) cs;
       writes =
@@ -141,9 +173,10 @@ writes_no_type end text following old counted new cleared passed (Ok u) cs is le
     let from_old : cleared.left ≡ old.passed.left = left ∙ ap (λ (w : Writer). w.passed.left) cs in
     record {
       next = ap (λ (w : Writer). w.next) ns ∙ ap (λ (w : Writer). w.next) cs;
-      kept = ap (λ (w : Writer). w.kept.left) ns ∙ ap (λ (w : Writer). w.kept.left) cs;
-      passed = ap (λ (w : Writer). w.passed.left) ns ∙ copies.2.left ∙ from_old;
-      remainder = ap (λ (w : Writer). w.remainder) ns ∙ ap (λ (w : Writer). w.remainder) cs;
+      task =
+          same_task old new old.kept.left passed.left (ap task_of ns ∙ ap (λ (w : Writer). with_indices w.kept.left passed.left w) cs) refl
+          (copies.2.left ∙ from_old);
+      has_elements = ap (λ (w : Writer). w.has_elements) ns ∙ ap (λ (w : Writer). w.has_elements) cs;
       out = ap (λ (w : Writer). w.out) ns ∙ ap (λ (w : Writer). w.out) cs;
       count = ap (λ (w : Writer). w.count) ns ∙ ap (λ (w : Writer). w.count) cs;
       writes =

@@ -17,3 +17,5 @@ pub mod Gathered
 pub mod LeftLaws
 -- what is written for the items of a section
 pub mod Written
+-- what is written for sections, and for the whole module
+pub mod LeftSections

@@ -7,14 +7,18 @@ use Rattle.wasm_operators.specs.Shortest.{short_number}
 use Rattle.item_sets.specs.ItemsLeft.{is_left}
 use Rattle.wasm_sections.specs.declared.sections.SectionKind.{SectionKind}
 use Rattle.wasm_sections.specs.declared.sections.SectionKind.TheVariants as kind
+use denote.Ref.{Bor}
 use Rattle.wasm_sections.specs.Format.{members_part}
 use Rattle.wasm_sections.specs.Sections.{section}
+use Rattle.module_removal.specs.declared.code.LeftCode.{LeftCode}
+use Rattle.module_removal.specs.declared.left.LeftItems.{LeftItems}
+use Rattle.module_removal.specs.declared.remainder.Remainder.{Remainder}
 use Rattle.module_removal.specs.declared.writing.Writer.{Writer}
 use Rattle.module_removal.specs.SeveralSteps.{SoManySteps}
 use Rattle.module_removal.specs.ItemNumbers.{count_of, counted_more, with_more_items}
 use Rattle.module_removal.specs.LeftSpaces.{marks_of, index_written}
 use Rattle.module_removal.specs.CopiedParts.{Copied, CopiedPart, NewIndices}
-use Rattle.module_removal.specs.CopiedItems.{copied_import, copied_subtype, begins_group}
+use Rattle.module_removal.specs.CopiedItems.{copied_import, copied_export, copied_subtype, begins_group}
 
 -- the index space of the items that a section of this kind defines
 abbrev pub section_space : SectionKind → Option Space
@@ -31,6 +35,13 @@ section_space _ = None
 abbrev pub data_count_section : (count : ℕ) → List ℕ
 data_count_section count = if count == 0 then [] else section 12 (short_number count)
 
+-- what stays the same while a module is written: what is left of it, its code, and the indices of what is copied and of what is passed over
+abbrev pub Task : Type 0
+Task = Bor Remainder × Bor LeftCode × Option (Bor LeftItems) × Option (Bor LeftItems)
+
+abbrev pub task_of : Writer → Task
+task_of w = (w.remainder, w.code, w.kept.left, w.passed.left)
+
 -- The part is an item that is copied to the items of the section, under the new indices; or it is passed over.
 abbrev pub WritesIf : {A : Type 0} → (is_left : Bool) → (part : NewIndices → CopiedPart A) → (end : ℕ) → (text following : List ℕ) → (old new : Writer) → Type 0
 WritesIf {A} true part end text following old new =
@@ -43,9 +54,8 @@ WritesIf {A} false part end text following old new =
 -- The part is the next item of its space: it is copied if it is left.
 pub record WritesNextItem {A : Type 0} (space : Space) (part : NewIndices → CopiedPart A) (end : ℕ) (text following : List ℕ) (old new : Writer) : Type 0 where
   pub next : new.next ≡ with_more_items space 1 old.next
-  pub kept : new.kept.left ≡ old.kept.left
-  pub passed : new.passed.left ≡ old.passed.left
-  pub remainder : new.remainder ≡ old.remainder
+  pub task : task_of new ≡ task_of old
+  pub has_elements : new.has_elements ≡ old.has_elements
   pub out : new.out ≡ old.out
   pub writes : WritesIf (is_left (marks_of old.remainder.now.left space) (count_of old.next space)) part end text following old new
 
@@ -54,6 +64,14 @@ abbrev pub WritesImport : (end : ℕ) → (text following : List ℕ) → (old n
 WritesImport end text following old new =
     (space : Space) × (copied : Copied) × (rest : List ℕ) × (copied_import (index_written old.passed.left) end text ≡ Ok ((space, copied), rest))
     × WritesNextItem space copied_import end text following old new
+
+-- The part is an export: it is copied, since all are left.
+pub record WritesExport (end : ℕ) (text following : List ℕ) (old new : Writer) : Type 0 where
+  pub next : new.next ≡ old.next
+  pub task : task_of new ≡ task_of old
+  pub has_elements : new.has_elements ≡ old.has_elements
+  pub out : new.out ≡ old.out
+  pub writes : WritesIf true copied_export end text following old new
 
 -- ---- recursive groups
 
@@ -67,9 +85,8 @@ WritesTypeIf false end text following old new =
 -- The bytes that are left begin with the next type: it is copied if it is left.
 pub record WritesType (end : ℕ) (old new : Writer × List ℕ) : Type 0 where
   pub next : new.0.next ≡ with_more_items Types 1 old.0.next
-  pub kept : new.0.kept.left ≡ old.0.kept.left
-  pub passed : new.0.passed.left ≡ old.0.passed.left
-  pub remainder : new.0.remainder ≡ old.0.remainder
+  pub task : task_of new.0 ≡ task_of old.0
+  pub has_elements : new.0.has_elements ≡ old.0.has_elements
   pub out : new.0.out ≡ old.0.out
   pub count : new.0.count ≡ old.0.count
   pub writes : WritesTypeIf (is_left (marks_of old.0.remainder.now.left Types) old.0.next.types) end old.1 new.1 old.0 new.0

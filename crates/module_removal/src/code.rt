@@ -1,5 +1,7 @@
 //! The code of what is left.
 
+ghost use Rattle.std.specs.Prelude.{◌≡◌};
+
 use crate::followed::{Followed, is_metadata};
 use crate::names::local_names;
 use crate::parts::done;
@@ -21,8 +23,10 @@ pub struct LeftCode {
 }
 
 /// Reads which operators have metadata, and which locals have names.
-fn read_followed(code: &mut LeftCode, bytes: &[u8]) -> Result<(), ModuleError> {
-    for section in done!(Sections::new(bytes)) {
+fn read_followed(code: &mut LeftCode, bytes: &[u8]) -> Result<(), ModuleError>
+    ensures { code.new ≡ record code.old { operators = code.new.operators; locals = code.new.locals } }
+{
+    'sections: for section in done!(Sections::new(bytes)) {
         let section = done!(section);
         if section.kind != SectionKind::Custom {
             continue;
@@ -42,12 +46,19 @@ fn read_followed(code: &mut LeftCode, bytes: &[u8]) -> Result<(), ModuleError> {
 }
 
 impl LeftCode {
+    ghost use Rattle.std.specs.Prelude.{◌≡◌, ◌++◌, [], OnOk, IfOk};
+    ghost use Rattle.wasm_sections.specs.CodeSections.{entry};
+    ghost use Rattle.module_removal.specs.ItemNumbers.{counted_more};
+
     /// The code of a module with these bytes, of which no body is written.
     ///
     /// # Errors
     ///
     /// The first fault of a section with names or with metadata of code, or `Memory`.
-    pub fn new(alloc: Global, bytes: &[u8]) -> Result<LeftCode, ModuleError> {
+    pub fn new(alloc: Global, bytes: &[u8]) -> Result<LeftCode, ModuleError>
+        ensures bodies { IfOk result (λ code. code.bodies.items ≡ []) }
+        ensures count { IfOk result (λ code. code.count ≡ 0) }
+    {
         let mut code = LeftCode {
             bodies: Vec::new(alloc),
             count: 0,
@@ -71,7 +82,9 @@ impl LeftCode {
     }
 
     /// Sets the new indices of the locals of a body, by their old ones.
-    pub fn set_locals(&mut self, body: &Body<'_>, numbers: &IdHashMap<LocalId, u32>) {
+    pub fn set_locals(&mut self, body: &Body<'_>, numbers: &IdHashMap<LocalId, u32>)
+        ensures { self.new ≡ record self.old { locals = self.new.locals } }
+    {
         self.locals.pass_locals(body.func, numbers);
     }
 
@@ -86,7 +99,10 @@ impl LeftCode {
         body: &Body<'_>,
         raw: &[u8],
         pairs: &[(InstrLocId, usize)],
-    ) -> Result<(), ModuleError> {
+    ) -> Result<(), ModuleError>
+        ensures bodies { OnOk result (self.new.bodies.items ≡ self.old.bodies.items ++ entry raw.now) }
+        ensures count { OnOk result (self.new.count ≡ counted_more self.old.count 1) }
+    {
         self.operators
             .pass_operators(body.func, body.start(), pairs);
         self.count = self.count.saturating_add(1);

@@ -1,6 +1,9 @@
 //! Functions of which references are taken in bodies. Such a function has to be named outside of bodies too, by an export,
 //! a global, a table or a segment (WebAssembly core specification 3.0, validation, modules, `refs`).
 
+ghost use Rattle.std.specs.Prelude.{◌≡◌, ◌++◌, OnOk};
+ghost use Rattle.module_removal.specs.LeftSections.{declaring_segment};
+
 use crate::item::{Item, ItemCounts};
 use crate::left::LeftItems;
 use std::alloc::Global;
@@ -108,14 +111,16 @@ pub(crate) fn put_declarations(
     functions: &[u32],
     left: &LeftItems,
     out: &mut Vec<u8>,
-) -> Result<(), ModuleError> {
+) -> Result<(), ModuleError>
+    ensures { OnOk result (out.new.items ≡ out.old.items ++ declaring_segment left.now functions.now) }
+{
     // The flags of a declarative segment, and the kind of functions.
     out.extend_from_slice(&[0x03, 0x00])?;
     match write_number(out, functions.len()) {
         Ok(()) => {}
         Err(error) => return Err(error),
     }
-    for func in functions {
+    'functions: for func in functions {
         let item = Item {
             space: Space::Funcs,
             index: *func,

@@ -2,6 +2,9 @@
 //! of these (the proposals for custom annotations of code and for branch hinting), and names of locals by their indices
 //! (WebAssembly core specification 3.0, custom sections, name section).
 
+ghost use Rattle.std.specs.Prelude.{◌≡◌};
+ghost use Rattle.module_removal.specs.LeftSections.{names_metadata, names_names};
+
 use crate::item::Item;
 use crate::left::LeftItems;
 use crate::parts::done;
@@ -27,8 +30,17 @@ pub(crate) struct Followed {
 }
 
 /// Whether a custom section with this name has metadata of code.
-pub(crate) fn is_metadata(name: &str) -> bool {
+pub(crate) fn is_metadata(name: &str) -> bool
+    ensures { result ≡ names_metadata name.now }
+{
     name.starts_with("metadata.code.")
+}
+
+/// Whether a custom section with this name has names.
+pub(crate) fn is_names(name: &str) -> bool
+    ensures { result ≡ names_names name.now }
+{
+    name == "name"
 }
 
 /// The location pairs from the one of the operator at this place on, or of a later one; none if there is none.

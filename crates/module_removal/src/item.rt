@@ -51,6 +51,23 @@ pub const MODULE: u32 = 0;
 impl ItemCounts {
     ghost use Rattle.std.specs.Prelude.{◌≡◌, ◌-◌, ◌^◌, min};
     ghost use Rattle.module_removal.specs.ItemNumbers.{count_of, first_number, all_numbers, number_of_item, with_more_items};
+    ghost use Rattle.module_removal.specs.LeftSections.{no_counts};
+
+    /// No items.
+    pub fn none() -> ItemCounts
+        ensures { result ≡ no_counts }
+    {
+        ItemCounts {
+            types: 0,
+            funcs: 0,
+            tables: 0,
+            memories: 0,
+            globals: 0,
+            tags: 0,
+            elements: 0,
+            data: 0,
+        }
+    }
 
     /// How many items a space has.
     pub fn of(&self, space: Space) -> usize

@@ -1,5 +1,9 @@
 //! The names of what is left (WebAssembly core specification 3.0, custom sections, name section).
 
+ghost use Rattle.std.specs.Prelude.{◌≡◌, ◌++◌, ℕ, List, codes, OnOk, IfOk};
+ghost use Rattle.wasm_sections.specs.CodeSections.{entry};
+ghost use Rattle.wasm_sections.specs.Sections.{section};
+
 use crate::code::LeftCode;
 use crate::item::Item;
 use crate::left::LeftItems;
@@ -75,7 +79,10 @@ fn left_items(
 }
 
 /// Appends a subsection.
-fn put_subsection(out: &mut Vec<u8>, id: u8, contents: &[u8]) -> Result<(), ModuleError> {
+#[tactic(auto, using(wasm_encode::proofs::Appending::appending))]
+fn put_subsection(out: &mut Vec<u8>, id: u8, contents: &[u8]) -> Result<(), ModuleError>
+    ensures { OnOk result (out.new.items ≡ out.old.items ++ section id contents.now) }
+{
     out.push(id)?;
     write_bytes(out, contents)
 }
@@ -88,7 +95,9 @@ fn left_subsection(
     id: u8,
     contents: Input<'_>,
     out: &mut Vec<u8>,
-) -> Result<(), ModuleError> {
+) -> Result<(), ModuleError>
+    ensures { OnOk result ((bytes : List ℕ) × (out.new.items ≡ out.old.items ++ bytes)) }
+{
     if id == MODULE_NAME {
         return put_subsection(out, id, contents.rest());
     }
@@ -130,11 +139,13 @@ pub(crate) fn left_names(
     left: &LeftItems,
     code: &LeftCode,
     mut contents: Input<'_>,
-) -> Result<Vec<u8>, ModuleError> {
+) -> Result<Vec<u8>, ModuleError>
+    ensures { IfOk result (λ out. (subsections : List ℕ) × (out.items ≡ entry (codes "name") ++ subsections)) }
+{
     let mut out = Vec::new(alloc);
     done!(write_bytes(&mut out, b"name"));
     // A subsection has at least two bytes.
-    for _ in 0..contents.rest().len() {
+    'subsections: for _ in 0..contents.rest().len() {
         if contents.is_empty() {
             break;
         }

@@ -1,13 +1,14 @@
 //! A module without the items that are removed.
 
-ghost use Rattle.std.specs.Prelude.{◌≡◌, ◌++◌, OnOk};
+ghost use Rattle.std.specs.Prelude.{◌≡◌, ◌++◌, OnOk, IfOk};
 ghost use Rattle.wasm_sections.specs.Sections.{section, section_id};
+ghost use Rattle.module_removal.specs.LeftSections.{HasNoItems, WritesModule, IsModuleOfLeft};
 
 use crate::code::LeftCode;
 use crate::copier::Copier;
 use crate::counting::defined_space;
 use crate::declared::put_declarations;
-use crate::followed::is_metadata;
+use crate::followed::{is_metadata, is_names};
 use crate::item::{Item, ItemCounts};
 use crate::names::left_names;
 use crate::parts::{done, group_members};
@@ -49,15 +50,16 @@ fn put_section(out: &mut Vec<u8>, kind: SectionKind, contents: &[u8]) -> Result<
 }
 
 impl<'m> Writer<'m> {
-    ghost use Rattle.std.specs.Prelude.{◌≡◌, ◌++◌, ℕ, List, true, Ok, OnOk};
+    ghost use Rattle.std.specs.Prelude.{◌≡◌, ◌++◌, ℕ, List, Ok, OnOk, IfOk, codes};
     ghost use Rattle.item_sets.specs.ItemsLeft.{is_left, left_count};
     ghost use Rattle.wasm_operators.specs.declared.types.Space.TheVariants.{Types as OfTypes, Data as OfData, Funcs as OfFuncs};
-    ghost use Rattle.wasm_sections.specs.Sections.{section};
+    ghost use Rattle.wasm_sections.specs.Sections.{section, section_id, section_at};
     ghost use Rattle.module_removal.specs.ItemNumbers.{count_of, counted_more, with_more_items};
     ghost use Rattle.module_removal.specs.LeftSpaces.{marks_of, index_written};
     ghost use Rattle.module_removal.specs.CopiedParts.{Copied, copied_index};
-    ghost use Rattle.module_removal.specs.CopiedItems.{copied_export, copied_defined};
-    ghost use Rattle.module_removal.specs.Written.{data_count_section, group_mark, is_group_left, BeginsGroupIf, WritesIf, WritesNextItem, WritesImport, WritesType, WritesGroup};
+    ghost use Rattle.module_removal.specs.CopiedItems.{copied_defined};
+    ghost use Rattle.module_removal.specs.Written.{data_count_section, group_mark, is_group_left, BeginsGroupIf, WritesNextItem, WritesImport, WritesExport, WritesType, WritesGroup};
+    ghost use Rattle.module_removal.specs.LeftSections.{counted_items, items_section, section_of, HasNoItems, WritesBytes, WritesItem, WritesItems, DeclaresFunctions, WritesSegments, WritesSegmentsUnless, WritesSegmentsBefore, WritesContents, WritesSection, IsCustomNamed, WritesCustom, WritesAnySection};
     ghost use Rattle.module_removal.specs.SeveralSteps.{SoManySteps};
 
     /// Adds the item that was copied to those of the section.
@@ -82,7 +84,8 @@ impl<'m> Writer<'m> {
 
     /// An item of this space, if it is left.
     fn item(&mut self, space: Space, input: &mut Input<'_>) -> Result<(), ModuleError>
-        ensures { OnOk result (WritesNextItem space (λ w. copied_defined w space) input.old.end input.old.rest.now input.new.rest.now self.old self.new) }
+        ensures same_end { input.new.end ≡ input.old.end }
+        ensures is { OnOk result (WritesNextItem space (λ w. copied_defined w space) input.old.end input.old.rest.now input.new.rest.now self.old self.new) }
     {
         if self.is_next_left(space) {
             self.kept.clear();
@@ -112,7 +115,8 @@ impl<'m> Writer<'m> {
 
     /// An export: all are left.
     fn export(&mut self, input: &mut Input<'_>) -> Result<(), ModuleError>
-        ensures { OnOk result (WritesIf true copied_export input.old.end input.old.rest.now input.new.rest.now self.old self.new) }
+        ensures same_end { input.new.end ≡ input.old.end }
+        ensures is { OnOk result (WritesExport input.old.end input.old.rest.now input.new.rest.now self.old self.new) }
     {
         self.kept.clear();
         done!(self.kept.export(input));
@@ -188,26 +192,53 @@ impl<'m> Writer<'m> {
         self.members(members, input)
     }
 
-    /// The items of a section that are left.
-    fn items(&mut self, section: &Section<'_>) -> Result<(), ModuleError> {
-        let mut input = section.contents;
-        let count = done!(input.number());
-        for _ in 0..count {
-            match section.kind {
-                SectionKind::Type => done!(self.group(&mut input)),
-                SectionKind::Import => done!(self.import(&mut input)),
-                SectionKind::Export => done!(self.export(&mut input)),
-                kind => match defined_space(kind) {
-                    Some(space) => done!(self.item(space, &mut input)),
-                    None => return Ok(()),
-                },
-            }
+    /// An item of a section of this kind, if it is left.
+    fn one(&mut self, kind: SectionKind, input: &mut Input<'_>) -> Result<(), ModuleError>
+        ensures same_end { input.new.end ≡ input.old.end }
+        ensures is { OnOk result (WritesItem kind input.old.end (self.old, input.old.rest.now) (self.new, input.new.rest.now)) }
+    {
+        match kind {
+            SectionKind::Type => self.group(input),
+            SectionKind::Import => self.import(input),
+            SectionKind::Export => self.export(input),
+            kind => match defined_space(kind) {
+                Some(space) => self.item(space, input),
+                None => Ok(()),
+            },
+        }
+    }
+
+    /// So many items of a section of this kind, if they are left.
+    fn several(
+        &mut self,
+        kind: SectionKind,
+        count: u32,
+        input: &mut Input<'_>,
+    ) -> Result<(), ModuleError>
+        ensures same_end { input.new.end ≡ input.old.end }
+        ensures is { OnOk result (SoManySteps (WritesItem kind input.old.end) count (self.old, input.old.rest.now) (self.new, input.new.rest.now)) }
+    {
+        'items: for _ in 0..count {
+            done!(self.one(kind, input));
         }
         Ok(())
     }
 
+    /// The items of a section that are left.
+    fn items(&mut self, section: &Section<'_>) -> Result<(), ModuleError>
+        ensures { OnOk result (WritesItems section.now.kind section.now.contents.end section.now.contents.rest.now self.old self.new) }
+    {
+        let mut input = section.contents;
+        let count = done!(input.number());
+        self.several(section.kind, count, &mut input)
+    }
+
     /// The contents of a section with the items that were added; none if there are no items.
-    fn take_contents(&mut self) -> Result<Vec<u8>, ModuleError> {
+    fn take_contents(&mut self) -> Result<Vec<u8>, ModuleError>
+        ensures contents { IfOk result (λ contents. contents.items ≡ counted_items self.old.count self.old.items.items) }
+        ensures none { OnOk result (HasNoItems self.new) }
+        ensures same { self.new ≡ record self.old { items = self.new.items; count = self.new.count } }
+    {
         let mut contents = Vec::new(self.alloc);
         if self.count > 0 {
             done!(write_number(&mut contents, self.count));
@@ -219,42 +250,74 @@ impl<'m> Writer<'m> {
     }
 
     /// Writes the section with the items that were added, unless there are none.
-    fn finish(&mut self, kind: SectionKind) -> Result<(), ModuleError> {
+    fn finish(&mut self, kind: SectionKind) -> Result<(), ModuleError>
+        ensures { OnOk result (WritesBytes (section_of (section_id kind) self.old) self.old self.new) }
+    {
+        let count = self.count;
         let contents = done!(self.take_contents());
-        if contents.is_empty() {
+        if count == 0 {
             return Ok(());
         }
         put_section(&mut self.out, kind, &contents)
     }
 
     /// Writes the code section, unless no function with a body is left.
-    fn put_code(&mut self) -> Result<(), ModuleError> {
+    fn put_code(&mut self) -> Result<(), ModuleError>
+        ensures { HasNoItems self.old → OnOk result (WritesBytes (items_section 10 self.old.code.now.count self.old.code.now.bodies.items) self.old self.new) }
+    {
         let code = self.code;
-        if code.count == 0 {
-            return Ok(());
-        }
         self.items.extend_from_slice(&code.bodies)?;
         self.count = code.count;
         self.finish(SectionKind::Code)
     }
 
+    /// Adds a segment that declares functions, if there are some to declare.
+    fn declare(&mut self) -> Result<(), ModuleError>
+        ensures { OnOk result (DeclaresFunctions self.old self.new) }
+    {
+        let remainder = self.remainder;
+        if remainder.undeclared.is_empty() {
+            return Ok(());
+        }
+        done!(put_declarations(&remainder.undeclared, &remainder.left, &mut self.items));
+        self.count = self.count.saturating_add(1);
+        Ok(())
+    }
+
     /// Writes the element segments, with one more where functions have to be declared.
-    fn elements(&mut self) -> Result<(), ModuleError> {
+    fn put_elements(&mut self) -> Result<(), ModuleError>
+        ensures { OnOk result (WritesSegments self.old self.new) }
+    {
+        self.has_elements = true;
+        done!(self.declare());
+        self.finish(SectionKind::Element)
+    }
+
+    /// The same, if they weren't written yet.
+    fn elements(&mut self) -> Result<(), ModuleError>
+        ensures { OnOk result (WritesSegmentsUnless self.old.has_elements self.old self.new) }
+    {
         if self.has_elements {
             return Ok(());
         }
-        self.has_elements = true;
-        let remainder = self.remainder;
-        if !remainder.undeclared.is_empty() {
-            done!(put_declarations(&remainder.undeclared, &remainder.left, &mut self.items));
-            self.count = self.count.saturating_add(1);
+        self.put_elements()
+    }
+
+    /// The same before a section of this kind, if it comes after that of element segments.
+    fn elements_before(&mut self, kind: SectionKind) -> Result<(), ModuleError>
+        ensures { OnOk result (WritesSegmentsBefore kind self.old self.new) }
+    {
+        if kind.rank() <= SectionKind::Element.rank() {
+            return Ok(());
         }
-        self.finish(SectionKind::Element)
+        self.elements()
     }
 
     /// The start function.
     fn start(&mut self, mut input: Input<'_>) -> Result<(), ModuleError>
-        ensures { OnOk result ((copied : Copied) × (following : List ℕ)
+        ensures kept { OnOk result (self.new.kept.left ≡ self.old.kept.left) }
+        ensures same { self.new ≡ record self.old { kept = self.new.kept; out = self.new.out } }
+        ensures is { OnOk result ((copied : Copied) × (following : List ℕ)
             × (copied_index (index_written self.old.kept.left) OfFuncs input.entry.end input.entry.rest.now ≡ Ok ((tt, copied), following))
             × (self.new.out.items ≡ self.old.out.items ++ section 8 copied.written)) }
     {
@@ -265,7 +328,8 @@ impl<'m> Writer<'m> {
 
     /// The number of data segments, if there are any.
     fn data_count(&mut self) -> Result<(), ModuleError>
-        ensures { OnOk result (self.new.out.items
+        ensures same { self.new ≡ record self.old { out = self.new.out } }
+        ensures is { OnOk result (self.new.out.items
             ≡ self.old.out.items ++ data_count_section (left_count (marks_of self.old.remainder.now.left OfData))) }
     {
         let count = self.remainder.left.space(Space::Data).count();
@@ -278,7 +342,10 @@ impl<'m> Writer<'m> {
     }
 
     /// Metadata of code.
-    fn metadata(&mut self, name: &str, contents: Input<'_>) -> Result<(), ModuleError> {
+    fn metadata(&mut self, name: &str, contents: Input<'_>) -> Result<(), ModuleError>
+        ensures same { self.new ≡ record self.old { out = self.new.out } }
+        ensures is { OnOk result ((bytes : List ℕ) × (self.new.out.items ≡ self.old.out.items ++ bytes) × IsCustomNamed name.now bytes) }
+    {
         let left = &self.remainder.left;
         let mut made = Vec::new(self.alloc);
         done!(write_bytes(&mut made, name.as_bytes()));
@@ -287,8 +354,19 @@ impl<'m> Writer<'m> {
         put_section(&mut self.out, SectionKind::Custom, &made)
     }
 
+    /// The section of names.
+    fn names(&mut self, contents: Input<'_>) -> Result<(), ModuleError>
+        ensures same { self.new ≡ record self.old { out = self.new.out } }
+        ensures is { OnOk result ((bytes : List ℕ) × (self.new.out.items ≡ self.old.out.items ++ bytes) × IsCustomNamed (codes "name") bytes) }
+    {
+        let names = done!(left_names(self.alloc, &self.remainder.left, self.code, contents));
+        put_section(&mut self.out, SectionKind::Custom, &names)
+    }
+
     /// A custom section: names and metadata of code follow; debug information is left out, since its places don't.
-    fn custom(&mut self, section: &Section<'_>) -> Result<(), ModuleError> {
+    fn custom(&mut self, section: &Section<'_>) -> Result<(), ModuleError>
+        ensures { HasNoItems self.old → OnOk result (WritesCustom (section_at section.now) self.old self.new) }
+    {
         let (name, contents) = done!(section.named_input());
         if names_object(name) {
             return Err(ModuleError {
@@ -299,9 +377,8 @@ impl<'m> Writer<'m> {
         if names_debug(name) {
             return Ok(());
         }
-        if name == "name" {
-            let names = done!(left_names(self.alloc, &self.remainder.left, self.code, contents));
-            return put_section(&mut self.out, SectionKind::Custom, &names);
+        if is_names(name) {
+            return self.names(contents);
         }
         if is_metadata(name) {
             return self.metadata(name, contents);
@@ -310,18 +387,17 @@ impl<'m> Writer<'m> {
         Ok(())
     }
 
-    /// A section that isn't custom.
-    fn section(&mut self, section: &Section<'_>) -> Result<(), ModuleError> {
-        if section.kind.rank() > SectionKind::Element.rank() {
-            done!(self.elements());
-        }
+    /// A section that isn't custom, in its place.
+    fn contents(&mut self, section: &Section<'_>) -> Result<(), ModuleError>
+        ensures { HasNoItems self.old → OnOk result (WritesContents section.now.kind section.now.contents.end section.now.contents.rest.now self.old self.new) }
+    {
         match section.kind {
             SectionKind::Start => self.start(section.contents),
             SectionKind::DataCount => self.data_count(),
             SectionKind::Code => self.put_code(),
             SectionKind::Element => {
                 done!(self.items(section));
-                self.elements()
+                self.put_elements()
             }
             kind => {
                 done!(self.items(section));
@@ -329,17 +405,35 @@ impl<'m> Writer<'m> {
             }
         }
     }
+
+    /// A section that isn't custom, after that of element segments if it comes before this one.
+    fn section(&mut self, section: &Section<'_>) -> Result<(), ModuleError>
+        ensures { HasNoItems self.old → OnOk result (WritesSection section.now.kind section.now.contents.end section.now.contents.rest.now self.old self.new) }
+    {
+        done!(self.elements_before(section.kind));
+        self.contents(section)
+    }
+
+    /// A section.
+    fn any_section(&mut self, section: &Section<'_>) -> Result<(), ModuleError>
+        ensures { HasNoItems self.old → OnOk result (WritesAnySection section.now.kind (section_at section.now) self.old self.new) }
+    {
+        match section.kind {
+            SectionKind::Custom => self.custom(section),
+            _ => self.section(section),
+        }
+    }
 }
 
 /// Writes all sections.
-fn write_all(bytes: &[u8], writer: &mut Writer<'_>) -> Result<(), ModuleError> {
+fn write_all(bytes: &[u8], writer: &mut Writer<'_>) -> Result<(), ModuleError>
+    ensures { HasNoItems writer.old → OnOk result (WritesModule bytes.now writer.old writer.new) }
+{
     writer.out.extend_from_slice(&PREAMBLE)?;
-    for section in done!(Sections::new(bytes)) {
+    let sections = done!(Sections::new(bytes));
+    'sections: for section in sections {
         let section = done!(section);
-        match section.kind {
-            SectionKind::Custom => done!(writer.custom(&section)),
-            _ => done!(writer.section(&section)),
-        }
+        done!(writer.any_section(&section));
     }
     writer.elements()
 }
@@ -355,12 +449,14 @@ pub fn remove(
     bytes: &[u8],
     remainder: &Remainder,
     code: &LeftCode,
-) -> Result<Vec<u8>, ModuleError> {
+) -> Result<Vec<u8>, ModuleError>
+    ensures { IfOk result (λ new. IsModuleOfLeft remainder.now code.now bytes.now new.items) }
+{
     let mut writer = Writer {
         alloc,
         remainder,
         code,
-        next: ItemCounts::default(),
+        next: ItemCounts::none(),
         kept: Copier::renumbering(alloc, &remainder.left),
         passed: Copier::finding(alloc),
         items: Vec::new(alloc),
