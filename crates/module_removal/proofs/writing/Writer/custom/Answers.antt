@@ -1,4 +1,4 @@
-use Rattle.std.proofs.Common.{ℕ, List, [], Bool, true, false, codes, refl, sym, subst, ◌∙◌}
+use Rattle.std.proofs.Common.{ℕ, List, [], true, false, refl, sym, subst, ◌∙◌}
 use Rattle.wasm_sections.specs.Sections.{section_at}
 use Rattle.module_removal.specs.declared.writing.Writer.{Writer}
 use Rattle.module_removal.specs.LeftSections.{names_names, names_metadata, follows_code, IsCustomNamed}
