@@ -1,6 +1,7 @@
 //! Why debug information isn't moved.
 
 ghost use Rattle.std.specs.Prelude.{◌≡◌, Ok, Err, IfOk, IfErr};
+ghost use Rattle.dwarf_bytes.specs.declared.fault.DebugError.TheVariants.{Fault};
 
 use crate::sections::SectionName;
 use dwarf_bytes::{DebugError, DebugFault};
@@ -18,7 +19,10 @@ pub struct DebugFailure {
 
 impl DebugFailure {
     /// A fault of a section.
-    pub(crate) fn fault(section: SectionName, fault: DebugFault) -> DebugFailure {
+    pub(crate) fn fault(section: SectionName, fault: DebugFault) -> DebugFailure
+        ensures section { result.section ≡ section }
+        ensures fault { result.error ≡ Fault fault }
+    {
         DebugFailure {
             section,
             error: DebugError::Fault(fault),

@@ -1,5 +1,9 @@
 //! Moving the sections of debug information.
 
+ghost use Rattle.std.specs.Prelude.{◌≡◌, ◌⊎◌, ◌++◌, ◌∷◌, [], Err, option_map, MatchResult, OnOk, IfErr};
+ghost use Rattle.dwarf_bytes.specs.declared.fault.DebugError.TheVariants.{Memory};
+ghost use Rattle.dwarf.specs.Sections.{moved_contents, IsFirstNamed};
+
 use crate::address_ranges::move_address_ranges;
 use crate::failure::{DebugFailure, within};
 use crate::lists::{ListKind, ListSection};
@@ -30,8 +34,10 @@ pub struct MovedSections {
 
 impl MovedSections {
     /// The new contents of a section; None if they are those of the source.
-    pub fn contents_of(&self, name: SectionName) -> Option<&[u8]> {
-        for section in &self.sections {
+    pub fn contents_of(&self, name: SectionName) -> Option<&[u8]>
+        ensures { IsFirstNamed (moved_contents self.now.sections.items) name (option_map (λ bytes. bytes.now) result) }
+    {
+        'sections: for section in &self.sections {
             if section.name == name {
                 return Some(section.contents.as_slice());
             }
@@ -44,7 +50,11 @@ impl MovedSections {
         &mut self,
         name: SectionName,
         contents: Result<Vec<u8>, DebugError>,
-    ) -> Result<(), DebugFailure> {
+    ) -> Result<(), DebugFailure>
+        ensures added { OnOk result (MatchResult contents
+            (λ bytes. moved_contents self.new.sections.items ≡ moved_contents self.old.sections.items ++ (name, bytes.items) ∷ []) (λ e. ⊥)) }
+        ensures refused { IfErr result (λ e. (e.section ≡ name) × ((e.error ≡ Memory) ⊎ (contents ≡ Err e.error))) }
+    {
         let contents = within(name, contents)?;
         match self.sections.push(MovedSection { name, contents }) {
             Ok(()) => Ok(()),

@@ -1,12 +1,21 @@
 //! The index of names (DWARF 5, section 6.1.1), where entries are at other places.
 
-ghost use Rattle.std.specs.Prelude.{◌≡◌, ◌-◌, ◌<◌, ◌≤◌, length, IfOk, OnOk};
+ghost use Rattle.std.specs.Prelude.{ℕ, ◌≡◌, ◌+◌, ◌-◌, ◌<◌, ◌≤◌, ◌⊎◌, ◌==◌, List, length, None, Ok, Err, IfSome, IfOk, IfErr, OnOk};
 ghost use Rattle.wasm_numbers.specs.Results.{Gives};
+ghost use Rattle.dwarf_bytes.specs.declared.fault.DebugFault.{DebugFault as AFault};
+ghost use Rattle.dwarf_bytes.specs.declared.fault.DebugError.TheVariants.{Memory, Fault};
+ghost use Rattle.dwarf_bytes.specs.Numbers.{size_in_bytes, fixed_number};
+ghost use Rattle.dwarf_bytes.specs.Patches.{changes};
+ghost use Rattle.dwarf_line.specs.Repeated.{all_values};
+ghost use Rattle.dwarf.specs.IndexEntries.{placed_value, target_with, target_from, no_target, number_of_list, compile_unit_of, unit_with, offset_written, offset_in_unit_followed, target_followed, entry_followed, from_offset, name_entries_followed, once, all_names_followed, unit_offsets_followed, spelled_index_followed, index_followed, name_index_followed};
 ghost use Rattle.dwarf.specs.NameIndex.{augmentation_passed, index_counts, numbers_part, hashes_passed, index_parts, spelled_index};
-ghost use Rattle.dwarf.specs.NameIndexViews.{counts_of, index_spelled};
+ghost use Rattle.dwarf.specs.NameIndexViews.{counts_of, placed_bytes, index_spelled, index_following};
+ghost use Rattle.dwarf.specs.Sorting.{sorted_by};
 
-use crate::index_abbreviations::{IndexAbbreviations, IndexAttribute, IndexForm, IndexMeaning};
-use crate::replacing::follow_unit_offset;
+use crate::index_abbreviations::{
+    IndexAbbreviations, IndexAttribute, IndexForm, IndexMeaning, repeats_number,
+};
+use crate::replacing::{follow_unit_offset, replaced};
 use dwarf_bytes::{Cursor, DebugError, DebugFault, Patches, Size, write_padded, write_sized};
 use dwarf_info::moved_distance;
 use std::alloc::Global;
@@ -83,10 +92,15 @@ fn numbers<'a>(table: &mut Cursor<'a>, count: u64, size: Size) -> Result<Cursor<
 /// # Errors
 ///
 /// `BadOffset` if the list has fewer.
-fn number_at(list: Cursor<'_>, index: u64, size: Size) -> Result<u64, DebugFault> {
+fn number_at(list: Cursor<'_>, index: u64, size: Size) -> Result<u64, DebugFault>
+    ensures { result ≡ number_of_list list.entry.rest.now index size }
+{
     let mut left = list;
-    match numbers(&mut left, index, size) {
-        Ok(_) => left.sized(size).map_err(|_| DebugFault::BadOffset),
+    if numbers(&mut left, index, size).is_err() {
+        return Err(DebugFault::BadOffset);
+    }
+    match left.sized(size) {
+        Ok(number) => Ok(number),
         Err(_) => Err(DebugFault::BadOffset),
     }
 }
@@ -189,8 +203,27 @@ impl<'a> NameIndex<'a> {
     }
 
     /// Whether all entries are in one compile unit, so that none has to say which.
-    fn has_one_compile_unit(&self) -> bool {
+    fn has_one_compile_unit(&self) -> bool
+        ensures { result ≡ (length self.now.compile_units.rest.now == size_in_bytes self.now.size) }
+    {
         self.compile_units.rest().len() == self.size.bytes()
+    }
+
+    /// The offset of the compile unit that an entry is in, which names it or not.
+    ///
+    /// # Errors
+    ///
+    /// `BadOffset` if there is no such unit; `Unsupported` if the entry doesn't say in which of several it is.
+    fn compile_unit(&self, index: Option<u64>) -> Result<Option<u64>, DebugFault>
+        ensures { result ≡ compile_unit_of (index_spelled self.now) index }
+    {
+        let index = match index {
+            Some(index) => index,
+            None if self.has_one_compile_unit() => 0,
+            None => return Err(DebugFault::Unsupported),
+        };
+        let unit = number_at(self.compile_units, index, self.size)?;
+        Ok(Some(unit))
     }
 
     /// The offset of the unit that an entry is in; None if that is in another file.
@@ -198,32 +231,93 @@ impl<'a> NameIndex<'a> {
     /// # Errors
     ///
     /// `BadOffset` if there is no such unit; `Unsupported` if the entry doesn't say in which of several it is.
-    fn unit_of(&self, target: &Target) -> Result<Option<u64>, DebugFault> {
-        let (list, index) = match (target.type_unit, target.compile_unit) {
-            (Some(index), _) if index < self.type_unit_count => (self.type_units, index),
-            (Some(index), _) if index.saturating_sub(self.type_unit_count) < self.foreign => {
-                return Ok(None);
-            }
-            (Some(_), _) => return Err(DebugFault::BadOffset),
-            (None, Some(index)) => (self.compile_units, index),
-            (None, None) if self.has_one_compile_unit() => (self.compile_units, 0),
-            (None, None) => return Err(DebugFault::Unsupported),
+    fn unit_of(&self, target: &Target) -> Result<Option<u64>, DebugFault>
+        ensures { result ≡ unit_with (index_spelled self.now) target.now.type_unit target.now.compile_unit }
+    {
+        let Some(index) = target.type_unit else {
+            return self.compile_unit(target.compile_unit);
         };
-        let unit = number_at(list, index, self.size)?;
-        Ok(Some(unit))
+        if index < self.type_unit_count {
+            let unit = number_at(self.type_units, index, self.size)?;
+            return Ok(Some(unit));
+        }
+        if index - self.type_unit_count < self.foreign {
+            return Ok(None);
+        }
+        Err(DebugFault::BadOffset)
     }
 
-    /// Where the entries of each name begin in the pool, ascending.
-    fn sorted_names(&self, alloc: Global) -> Result<Vec<u64>, DebugError> {
+    /// Where the entries of each name begin in the pool.
+    fn read_names(&self, alloc: Global) -> Result<Vec<u64>, DebugError>
+        ensures read { IfOk result (λ v. all_values (fixed_number (size_in_bytes self.now.size)) self.now.names.rest.now ≡ Ok v.items) }
+        ensures refused { IfErr result (λ e. (e ≡ Memory) ⊎ ((fault : AFault) × (e ≡ Fault fault)
+            × (all_values (fixed_number (size_in_bytes self.now.size)) self.now.names.rest.now ≡ Err fault))) }
+    {
         let mut offsets = Vec::new(alloc);
         let mut left = self.names;
-        while !left.is_empty() {
+        'names: while !left.is_empty() {
             let offset = left.sized(self.size)?;
             offsets.push(offset)?;
         }
+        Ok(offsets)
+    }
+
+    /// The same, ascending.
+    fn sorted_names(&self, alloc: Global) -> Result<Vec<u64>, DebugError>
+        ensures read { IfOk result (λ v. (os : List ℕ)
+            × (all_values (fixed_number (size_in_bytes self.now.size)) self.now.names.rest.now ≡ Ok os) × (v.items ≡ sorted_by (λ n. n) os)) }
+        ensures refused { IfErr result (λ e. (e ≡ Memory) ⊎ ((fault : AFault) × (e ≡ Fault fault)
+            × (all_values (fixed_number (size_in_bytes self.now.size)) self.now.names.rest.now ≡ Err fault))) }
+    {
+        let mut offsets = self.read_names(alloc)?;
         offsets.sort()?;
         Ok(offsets)
     }
+}
+
+/// Reads a value.
+///
+/// # Errors
+///
+/// `Truncated` or `BadNumber`.
+fn read_value(form: IndexForm, input: &mut Cursor<'_>) -> Result<PlacedNumber, DebugFault>
+    ensures gives { Gives (λ n. (n, input.new.rest.now)) result (placed_value input.old.end form input.old.rest.now) }
+    ensures fits { IfOk result (λ n. n.at + n.width ≤ usize.MAX) }
+    ensures end { input.new.end ≡ input.old.end }
+    ensures shorter { length input.new.rest.now ≤ length input.old.rest.now }
+{
+    let at = input.at();
+    let number = form.read(input)?;
+    let width = input.at().saturating_sub(at);
+    Ok(PlacedNumber {
+        at,
+        width,
+        form,
+        number,
+    })
+}
+
+/// What an entry says, with one more value.
+///
+/// # Errors
+///
+/// `Unsupported` if it has two offsets.
+fn with_value(
+    target: Target,
+    meaning: IndexMeaning,
+    value: PlacedNumber,
+) -> Result<Target, DebugFault>
+    ensures { result ≡ target_with target meaning value }
+{
+    let mut target = target;
+    match meaning {
+        IndexMeaning::CompileUnit => target.compile_unit = Some(value.number),
+        IndexMeaning::TypeUnit => target.type_unit = Some(value.number),
+        IndexMeaning::Entry if target.offset.is_some() => return Err(DebugFault::Unsupported),
+        IndexMeaning::Entry => target.offset = Some(value),
+        IndexMeaning::Other => {}
+    }
+    Ok(target)
 }
 
 /// Reads what an entry of an index says of the entry that it leads to.
@@ -232,34 +326,41 @@ impl<'a> NameIndex<'a> {
 ///
 /// `Truncated` or `BadNumber`; `Unsupported` if it has two offsets.
 fn read_target(attributes: &[IndexAttribute], input: &mut Cursor<'_>) -> Result<Target, DebugFault>
-    ensures { length input.new.rest.now ≤ length input.old.rest.now }
+    ensures gives { Gives (λ t. (t, input.new.rest.now)) result (target_from input.old.end attributes.now no_target input.old.rest.now) }
+    ensures fits { IfOk result (λ t. IfSome t.offset (λ n. n.at + n.width ≤ usize.MAX)) }
+    ensures end { input.new.end ≡ input.old.end }
+    ensures shorter { length input.new.rest.now ≤ length input.old.rest.now }
 {
     let mut target = Target {
         compile_unit: None,
         type_unit: None,
         offset: None,
     };
-    for attribute in attributes {
-        let at = input.at();
-        let form = attribute.form;
-        let number = form.read(input)?;
-        match attribute.meaning {
-            IndexMeaning::CompileUnit => target.compile_unit = Some(number),
-            IndexMeaning::TypeUnit => target.type_unit = Some(number),
-            IndexMeaning::Entry if target.offset.is_some() => return Err(DebugFault::Unsupported),
-            IndexMeaning::Entry => {
-                let width = input.at().saturating_sub(at);
-                target.offset = Some(PlacedNumber {
-                    at,
-                    width,
-                    form,
-                    number,
-                });
-            }
-            IndexMeaning::Other => {}
-        }
+    'attributes: for attribute in attributes {
+        let value = read_value(attribute.form, input)?;
+        target = with_value(target, attribute.meaning, value)?;
     }
     Ok(target)
+}
+
+/// Writes an offset in the form that it has.
+///
+/// # Errors
+///
+/// `DoesNotFit` if it is too great; out of memory.
+fn write_offset(scratch: &mut Vec<u8>, offset: PlacedNumber, new: u64) -> Result<(), DebugError>
+    ensures written { OnOk result (offset_written offset.form offset.width new ≡ Ok scratch.new.items) }
+    ensures refused { IfErr result (λ e. (e ≡ Memory) ⊎ ((fault : AFault) × (e ≡ Fault fault)
+        × (offset_written offset.form offset.width new ≡ Err fault))) }
+{
+    scratch.clear();
+    match offset.form {
+        IndexForm::Sized(size) => write_sized(scratch, size, new),
+        IndexForm::Unsigned => {
+            write_padded(scratch, new, offset.width)?;
+            Ok(())
+        }
+    }
 }
 
 /// An index, and what its offsets follow.
@@ -271,22 +372,7 @@ struct Following<'a> {
     info: &'a Patches,
 }
 
-impl Following<'_> {
-    /// Moves the offsets of units in a list.
-    fn follow_units(
-        &self,
-        list: Cursor<'_>,
-        scratch: &mut Vec<u8>,
-        out: &mut Patches,
-    ) -> Result<(), DebugError> {
-        let size = self.index.size;
-        let mut left = list;
-        while !left.is_empty() {
-            follow_unit_offset(&mut left, size, self.info, scratch, out)?;
-        }
-        Ok(())
-    }
-
+impl<'a> Following<'a> {
     /// Moves the offset of an entry, counted from its unit.
     fn follow_offset(
         &self,
@@ -294,21 +380,21 @@ impl Following<'_> {
         offset: PlacedNumber,
         scratch: &mut Vec<u8>,
         out: &mut Patches,
-    ) -> Result<(), DebugError> {
-        let unit = usize::try_from(unit).map_err(|_| DebugFault::BadOffset)?;
-        let new = moved_distance(self.info, unit, offset.number)?;
+    ) -> Result<(), DebugError>
+        requires { offset.at + offset.width ≤ usize.MAX }
+        ensures followed { OnOk result (offset_in_unit_followed (changes self.now.info.now) unit offset (changes out.old) ≡ Ok (changes out.new)) }
+        ensures refused { IfErr result (λ e. (e ≡ Memory) ⊎ ((fault : AFault) × (e ≡ Fault fault)
+            × (offset_in_unit_followed (changes self.now.info.now) unit offset (changes out.old) ≡ Err fault))) }
+    {
+        let new = moved_distance(self.info, unit as usize, offset.number)?;
         if new == offset.number {
             return Ok(());
         }
-        scratch.clear();
-        match offset.form {
-            IndexForm::Sized(size) => write_sized(scratch, size, new)?,
-            IndexForm::Unsigned => write_padded(scratch, new, offset.width)?,
+        write_offset(scratch, offset, new)?;
+        if scratch.len() != offset.width {
+            return Err(DebugError::Fault(DebugFault::DoesNotFit));
         }
-        match scratch.len() == offset.width {
-            true => out.push(offset.at, offset.width, scratch),
-            false => Err(DebugError::Fault(DebugFault::DoesNotFit)),
-        }
+        out.push(offset.at, offset.width, scratch)
     }
 
     /// Moves the offset of an entry that an entry of the pool leads to.
@@ -319,13 +405,36 @@ impl Following<'_> {
         scratch: &mut Vec<u8>,
         out: &mut Patches,
     ) -> Result<(), DebugError>
-        ensures { length input.new.rest.now ≤ length input.old.rest.now }
+        requires { input.old.end ≡ self.now.index.pool.end }
+        ensures followed { OnOk result (entry_followed (index_following self.now) attributes.now input.old.rest.now (changes out.old)
+            ≡ Ok (changes out.new, input.new.rest.now)) }
+        ensures refused { IfErr result (λ e. (e ≡ Memory) ⊎ ((fault : AFault) × (e ≡ Fault fault)
+            × (entry_followed (index_following self.now) attributes.now input.old.rest.now (changes out.old) ≡ Err fault))) }
+        ensures end { input.new.end ≡ input.old.end }
+        ensures shorter { length input.new.rest.now ≤ length input.old.rest.now }
     {
         let target = read_target(attributes, input)?;
-        match (target.offset, self.index.unit_of(&target)?) {
+        let unit = self.index.unit_of(&target)?;
+        match (target.offset, unit) {
             (Some(offset), Some(unit)) => self.follow_offset(unit, offset, scratch, out),
             _ => Ok(()),
         }
+    }
+
+    /// The pool from this offset on.
+    ///
+    /// # Errors
+    ///
+    /// `BadOffset` if it ends before.
+    fn from_offset(&self, offset: u64) -> Result<Cursor<'a>, DebugFault>
+        ensures gives { Gives (λ x. x.rest.now) result (from_offset (index_spelled self.now.index) offset) }
+        ensures end { IfOk result (λ x. x.end ≡ self.now.index.pool.end) }
+    {
+        let mut left = self.index.pool;
+        if left.part(offset).is_err() {
+            return Err(DebugFault::BadOffset);
+        }
+        Ok(left)
     }
 
     /// Moves the offsets of the entries of a name, which begin at this offset in the pool. Returns the offset at which they end.
@@ -334,10 +443,13 @@ impl Following<'_> {
         offset: u64,
         scratch: &mut Vec<u8>,
         out: &mut Patches,
-    ) -> Result<u64, DebugError> {
-        let mut left = self.index.pool;
-        left.part(offset).map_err(|_| DebugFault::BadOffset)?;
-        while !left.is_empty() {
+    ) -> Result<u64, DebugError>
+        ensures followed { IfOk result (λ end. name_entries_followed (index_following self.now) offset (changes out.old) ≡ Ok (changes out.new, end)) }
+        ensures refused { IfErr result (λ e. (e ≡ Memory) ⊎ ((fault : AFault) × (e ≡ Fault fault)
+            × (name_entries_followed (index_following self.now) offset (changes out.old) ≡ Err fault))) }
+    {
+        let mut left = self.from_offset(offset)?;
+        'entries: while !left.is_empty() {
             let code = left.unsigned()?;
             if code == 0 {
                 let size = self.index.pool.rest().len();
@@ -355,21 +467,67 @@ impl Following<'_> {
         names: &[u64],
         scratch: &mut Vec<u8>,
         out: &mut Patches,
-    ) -> Result<(), DebugError> {
-        let mut last = None;
+    ) -> Result<(), DebugError>
+        ensures followed { OnOk result (all_names_followed (index_following self.now) 0 (once None names.now) (changes out.old) ≡ Ok (changes out.new)) }
+        ensures refused { IfErr result (λ e. (e ≡ Memory) ⊎ ((fault : AFault) × (e ≡ Fault fault)
+            × (all_names_followed (index_following self.now) 0 (once None names.now) (changes out.old) ≡ Err fault))) }
+    {
+        let mut before = None;
         let mut end = 0;
-        for offset in names {
-            if last == Some(*offset) {
-                continue;
+        'names: for offset in names {
+            if !repeats_number(before, *offset) {
+                if *offset < end {
+                    return Err(DebugError::Fault(DebugFault::Overlap));
+                }
+                end = self.follow_name(*offset, scratch, out)?;
             }
-            if *offset < end {
-                return Err(DebugError::Fault(DebugFault::Overlap));
-            }
-            end = self.follow_name(*offset, scratch, out)?;
-            last = Some(*offset);
+            before = Some(*offset);
         }
         Ok(())
     }
+}
+
+/// Moves the offsets of units in a list.
+fn follow_units(
+    list: Cursor<'_>,
+    size: Size,
+    info: &Patches,
+    scratch: &mut Vec<u8>,
+    out: &mut Patches,
+) -> Result<(), DebugError>
+    ensures followed { OnOk result (unit_offsets_followed (changes info.now) size (placed_bytes list.entry) (changes out.old) ≡ Ok (changes out.new)) }
+    ensures refused { IfErr result (λ e. (e ≡ Memory) ⊎ ((fault : AFault) × (e ≡ Fault fault)
+        × (unit_offsets_followed (changes info.now) size (placed_bytes list.entry) (changes out.old) ≡ Err fault))) }
+{
+    let mut left = list;
+    'units: while !left.is_empty() {
+        follow_unit_offset(&mut left, size, info, scratch, out)?;
+    }
+    Ok(())
+}
+
+/// Moves the offsets of an index.
+fn follow_parts(
+    alloc: Global,
+    index: NameIndex<'_>,
+    info: &Patches,
+    scratch: &mut Vec<u8>,
+    out: &mut Patches,
+) -> Result<(), DebugError>
+    ensures followed { OnOk result (spelled_index_followed (changes info.now) (index_spelled index.entry) (changes out.old) ≡ Ok (changes out.new)) }
+    ensures refused { IfErr result (λ e. (e ≡ Memory) ⊎ ((fault : AFault) × (e ≡ Fault fault)
+        × (spelled_index_followed (changes info.now) (index_spelled index.entry) (changes out.old) ≡ Err fault))) }
+{
+    let abbreviations = IndexAbbreviations::read(alloc, index.abbreviations)?;
+    let names = index.sorted_names(alloc)?;
+    follow_units(index.compile_units, index.size, info, scratch, out)?;
+    follow_units(index.type_units, index.size, info, scratch, out)?;
+    let following = Following {
+        index,
+        abbreviations: &abbreviations,
+        info,
+    };
+    following.follow_names(&names, scratch, out)
 }
 
 /// Moves the offsets of the next index.
@@ -380,19 +538,15 @@ fn follow_index(
     scratch: &mut Vec<u8>,
     out: &mut Patches,
 ) -> Result<(), DebugError>
-    ensures { OnOk result (length input.new.rest.now < length input.old.rest.now) }
+    ensures followed { OnOk result (index_followed (changes info.now) input.old.end input.old.rest.now (changes out.old)
+        ≡ Ok (changes out.new, input.new.rest.now)) }
+    ensures refused { IfErr result (λ e. (e ≡ Memory) ⊎ ((fault : AFault) × (e ≡ Fault fault)
+        × (index_followed (changes info.now) input.old.end input.old.rest.now (changes out.old) ≡ Err fault))) }
+    ensures end { input.new.end ≡ input.old.end }
+    ensures shorter { OnOk result (length input.new.rest.now < length input.old.rest.now) }
 {
     let index = NameIndex::read(input)?;
-    let abbreviations = IndexAbbreviations::read(alloc, index.abbreviations)?;
-    let names = index.sorted_names(alloc)?;
-    let following = Following {
-        index,
-        abbreviations: &abbreviations,
-        info,
-    };
-    following.follow_units(index.compile_units, scratch, out)?;
-    following.follow_units(index.type_units, scratch, out)?;
-    following.follow_names(&names, scratch, out)
+    follow_parts(alloc, index, info, scratch, out)
 }
 
 /// What becomes of the section, where these parts of `.debug_info` are replaced: the offsets of units and of entries follow. The lists of
@@ -406,12 +560,16 @@ pub(crate) fn follow_name_index(
     alloc: Global,
     section: &[u8],
     info: &Patches,
-) -> Result<Vec<u8>, DebugError> {
+) -> Result<Vec<u8>, DebugError>
+    ensures followed { IfOk result (λ bytes. name_index_followed (changes info.now) section.now ≡ Ok bytes.items) }
+    ensures refused { IfErr result (λ e. (e ≡ Memory) ⊎ ((fault : AFault) × (e ≡ Fault fault)
+        × (name_index_followed (changes info.now) section.now ≡ Err fault))) }
+{
     let mut out = Patches::new(alloc);
     let mut scratch = Vec::new(alloc);
     let mut input = Cursor::new(section);
-    while !input.is_empty() {
+    'indices: while !input.is_empty() {
         follow_index(alloc, &mut input, info, &mut scratch, &mut out)?;
     }
-    out.apply(alloc, section)
+    replaced(alloc, section, &out)
 }

@@ -1,5 +1,10 @@
 //! The sections of debug information, by their names.
 
+ghost use Rattle.std.specs.Prelude.{◌≡◌, ◌⊎◌, [], OnOk, OnErr, IfErr};
+ghost use Rattle.dwarf_bytes.specs.declared.fault.DebugError.TheVariants.{Memory, Fault};
+ghost use Rattle.dwarf_bytes.specs.declared.fault.DebugFault.TheVariants as faults;
+ghost use Rattle.dwarf.specs.Sections.{contents_by_name, AreContents, IsSectionAdded, IsSectionRefused};
+
 use crate::failure::DebugFailure;
 use dwarf_bytes::{DebugError, DebugFault};
 use std::alloc::Global;
@@ -111,15 +116,19 @@ pub struct DebugSections<'a> {
 
 impl<'a> DebugSections<'a> {
     /// No sections.
-    pub fn new(alloc: Global) -> DebugSections<'a> {
+    pub fn new(alloc: Global) -> DebugSections<'a>
+        ensures { contents_by_name result.sections.items ≡ [] }
+    {
         DebugSections {
             sections: Vec::new(alloc),
         }
     }
 
     /// The contents of a section; none if there is no such section.
-    pub fn get(&self, name: SectionName) -> &'a [u8] {
-        for section in &self.sections {
+    pub fn get(&self, name: SectionName) -> &'a [u8]
+        ensures { AreContents (contents_by_name self.now.sections.items) name result.now }
+    {
+        'sections: for section in &self.sections {
             if section.name == name {
                 return section.contents;
             }
@@ -132,7 +141,12 @@ impl<'a> DebugSections<'a> {
     /// # Errors
     ///
     /// `Unsupported` if there is one of this name, which isn't empty, or if the section isn't read; out of memory.
-    pub fn add(&mut self, name: SectionName, contents: &'a [u8]) -> Result<(), DebugFailure> {
+    pub fn add(&mut self, name: SectionName, contents: &'a [u8]) -> Result<(), DebugFailure>
+        ensures added { OnOk result (IsSectionAdded name contents.now (contents_by_name self.old.sections.items) (contents_by_name self.new.sections.items)) }
+        ensures refused { IfErr result (λ e. (e.section ≡ name) × ((e.error ≡ Memory)
+            ⊎ ((e.error ≡ Fault faults.Unsupported) × IsSectionRefused name (contents_by_name self.old.sections.items)))) }
+        ensures unchanged { OnErr result (contents_by_name self.new.sections.items ≡ contents_by_name self.old.sections.items) }
+    {
         if name == SectionName::Unmoved {
             return Ok(());
         }

@@ -1,5 +1,9 @@
 use Rattle.std.proofs.Common.{length}
+use Rattle.dwarf.proofs.IndexTables.{TableSoFar}
 use Rattle.dwarf.proofs.index_abbreviations.read_table.Given as goal
 
-abbrev pub decreases-loop-input : goal.decreases-loop-input
-decreases-loop-input l = length l.input.rest.now
+abbrev pub invariant-declarations : goal.invariant-declarations
+invariant-declarations l = TableSoFar l.fn.input.rest.now l.left.rest.now l.abbreviations.items l.attributes.items
+
+abbrev pub decreases-declarations : goal.decreases-declarations
+decreases-declarations l = length l.left.rest.now
