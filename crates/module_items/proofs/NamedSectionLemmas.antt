@@ -4,13 +4,13 @@ use Rattle.wasm_sections.specs.declared.sections.Section.{Section}
 use Rattle.wasm_sections.specs.declared.sections.Sections.{Sections}
 use Rattle.wasm_sections.specs.Sections.{preamble, SectionAt, AreSections, IsModule, section_at, TakesSection}
 use Rattle.wasm_sections.proofs.ViewLemmas.{first_left, nothing_left}
-use Rattle.module_items.specs.CustomSections.{IsNamed, IsFirstNamed}
+use Rattle.module_items.specs.CustomSections.{IsCustomSection, IsFirstCustom}
 
 -- The first section with this name is among those that are left.
 pub record NamedSoFar (all : List SectionAt) (name : List ℕ) (s : Sections) : Type 0 where
   pub left : List SectionAt
   pub are_left : AreSections s.left.end s.left.rest.now left
-  pub back : (contents : Option (List ℕ)) → IsFirstNamed name left contents → IsFirstNamed name all contents
+  pub back : (contents : Option (List ℕ)) → IsFirstCustom name left contents → IsFirstCustom name all contents
 
 pub no_section_passed :
     (file : List ℕ) (all : List SectionAt) (name : List ℕ) (s : Sections) → IsModule file all → file ≡ preamble ++ s.left.rest.now → s.left.end ≡ length file →
@@ -26,25 +26,25 @@ module _ (all : List SectionAt) (name : List ℕ) (s t : Sections) (x : Section)
       let f = first_left s.left.end s.left.rest.now p.left (section_at x) t.left.rest.now p.are_left takes.0 in
       (f.0, f.1, subst (λ (n : ℕ). AreSections n t.left.rest.now f.0) (sym takes.1) f.2)
 
-  after : (ys : List SectionAt) → IsNamed name (section_at x) None → (contents : Option (List ℕ)) → IsFirstNamed name ys contents
-      → IsFirstNamed name (section_at x ∷ ys) contents
+  after : (ys : List SectionAt) → IsCustomSection name (section_at x) None → (contents : Option (List ℕ)) → IsFirstCustom name ys contents
+      → IsFirstCustom name (section_at x ∷ ys) contents
   after ys other None h = (other, h)
   after ys other (Some c) h = inr (other, h)
 
-  pub one_passed : IsNamed name (section_at x) None → NamedSoFar all name t
+  pub one_passed : IsCustomSection name (section_at x) None → NamedSoFar all name t
   one_passed other =
       let f = taken in
       record {
         left = f.0;
         are_left = f.2;
-        back = λ c h. p.back c (subst (λ (l : List SectionAt). IsFirstNamed name l c) (sym f.1) (after f.0 other c h));
+        back = λ c h. p.back c (subst (λ (l : List SectionAt). IsFirstCustom name l c) (sym f.1) (after f.0 other c h));
       }
 
-  pub one_found : (c : List ℕ) → IsNamed name (section_at x) (Some c) → IsFirstNamed name all (Some c)
+  pub one_found : (c : List ℕ) → IsCustomSection name (section_at x) (Some c) → IsFirstCustom name all (Some c)
   one_found c h =
       let f = taken in
-      p.back (Some c) (subst (λ (l : List SectionAt). IsFirstNamed name l (Some c)) (sym f.1) (inl h))
+      p.back (Some c) (subst (λ (l : List SectionAt). IsFirstCustom name l (Some c)) (sym f.1) (inl h))
 
-pub none_found : (all : List SectionAt) (name : List ℕ) (s t : Sections) → NamedSoFar all name s → TakesSection s None t → IsFirstNamed name all None
+pub none_found : (all : List SectionAt) (name : List ℕ) (s t : Sections) → NamedSoFar all name s → TakesSection s None t → IsFirstCustom name all None
 none_found all name s t p takes =
-    p.back None (subst (λ (l : List SectionAt). IsFirstNamed name l None) (sym (nothing_left s.left.end s.left.rest.now p.left p.are_left takes)) refl)
+    p.back None (subst (λ (l : List SectionAt). IsFirstCustom name l None) (sym (nothing_left s.left.end s.left.rest.now p.left p.are_left takes)) refl)

@@ -24,19 +24,19 @@ item_part kind.Data = data_segment_part
 item_part _ = λ end text. Err (fault_here end text fault.SectionOutOfOrder)
 
 -- so many items, as their bytes
-abbrev pub items_part : SectionKind → (count : ℕ) → Part (List ℕ)
-items_part kind count = extent (repeated (λ u. item_part kind) count tt)
+abbrev pub several_items : SectionKind → (count : ℕ) → Part (List ℕ)
+several_items kind count = extent (repeated (λ u. item_part kind) count tt)
 
 -- the items before the one at this place, and that one, as their bytes
-abbrev pub item_at : SectionKind → (place : ℕ) → Part (List ℕ × List ℕ)
-item_at kind place = items_part kind place >=> λ before. items_part kind 1 >=> λ item. just (before, item)
+abbrev pub items_up_to : SectionKind → (place : ℕ) → Part (List ℕ × List ℕ)
+items_up_to kind place = several_items kind place >=> λ before. several_items kind 1 >=> λ item. just (before, item)
 
 -- What becomes of the contents of a section, which end at this place of the file, if the item at a place gives way to so many items with
 -- these bytes: the number of items is the new one, in its shortest encoding, and all others stay. None if there is no such item.
 abbrev pub replaced_in : SectionKind → (place more : ℕ) → (new : List ℕ) → (count end : ℕ) → (text : List ℕ) → Result (Option (List ℕ)) ModuleError
 replaced_in kind place more new count end text =
     if nat_lt place count
-    then (item_at kind place end text >>= λ x. Ok (Some (short_number ((count - 1) + more) ++ (x.0.0 ++ (new ++ x.1)))))
+    then (items_up_to kind place end text >>= λ x. Ok (Some (short_number ((count - 1) + more) ++ (x.0.0 ++ (new ++ x.1)))))
     else Ok None
 
 abbrev pub contents_replaced : SectionKind → (place more : ℕ) → (new : List ℕ) → (end : ℕ) → (contents : List ℕ) → Result (Option (List ℕ)) ModuleError

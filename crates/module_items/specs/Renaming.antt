@@ -12,8 +12,8 @@ use Rattle.wasm_sections.specs.Format.{name_part, export_part, imported_part}
 use Rattle.wasm_sections.specs.Parts.{Part, ◌>=>◌, extent, number}
 use Rattle.wasm_sections.specs.Views.{HasExport, IsExportKind}
 use Rattle.wasm_module.specs.AddedItems.{export_of}
-use Rattle.module_items.specs.Items.{items_part}
-use Rattle.module_items.specs.Replacing.{IsReplaced}
+use Rattle.module_items.specs.Items.{several_items}
+use Rattle.module_items.specs.Replacing.{IsItemReplaced}
 
 -- ---- exports
 
@@ -23,7 +23,7 @@ pub record IsExportAmong (name : List ℕ) (place : ℕ) (space : Space) (index 
   pub is_there : place < count
   pub before : List ℕ
   pub front : List ℕ
-  pub passed : items_part kind.Export place end text ≡ Ok (before, front)
+  pub passed : several_items kind.Export place end text ≡ Ok (before, front)
   pub following : List ℕ
   pub export : export_part end front ≡ Ok ((name, space, index), following)
 
@@ -50,12 +50,12 @@ SeeksExport name then (Some c) old new is_there =
 -- The export with this name is removed, if there is one.
 abbrev pub IsExportRemoved : (name : List ℕ) → (contents : Option (ℕ × List ℕ)) → (old new : Changes) → (is_there : Bool) → Type 0
 IsExportRemoved name contents old new is_there =
-    SeeksExport name (λ c place space index. IsReplaced kind.Export place 0 [] c old new is_there) contents old new is_there
+    SeeksExport name (λ c place space index. IsItemReplaced kind.Export place 0 [] c old new is_there) contents old new is_there
 
 -- The item at this place gives way to an export with this name, of what has this index in this index space.
 abbrev pub GivesWayTo : (place : ℕ) → (name : List ℕ) → Space → (index : ℕ) → (contents : Option (ℕ × List ℕ)) → (old new : Changes) → (is_there : Bool) → Type 0
 GivesWayTo place name space index c old new is_there =
-    (k : ℕ) × IsExportKind space k × IsReplaced kind.Export place 1 (export_of name k index) c old new is_there
+    (k : ℕ) × IsExportKind space k × IsItemReplaced kind.Export place 1 (export_of name k index) c old new is_there
 
 -- The export with this name has another name, if there is one.
 abbrev pub IsExportRenamed : (name other : List ℕ) → (contents : Option (ℕ × List ℕ)) → (old new : Changes) → (is_there : Bool) → Type 0
@@ -86,7 +86,7 @@ pub record HasImportAt (place : ℕ) (description : List ℕ) (end : ℕ) (conte
   pub is_there : place < count
   pub before : List ℕ
   pub front : List ℕ
-  pub passed : items_part kind.Import place end items ≡ Ok (before, front)
+  pub passed : several_items kind.Import place end items ≡ Ok (before, front)
   pub following : List ℕ
   pub import : description_part end front ≡ Ok (description, following)
 
@@ -103,7 +103,7 @@ IsImportRenamed place from name None old new is_there = (is_there ≡ false) × 
 IsImportRenamed place from name (Some c) old new is_there =
     ((is_there ≡ false) × AreUnchanged old new × ¬ ((description : List ℕ) × HasImportAt place description c.0 c.1))
     ⊎ ((description : List ℕ) × HasImportAt place description c.0 c.1
-    × IsReplaced kind.Import place 1 (entry from ++ (entry name ++ description)) (Some c) old new is_there)
+    × IsItemReplaced kind.Import place 1 (entry from ++ (entry name ++ description)) (Some c) old new is_there)
 
 -- ---- limits
 

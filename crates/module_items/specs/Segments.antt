@@ -16,13 +16,13 @@ use Rattle.module_items.specs.declared.elements.ElementSegments.{ElementSegments
 
 -- ---- active segments: the index of the memory or table, and the bytes of the offset, a constant expression
 
-abbrev pub index_part : (is_named : Bool) → Part ℕ
-index_part true = number
-index_part false = just 0
+abbrev pub target_index : (is_named : Bool) → Part ℕ
+target_index true = number
+target_index false = just 0
 
 abbrev pub target_part : (is_active is_named : Bool) → Part (Option (ℕ × List ℕ))
 target_part false is_named = just None
-target_part true is_named = index_part is_named >=> λ index. constant_part >=> λ offset. just (Some (index, offset))
+target_part true is_named = target_index is_named >=> λ index. constant_part >=> λ offset. just (Some (index, offset))
 
 abbrev pub active_value : ActiveSegment → ℕ × List ℕ
 active_value a = (a.index, a.offset.now)

@@ -3,7 +3,7 @@ ghost use Rattle.std.specs.Prelude.{◌≡◌, ◌++◌, List, option_map, IfOk,
 ghost use Rattle.wasm_sections.specs.Additions.{IsTooMuch};
 ghost use Rattle.wasm_sections.specs.CodeSections.{entry};
 ghost use Rattle.wasm_sections.specs.Sections.{SectionAt, IsModule, section_at, section as whole_section};
-ghost use Rattle.module_items.specs.CustomSections.{IsFirstNamed, IsNamed};
+ghost use Rattle.module_items.specs.CustomSections.{IsFirstCustom, IsCustomSection};
 
 use std::alloc::Global;
 use wasm_module::ParsedModule;
@@ -11,7 +11,7 @@ use wasm_sections::{ModuleError, Section, SectionKind, Sections, write_bytes};
 
 /// The contents of a section after its name, if it is a custom section with this name.
 fn contents_if_named<'a>(section: &Section<'a>, name: &str) -> Result<Option<&'a [u8]>, ModuleError>
-    ensures { IfOk result (λ found. IsNamed name.now (section_at section.now) (option_map (λ s. s.now) found)) }
+    ensures { IfOk result (λ found. IsCustomSection name.now (section_at section.now) (option_map (λ s. s.now) found)) }
 {
     if section.kind != SectionKind::Custom {
         return Ok(None);
@@ -38,7 +38,7 @@ pub fn custom_section<'a>(
     name: &str,
 ) -> Result<Option<&'a [u8]>, ModuleError>
     ensures { (all : List SectionAt) → IsModule parsed.now.bytes.now all
-        → IfOk result (λ found. IsFirstNamed name.now all (option_map (λ s. s.now) found)) }
+        → IfOk result (λ found. IsFirstCustom name.now all (option_map (λ s. s.now) found)) }
 {
     let sections = match Sections::new(parsed.bytes()) {
         Ok(sections) => sections,

@@ -4,7 +4,7 @@ ghost use Rattle.wasm_numbers.specs.Results.{Gives};
 ghost use Rattle.wasm_sections.specs.Components.{Components, module_of};
 ghost use Rattle.wasm_sections.specs.Sections.{SectionAt, IsModule, first_with, section_id};
 ghost use Rattle.wasm_sections.specs.Views.{HasItems};
-ghost use Rattle.module_items.specs.Segments.{index_part, target_part, active_value, data_part, data_value};
+ghost use Rattle.module_items.specs.Segments.{target_index, target_part, active_value, data_part, data_value};
 
 use wasm_module::ParsedModule;
 use wasm_sections::{Input, Items, ModuleError, SectionKind};
@@ -33,7 +33,7 @@ pub struct DataSegment<'a> {
 fn target_index(input: &mut Input<'_>, is_named: bool) -> Result<u32, ModuleError>
     ensures same_end { input.new.end ≡ input.old.end }
     ensures is { Gives (λ index. (index, input.new.rest.now)) result
-        (index_part is_named input.old.end input.old.rest.now) }
+        (target_index is_named input.old.end input.old.rest.now) }
 {
     match is_named {
         true => input.number(),

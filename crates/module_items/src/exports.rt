@@ -5,7 +5,7 @@ ghost use Rattle.wasm_sections.specs.Additions.{AreUnchanged, IsTooMuch};
 ghost use Rattle.wasm_sections.specs.Sections.{SectionAt, IsModule};
 ghost use Rattle.wasm_sections.specs.Views.{HasExport, IsAmongExports};
 ghost use Rattle.wasm_module.specs.AddedItems.{export_of};
-ghost use Rattle.module_items.specs.Replacing.{contents_at};
+ghost use Rattle.module_items.specs.Replacing.{placed_contents};
 ghost use Rattle.module_items.specs.Renaming.{HasExportAt, IsExportAmong, HasExportIn, FindsExport, IsExportRemoved, IsExportRenamed, IsExportReplaced, GivesWayTo};
 
 use crate::replacing::{NewItems, contents_with, replace};
@@ -72,7 +72,7 @@ fn find_export(
     name: &str,
 ) -> Result<Option<PlacedExport>, ModuleError>
     ensures { (all : List SectionAt) → IsModule parsed.now.bytes.now all → IfOk result
-        (λ found. FindsExport name.now (contents_at all changes.now 7) (option_map (λ x. (x.place, x.space, x.index)) found)) }
+        (λ found. FindsExport name.now (placed_contents all changes.now 7) (option_map (λ x. (x.place, x.space, x.index)) found)) }
 {
     match contents_with(parsed, changes, SectionKind::Export) {
         Ok(Some(contents)) => export_in(contents, name),
@@ -100,7 +100,7 @@ fn refuse_taken(contents: Input<'_>, name: &str) -> Result<(), ModuleError>
 /// `ExportTaken` if an export of the source with these changes has this name.
 fn check_free(parsed: &ParsedModule<'_>, changes: &Changes, name: &str) -> Result<(), ModuleError>
     ensures { (all : List SectionAt) → IsModule parsed.now.bytes.now all
-        → OnOk result (¬ HasExportIn name.now (contents_at all changes.now 7)) }
+        → OnOk result (¬ HasExportIn name.now (placed_contents all changes.now 7)) }
 {
     match contents_with(parsed, changes, SectionKind::Export) {
         Ok(Some(contents)) => refuse_taken(contents, name),
@@ -135,7 +135,7 @@ fn put_export(
     export: PlacedExport,
 ) -> Result<bool, ModuleError>
     ensures ok { (all : List SectionAt) → IsModule parsed.now.bytes.now all → IfOk result
-        (GivesWayTo export.place name.now export.space export.index (contents_at all changes.old 7) changes.old changes.new) }
+        (GivesWayTo export.place name.now export.space export.index (placed_contents all changes.old 7) changes.old changes.new) }
     ensures err { OnErr result (AreUnchanged changes.old changes.new) }
 {
     let Some(kind) = export_kind(export.space) else {
@@ -169,7 +169,7 @@ pub fn remove_export(
     name: &str,
 ) -> Result<bool, ModuleError>
     ensures ok { (all : List SectionAt) → IsModule parsed.now.bytes.now all → IfOk result
-        (IsExportRemoved name.now (contents_at all changes.old 7) changes.old changes.new) }
+        (IsExportRemoved name.now (placed_contents all changes.old 7) changes.old changes.new) }
     ensures err { OnErr result (AreUnchanged changes.old changes.new) }
 {
     match find_export(parsed, changes, name) {
@@ -200,11 +200,11 @@ pub fn rename_export(
     new_name: &str,
 ) -> Result<bool, ModuleError>
     ensures ok { (all : List SectionAt) → IsModule parsed.now.bytes.now all → IfOk result
-        (IsExportRenamed name.now new_name.now (contents_at all changes.old 7) changes.old changes.new) }
+        (IsExportRenamed name.now new_name.now (placed_contents all changes.old 7) changes.old changes.new) }
     ensures err { OnErr result (AreUnchanged changes.old changes.new) }
     // No export has the name of another.
     ensures free { (all : List SectionAt) → IsModule parsed.now.bytes.now all
-        → OnOk result (¬ HasExportIn new_name.now (contents_at all changes.old 7)) }
+        → OnOk result (¬ HasExportIn new_name.now (placed_contents all changes.old 7)) }
 {
     match check_free(parsed, changes, new_name) {
         Ok(()) => {}
@@ -232,7 +232,7 @@ pub fn replace_export(
     index: u32,
 ) -> Result<bool, ModuleError>
     ensures ok { (all : List SectionAt) → IsModule parsed.now.bytes.now all → IfOk result
-        (IsExportReplaced name.now space index (contents_at all changes.old 7) changes.old changes.new) }
+        (IsExportReplaced name.now space index (placed_contents all changes.old 7) changes.old changes.new) }
     ensures err { OnErr result (AreUnchanged changes.old changes.new) }
 {
     match find_export(parsed, changes, name) {

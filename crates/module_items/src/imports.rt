@@ -4,7 +4,7 @@ ghost use Rattle.wasm_numbers.specs.Results.{Gives};
 ghost use Rattle.wasm_sections.specs.Additions.{AreUnchanged, IsTooMuch};
 ghost use Rattle.wasm_sections.specs.CodeSections.{entry};
 ghost use Rattle.wasm_sections.specs.Sections.{SectionAt, IsModule};
-ghost use Rattle.module_items.specs.Replacing.{contents_at};
+ghost use Rattle.module_items.specs.Replacing.{placed_contents};
 ghost use Rattle.module_items.specs.Renaming.{description_part, HasImportAt, IsOtherImport, IsImportRenamed};
 
 use crate::passing::pass_items;
@@ -91,7 +91,7 @@ fn renamed(
     name: &str,
 ) -> Result<Option<Vec<u8>>, ModuleError>
     ensures { (all : List SectionAt) → IsModule parsed.now.bytes.now all → IfOk result
-        (λ made. IsOtherImport place from.now name.now (contents_at all changes.now 2) (option_map (λ v. v.items) made)) }
+        (λ made. IsOtherImport place from.now name.now (placed_contents all changes.now 2) (option_map (λ v. v.items) made)) }
 {
     let contents = match contents_with(parsed, changes, SectionKind::Import) {
         Ok(Some(contents)) => contents,
@@ -126,7 +126,7 @@ pub fn rename_import(
     name: &str,
 ) -> Result<bool, ModuleError>
     ensures ok { (all : List SectionAt) → IsModule parsed.now.bytes.now all → IfOk result
-        (IsImportRenamed place from.now name.now (contents_at all changes.old 2) changes.old changes.new) }
+        (IsImportRenamed place from.now name.now (placed_contents all changes.old 2) changes.old changes.new) }
     ensures err { OnErr result (AreUnchanged changes.old changes.new) }
 {
     match renamed(parsed, changes, place, from, name) {

@@ -3,7 +3,7 @@ ghost use Rattle.std.specs.Prelude.{◌≡◌, ◌++◌, List, OnErr, OnOk, IfOk
 ghost use Rattle.wasm_sections.specs.Additions.{AreUnchanged};
 ghost use Rattle.wasm_sections.specs.Sections.{SectionAt, IsModule};
 ghost use Rattle.wasm_sections.specs.declared.sections.SectionKind.TheVariants.{Memory as MemoryKind};
-ghost use Rattle.module_items.specs.Replacing.{contents_at, IsReplaced};
+ghost use Rattle.module_items.specs.Replacing.{placed_contents, IsItemReplaced};
 ghost use Rattle.module_items.specs.Renaming.{bit, limits_flag, maximum_written, limits_written};
 
 use crate::replacing::{NewItems, replace};
@@ -63,7 +63,7 @@ pub fn set_memory_limits(
     limits: &Limits,
 ) -> Result<bool, ModuleError>
     ensures ok { (all : List SectionAt) → IsModule parsed.now.bytes.now all → IfOk result
-        (IsReplaced MemoryKind place 1 (limits_written limits.now) (contents_at all changes.old 5) changes.old changes.new) }
+        (IsItemReplaced MemoryKind place 1 (limits_written limits.now) (placed_contents all changes.old 5) changes.old changes.new) }
     ensures err { OnErr result (AreUnchanged changes.old changes.new) }
 {
     if !are_limits(limits) {

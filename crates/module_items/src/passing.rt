@@ -3,7 +3,7 @@ ghost use Rattle.std.specs.Prelude.{◌≡◌, ◌≤◌, length, OnOk};
 ghost use Rattle.wasm_numbers.specs.Results.{Gives};
 ghost use Rattle.wasm_sections.specs.Format.{export_part, import_part, table_part, global_part, tag_part, limits_part};
 ghost use Rattle.wasm_sections.specs.Parts.{number, passed, repeated};
-ghost use Rattle.module_items.specs.Items.{item_part, items_part};
+ghost use Rattle.module_items.specs.Items.{item_part, several_items};
 
 use wasm_sections::{Exports, Imports, Input, Items, ModuleError, ModuleFault, SectionKind};
 
@@ -137,7 +137,7 @@ pub(crate) fn pass_items<'a>(
 ) -> Result<&'a [u8], ModuleError>
     ensures same_end { input.new.end ≡ input.old.end }
     ensures is { Gives (λ bytes. (bytes.now, input.new.rest.now)) result
-        (items_part kind count input.old.end input.old.rest.now) }
+        (several_items kind count input.old.end input.old.rest.now) }
 {
     let begin = *input;
     'items: for _ in 0..count {

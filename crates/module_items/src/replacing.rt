@@ -5,7 +5,7 @@ ghost use Rattle.wasm_sections.specs.Components.{Components, module_of};
 ghost use Rattle.wasm_operators.specs.Shortest.{short_number};
 ghost use Rattle.wasm_sections.specs.Sections.{SectionAt, IsModule, section_id};
 ghost use Rattle.module_items.specs.Items.{contents_replaced, replaced_in};
-ghost use Rattle.module_items.specs.Replacing.{contents_at, IsReplaced};
+ghost use Rattle.module_items.specs.Replacing.{placed_contents, IsItemReplaced};
 
 use crate::passing::pass_items;
 use std::alloc::Global;
@@ -49,7 +49,7 @@ pub(crate) fn contents_with<'c>(
     kind: SectionKind,
 ) -> Result<Option<Input<'c>>, ModuleError>
     ensures are { (all : List SectionAt) → IsModule parsed.now.bytes.now all → IfOk result
-        (λ found. option_map (λ i. (i.end, i.rest.now)) found ≡ contents_at all changes.now (section_id kind)) }
+        (λ found. option_map (λ i. (i.end, i.rest.now)) found ≡ placed_contents all changes.now (section_id kind)) }
     ensures never_refused { (m : Components) → module_of parsed.now.bytes.now ≡ Ok m
         → IsOk result }
 {
@@ -150,7 +150,7 @@ pub(crate) fn replace(
 ) -> Result<bool, ModuleError>
     requires { new.count ≤ 1 }
     ensures ok { (all : List SectionAt) → IsModule parsed.now.bytes.now all → IfOk result
-        (IsReplaced kind place new.entry.count new.entry.bytes.now (contents_at all changes.old (section_id kind)) changes.old changes.new) }
+        (IsItemReplaced kind place new.entry.count new.entry.bytes.now (placed_contents all changes.old (section_id kind)) changes.old changes.new) }
     ensures err { OnErr result (AreUnchanged changes.old changes.new) }
 {
     let alloc = *changes.given.allocator();
@@ -187,7 +187,7 @@ pub fn replace_item(
     item: &[u8],
 ) -> Result<bool, ModuleError>
     ensures ok { (all : List SectionAt) → IsModule parsed.now.bytes.now all → IfOk result
-        (IsReplaced kind place 1 item.now (contents_at all changes.old (section_id kind)) changes.old changes.new) }
+        (IsItemReplaced kind place 1 item.now (placed_contents all changes.old (section_id kind)) changes.old changes.new) }
     ensures err { OnErr result (AreUnchanged changes.old changes.new) }
 {
     replace(parsed, changes, kind, place, NewItems::one(item))

@@ -181,8 +181,8 @@ WritesModule file old new =
     × (begun ≡ record old { out = begun.out }) × WritesSections sections begun new
 
 -- no items of any space
-abbrev pub no_counts : ItemCounts
-no_counts = record { types = 0; funcs = 0; tables = 0; memories = 0; globals = 0; tags = 0; elements = 0; «data» = 0 }
+abbrev pub no_items_counted : ItemCounts
+no_items_counted = record { types = 0; funcs = 0; tables = 0; memories = 0; globals = 0; tags = 0; elements = 0; «data» = 0 }
 
 -- Nothing is written yet, and no item was passed.
 pub record BeginsToWrite (remainder : Remainder) (code : LeftCode) (w : Writer) : Type 0 where
@@ -190,7 +190,7 @@ pub record BeginsToWrite (remainder : Remainder) (code : LeftCode) (w : Writer) 
   pub code_is : w.code.now ≡ code
   pub kept : option_map (λ (left : Bor LeftItems). left.now) w.kept.left ≡ Some remainder.left
   pub passed : w.passed.left ≡ None
-  pub next : w.next ≡ no_counts
+  pub next : w.next ≡ no_items_counted
   pub none : HasNoItems w
   pub has_elements : w.has_elements ≡ false
   pub out : w.out.items ≡ []

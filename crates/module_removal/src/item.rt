@@ -51,11 +51,11 @@ pub const MODULE: u32 = 0;
 impl ItemCounts {
     ghost use Rattle.std.specs.Prelude.{◌≡◌, ◌-◌, ◌^◌, min};
     ghost use Rattle.module_removal.specs.ItemNumbers.{count_of, first_number, all_numbers, number_of_item, with_more_items};
-    ghost use Rattle.module_removal.specs.LeftSections.{no_counts};
+    ghost use Rattle.module_removal.specs.LeftSections.{no_items_counted};
 
     /// No items.
     pub fn none() -> ItemCounts
-        ensures { result ≡ no_counts }
+        ensures { result ≡ no_items_counted }
     {
         ItemCounts {
             types: 0,

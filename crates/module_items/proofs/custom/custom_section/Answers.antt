@@ -3,7 +3,7 @@ use Rattle.wasm_sections.specs.declared.fault.ModuleError.{ModuleError}
 use Rattle.wasm_sections.specs.declared.sections.Section.{Section}
 use Rattle.wasm_sections.specs.declared.sections.Sections.{Sections}
 use Rattle.wasm_sections.specs.Sections.{preamble, IsModule, section_at, TakesSection}
-use Rattle.module_items.specs.CustomSections.{IsNamed}
+use Rattle.module_items.specs.CustomSections.{IsCustomSection}
 use Rattle.module_items.proofs.NamedSectionLemmas.{no_section_passed, one_passed, one_found, none_found}
 use Rattle.module_items.proofs.custom.custom_section.Goals as goal
 
@@ -25,7 +25,7 @@ returns-in-Ok-Some c = λ all m.
     let name = c.args.name.now in
     let takes =
     subst (λ (o : Option (Result Section ModuleError)). TakesSection at o next) (c.in-Some.is ∙ ap (λ (r : _). Some r) c.in-Ok-section.is) c.next.ensures.steps in
-    let named = subst (λ (o : Option (List ℕ)). IsNamed name (section_at section) o) (ap (λ (f : _). option_map (λ s. s.now) f) c.in-Ok-Some.field-0-is) c.in-Ok-Some.ensures in
+    let named = subst (λ (o : Option (List ℕ)). IsCustomSection name (section_at section) o) (ap (λ (f : _). option_map (λ s. s.now) f) c.in-Ok-Some.field-0-is) c.in-Ok-Some.ensures in
     one_found all name at next section (c.sections.invariant all m) takes c.in-Ok-Some.contents.now named
 
 pub sections-preserved : goal.sections-preserved
@@ -36,7 +36,7 @@ sections-preserved c = λ all m.
     let name = c.args.name.now in
     let takes =
     subst (λ (o : Option (Result Section ModuleError)). TakesSection at o next) (c.in-Some.is ∙ ap (λ (r : _). Some r) c.in-Ok-section.is) c.next.ensures.steps in
-    let other = subst (λ (o : Option (List ℕ)). IsNamed name (section_at section) o) (ap (λ (f : _). option_map (λ s. s.now) f) c.in-Ok-None.field-0-is) c.in-Ok-None.ensures in
+    let other = subst (λ (o : Option (List ℕ)). IsCustomSection name (section_at section) o) (ap (λ (f : _). option_map (λ s. s.now) f) c.in-Ok-None.field-0-is) c.in-Ok-None.ensures in
     one_passed all name at next section (c.sections.invariant all m) takes other
 
 pub returns : goal.returns

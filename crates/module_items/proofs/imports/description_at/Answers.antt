@@ -1,6 +1,6 @@
 use Rattle.std.proofs.Common.{ℕ, sym, ap, ◌∙◌, arith}
 use Rattle.wasm_sections.specs.declared.sections.SectionKind.TheVariants as kind
-use Rattle.module_items.specs.Items.{items_part}
+use Rattle.module_items.specs.Items.{several_items}
 use Rattle.module_items.specs.Renaming.{description_part}
 use Rattle.module_items.proofs.imports.description_at.Goals as goal
 
@@ -16,7 +16,7 @@ returns-in-Ok-description c =
       is_there = omega (arith, c.if-place-count.false);
       before = c.in-Ok-pass_items.field-0.now;
       front = front;
-      passed = ap (λ (n : ℕ). items_part kind.Import c.args.place n items) (sym c.in-Ok.ensures.same_end) ∙ c.in-Ok-pass_items.ensures.is;
+      passed = ap (λ (n : ℕ). several_items kind.Import c.args.place n items) (sym c.in-Ok.ensures.same_end) ∙ c.in-Ok-pass_items.ensures.is;
       following = c.description.new.input.rest.now;
       import =
           ap (λ (n : ℕ). description_part n front) (sym (c.in-Ok-pass_items.ensures.same_end ∙ c.in-Ok.ensures.same_end))
