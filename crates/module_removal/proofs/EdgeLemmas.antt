@@ -13,7 +13,7 @@ use Rattle.module_removal.specs.declared.item.Item.{Item}
 use Rattle.module_removal.specs.declared.item.ItemCounts.{ItemCounts}
 use Rattle.module_removal.specs.declared.references.References.{References}
 use Rattle.module_removal.specs.ItemNumbers.{count_of, first_number, all_numbers, number_if, number_of_item}
-use Rattle.module_removal.specs.Edges.{edges_from, RefersTo, AddsReferencesTo, IsNotThere}
+use Rattle.module_removal.specs.Edges.{edges_from, RefersTo, ItemRefersTo, AddsReferencesTo, IsNotThere}
 
 -- ---- numbers
 
@@ -56,6 +56,16 @@ refers_to_one from n item old new (Ok u) is counts taken edges = record {
   };
 }
 refers_to_one from n item old new (Err e) is counts taken edges = tt
+
+-- an edge between two items
+pub item_refers :
+    (m n : ℕ) (from to : Item) (old new : References) (r : Result (Unit {0}) ModuleError) → number_of_item old.counts from ≡ Some m →
+    number_of_item old.counts to ≡ Some n →
+    OnOk r (m < all_numbers old.counts → n < all_numbers old.counts → edges_of new.graph ≡ edges_of old.graph ++ (m, n) ∷ []) →
+    OnOk r (ItemRefersTo old.counts from to (edges_of old.graph) (edges_of new.graph))
+item_refers m n from to old new (Ok u) is_from is_to edges =
+    (m, n, is_from, is_to, edges (number_within old.counts from m is_from) (number_within old.counts to n is_to))
+item_refers m n from to old new (Err e) is_from is_to edges = tt
 
 -- ---- one after the other
 

@@ -13,7 +13,7 @@ use Rattle.module_removal.specs.declared.copier.Copier.{Copier}
 use Rattle.module_removal.specs.declared.item.Item.{Item}
 use Rattle.module_removal.specs.declared.item.ItemCounts.{ItemCounts}
 use Rattle.module_removal.specs.declared.left.LeftItems.{LeftItems}
-use Rattle.module_removal.specs.declared.references.Gatherer.{Gatherer}
+use Rattle.module_removal.specs.declared.gathering.Gatherer.{Gatherer}
 use Rattle.module_removal.specs.declared.references.References.{References}
 use Rattle.module_removal.specs.LeftSpaces.{index_written}
 use Rattle.module_removal.specs.ItemNumbers.{count_of, all_numbers, number_of_item, with_more_items}
@@ -77,13 +77,14 @@ pub gathers_own :
     (part : NewIndices → CopiedPart (Unit {0})) (end : ℕ) (text following : List ℕ) (old new : Gatherer) (cleared mid : Copier) (base : References)
     (r : Result (Unit {0}) ModuleError) → cleared.left ≡ None → cleared.found.items ≡ [] →
     Copies cleared mid following (Ok tt) (part (index_written cleared.left) end text) → base.counts ≡ old.references.counts → base.graph ≡ old.references.graph →
-    new.next ≡ old.next → new.copier.left ≡ mid.left → OnOk r (AddsReferencesTo 0 mid.found.items base new.references) →
+    new ≡ record old { copier = mid; references = new.references } → OnOk r (AddsReferencesTo 0 mid.found.items base new.references) →
     OnOk r (GathersOwn (part own_index end text) following old new)
-gathers_own part end text following old new cleared mid base (Err e) left none copies counts graph next same adds = tt
-gathers_own part end text following old new cleared mid base (Ok u) left none copies counts graph next same adds = record {
-  next = next;
+gathers_own part end text following old new cleared mid base (Err e) left none copies counts graph same adds = tt
+gathers_own part end text following old new cleared mid base (Ok u) left none copies counts graph same adds = record {
+  next = ap (λ (g : Gatherer). g.next) same;
+  imported = ap (λ (g : Gatherer). g.imported) same;
   counts = adds.counts ∙ counts;
-  finds = same ∙ copies.2.left ∙ left;
+  finds = ap (λ (g : Gatherer). g.copier.left) same ∙ copies.2.left ∙ left;
   copied = copies.0;
   read = own_part part end text cleared (Ok ((tt, copies.0), following)) left copies.1;
   refers =
@@ -96,16 +97,17 @@ pub gathers_body :
     cleared.left ≡ None → cleared.found.items ≡ [] →
     Copies cleared mid rest (Ok tt) (copied_locals (index_written cleared.left) end text) → FindsOperators mid last (Ok tt) end rest →
     number_of_item old.references.counts (item_at Funcs func) ≡ Some number → base.counts ≡ old.references.counts → base.graph ≡ old.references.graph →
-    new.next ≡ old.next → new.copier.left ≡ last.left → OnOk r (AddsReferencesTo number last.found.items base new.references) →
+    new ≡ record old { copier = last; references = new.references } → OnOk r (AddsReferencesTo number last.found.items base new.references) →
     OnOk r (GathersBody func end text old new)
-gathers_body func end text rest old new cleared mid last base number (Err e) left none copies found is counts graph next same adds = tt
-gathers_body func end text rest old new cleared mid last base number (Ok u) left none copies found is counts graph next same adds =
+gathers_body func end text rest old new cleared mid last base number (Err e) left none copies found is counts graph same adds = tt
+gathers_body func end text rest old new cleared mid last base number (Ok u) left none copies found is counts graph same adds =
     let within = number_within old.references.counts (item_at Funcs func) number is in
     let named = found.2.found ∙ ap (λ (l : List Item). l ++ flat_map named_by found.0) (found_is cleared mid copies.0 none copies.2) in
     record {
-      next = next;
+      next = ap (λ (g : Gatherer). g.next) same;
+      imported = ap (λ (g : Gatherer). g.imported) same;
       counts = adds.counts ∙ counts;
-      finds = same ∙ found.2.left ∙ copies.2.left ∙ left;
+      finds = ap (λ (g : Gatherer). g.copier.left) same ∙ found.2.left ∙ copies.2.left ∙ left;
       number = number;
       number_is = is;
       locals = copies.0;
@@ -121,16 +123,17 @@ gathers_body func end text rest old new cleared mid last base number (Ok u) left
 
 -- ---- results
 
-pub with_its_space : (r : Result (Unit {0}) ModuleError) (P : Space → Type 0) (space : Space) → OnOk r (P space) → OnOk r ((s : Space) × P s)
-with_its_space (Ok u) P space p = (space, p)
-with_its_space (Err e) P space p = tt
+pub with_its_space :
+    (r : Result (Unit {0}) ModuleError) (P : Space → Type 0) (Q : Type 0) (space : Space) → OnOk r (P space) → Q → OnOk r ((s : Space) × P s × Q)
+with_its_space (Ok u) P Q space p q = (space, p, q)
+with_its_space (Err e) P Q space p q = tt
 
 pub with_its_target :
-    (r : Result (Unit {0}) ModuleError) (given : Result (Option Item × List ℕ) ModuleError) (P : Option Item → Type 0) (target : Option Item)
-    (following : List ℕ) → given ≡ Ok (target, following) → OnOk r (P target) →
-    OnOk r ((target : Option Item) × (following : List ℕ) × (given ≡ Ok (target, following)) × P target)
-with_its_target (Ok u) given P target following e p = (target, following, e, p)
-with_its_target (Err x) given P target following e p = tt
+    (r : Result (Unit {0}) ModuleError) (given : Result (Option Item × List ℕ) ModuleError) (P : Option Item → Type 0) (Q : Type 0) (target : Option Item)
+    (following : List ℕ) → given ≡ Ok (target, following) → OnOk r (P target) → Q →
+    OnOk r ((target : Option Item) × (following : List ℕ) × (given ≡ Ok (target, following)) × P target × Q)
+with_its_target (Ok u) given P Q target following e p q = (target, following, e, p, q)
+with_its_target (Err x) given P Q target following e p q = tt
 
 pub with_following : (r : Result (Unit {0}) ModuleError) (P : List ℕ → Type 0) (following : List ℕ) → OnOk r (P following) → OnOk r ((f : List ℕ) × P f)
 with_following (Ok u) P following p = (following, p)

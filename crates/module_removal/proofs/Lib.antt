@@ -12,6 +12,11 @@ pub mod NamedLemmas
 pub mod GatherLemmas
 -- steps, one after the other
 pub mod SeveralStepsLemmas
+-- what is gathered grows; of the items of a section, and of all sections
+pub mod GrowthLemmas
+pub mod GatherStepLemmas
+-- types that are alike
+pub mod AlikeLemmas
 -- what is reached is left, and what is left is copied
 pub mod ReachedLemmas
 pub mod KeptCopies

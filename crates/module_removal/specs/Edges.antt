@@ -24,6 +24,16 @@ pub record AddsReferencesTo (from : ℕ) (items : List Item) (old new : Referenc
   pub taken : new.taken ≡ old.taken
   pub refers : from < all_numbers old.counts → RefersTo old.counts from items (edges_of old.graph) (edges_of new.graph)
 
+-- From an item there is an edge to another one, after the edges that were there.
+abbrev pub ItemRefersTo : ItemCounts → (from to : Item) → (old new : List (ℕ × ℕ)) → Type 0
+ItemRefersTo c from to old new =
+    (m : ℕ) × (n : ℕ) × (number_of_item c from ≡ Some m) × (number_of_item c to ≡ Some n) × (new ≡ old ++ (m, n) ∷ [])
+
+-- From each of two items there is an edge to the other.
+abbrev pub ReferToEachOther : ItemCounts → (first second : Item) → (old new : List (ℕ × ℕ)) → Type 0
+ReferToEachOther c first second old new =
+    (mid : List (ℕ × ℕ)) × ItemRefersTo c first second old mid × ItemRefersTo c second first mid new
+
 -- One of these items, which are named at this place, isn't there, unless memory ran out.
 abbrev pub IsNotThere : ItemCounts → List Item → (at : ℕ) → ModuleError → Type 0
 IsNotThere c items at e =

@@ -1,23 +1,30 @@
--- What is gathered of the items of sections: from each item there is an edge to each that it names, and to or from an active segment
+-- What is gathered of the sections of a module: from each item there is an edge to each that it names, and to or from an active segment
 -- (WebAssembly core specification 3.0, binary format, modules).
-use Rattle.std.specs.Prelude.{◌≡◌, ◌⊎◌, ◌<◌, ◌==◌, ◌%◌, not, ℕ, Bool, true, false, List, [], ◌∷◌, ◌++◌, flat_map, Option, Some, None, Result, Ok}
+use Rattle.std.specs.Prelude.{◌≡◌, ◌⊎◌, ◌<◌, ◌+◌, ◌==◌, ◌%◌, not, ℕ, Bool, true, false, List, [], ◌∷◌, ◌++◌, flat_map, option_and_then, Option, Some, None, Result, Ok}
 use Rattle.wasm_operators.specs.declared.types.Space.{Space}
-use Rattle.wasm_operators.specs.declared.types.Space.TheVariants.{Funcs, Tables, Memories, Elements, Data}
+use Rattle.wasm_operators.specs.declared.types.Space.TheVariants.{Types, Funcs, Tables, Memories, Elements, Data}
 use Rattle.wasm_operators.specs.Operations.{RawOperation}
 use Rattle.reaching.specs.Reaching.{edges_of}
+use Rattle.walrus_ir.specs.Types.{ModuleType, find, signature_of}
 use Rattle.wasm_sections.specs.declared.fault.ModuleError.{ModuleError}
+use Rattle.wasm_sections.specs.declared.sections.SectionKind.{SectionKind}
+use Rattle.wasm_sections.specs.declared.sections.SectionKind.TheVariants as kind
+use Rattle.wasm_sections.specs.Format.{types_part}
 use Rattle.wasm_sections.specs.Parts.{Part, ◌>=>◌, just, number}
 use Rattle.module_removal.specs.declared.bounds.Active.{Active}
 use Rattle.module_removal.specs.declared.item.Item.{Item}
 use Rattle.module_removal.specs.declared.item.ItemCounts.{ItemCounts}
-use Rattle.module_removal.specs.declared.references.Gatherer.{Gatherer}
+use Rattle.module_removal.specs.declared.gathering.Gatherer.{Gatherer}
 use Rattle.module_removal.specs.declared.references.References.{References}
 use Rattle.module_removal.specs.LeftSpaces.{index_written}
 use Rattle.module_removal.specs.ItemNumbers.{count_of, all_numbers, number_of_item, with_more_items}
-use Rattle.module_removal.specs.CopiedParts.{Copied, NewIndices, item_at}
-use Rattle.module_removal.specs.CopiedItems.{copied_locals}
+use Rattle.module_removal.specs.CopiedParts.{Copied, NewIndices, item_at, copied_index}
+use Rattle.module_removal.specs.CopiedItems.{copied_locals, copied_import, copied_export, copied_defined, copied_subtype}
 use Rattle.module_removal.specs.NamedItems.{named_by, OperatorsThen}
-use Rattle.module_removal.specs.Edges.{RefersTo}
+use Rattle.module_removal.specs.Edges.{RefersTo, ItemRefersTo, ReferToEachOther}
+use Rattle.module_removal.specs.SeveralSteps.{SoManySteps}
+use Rattle.module_removal.specs.ModuleSteps.{PartStep, ThroughVector, ThroughGroup, ThroughBodies, ContentsStep, ThroughSections}
+use Rattle.module_removal.specs.Written.{section_space}
 
 -- each item has its own index
 abbrev pub own_index : NewIndices
@@ -79,6 +86,7 @@ pub record GathersNext {A : Type 0} (space : Space) (target : Option Item) (valu
 -- The part is read, and from the module itself there are edges to all that it names.
 pub record GathersOwn (part : Result ((Unit {0} × Copied) × List ℕ) ModuleError) (following : List ℕ) (old new : Gatherer) : Type 0 where
   pub next : new.next ≡ old.next
+  pub imported : new.imported ≡ old.imported
   pub counts : new.references.counts ≡ old.references.counts
   pub finds : new.copier.left ≡ None
   pub copied : Copied
@@ -89,6 +97,7 @@ pub record GathersOwn (part : Result ((Unit {0} × Copied) × List ℕ) ModuleEr
 -- and its operators name.
 pub record GathersBody (func end : ℕ) (text : List ℕ) (old new : Gatherer) : Type 0 where
   pub next : new.next ≡ old.next
+  pub imported : new.imported ≡ old.imported
   pub counts : new.references.counts ≡ old.references.counts
   pub finds : new.copier.left ≡ None
   pub number : ℕ
@@ -101,3 +110,97 @@ pub record GathersBody (func end : ℕ) (text : List ℕ) (old new : Gatherer) :
   pub refers :
       RefersTo old.references.counts number (locals.named ++ flat_map named_by operators) (edges_of old.references.graph)
       (edges_of new.references.graph)
+
+-- ---- the items of a section: steps, each from what was gathered and the bytes that are left
+
+-- An import is the next item of its space. The number of imported functions is that of the functions so far.
+abbrev pub GathersImport : PartStep Gatherer
+GathersImport end old new =
+    (space : Space) × GathersNext space None space (copied_import own_index end old.1) new.1 old.0 new.0 × (new.0.imported ≡ new.0.next.funcs)
+
+-- an item of this space that the module defines
+abbrev pub GathersDefined : Space → PartStep Gatherer
+GathersDefined space end old new =
+    (target : Option Item) × (following : List ℕ) × (defined_target space end old.1 ≡ Ok (target, following))
+    × GathersNext space target tt (copied_defined own_index space end old.1) new.1 old.0 new.0 × (new.0.imported ≡ old.0.imported)
+
+-- nothing of a section that has no items
+abbrev pub GathersDefinedIf : Option Space → PartStep Gatherer
+GathersDefinedIf (Some space) end old new = GathersDefined space end old new
+GathersDefinedIf None end old new = new ≡ old
+
+-- an item of a section of this kind
+abbrev pub GathersItem : SectionKind → PartStep Gatherer
+GathersItem kind.Import end old new = GathersImport end old new
+GathersItem kind.Export end old new = GathersOwn (copied_export own_index end old.1) new.1 old.0 new.0
+GathersItem k end old new = GathersDefinedIf (section_space k) end old new
+
+-- ---- types
+
+-- The next type is one of a recursive group with this first type: the two refer to each other.
+pub record GathersType (first end : ℕ) (old new : Gatherer × List ℕ) : Type 0 where
+  pub own : Gatherer
+  pub gathers : GathersNext Types None tt (copied_subtype own_index end old.1) new.1 old.0 own
+  pub imported : own.imported ≡ old.0.imported
+  pub same : new.0 ≡ record own { references = new.0.references }
+  pub counts : new.0.references.counts ≡ old.0.references.counts
+  pub grouped :
+      ReferToEachOther old.0.references.counts (item_at Types first) (item_at Types old.0.next.types) (edges_of own.references.graph)
+      (edges_of new.0.references.graph)
+
+-- the types of a recursive group, of which the next one is the first
+abbrev pub GathersGroup : PartStep Gatherer
+GathersGroup end old new = ThroughGroup (GathersType old.0.next.types) end old new
+
+-- the first function type with the parameters and results of this one, if it is one
+abbrev pub first_alike : List ModuleType → (index : ℕ) → Option ℕ
+first_alike types index = option_and_then (λ s. find types s.parameters s.results) (signature_of types index)
+
+abbrev pub TypeRefersTo : ItemCounts → (from : ℕ) → (to : Option ℕ) → (old new : List (ℕ × ℕ)) → Type 0
+TypeRefersTo c from (Some to) old new = ItemRefersTo c (item_at Types from) (item_at Types to) old new
+TypeRefersTo c from None old new = new ≡ old
+
+-- a step from the index of a type to the next one, and from the edges that were there
+abbrev pub RefersToAlike : List ModuleType → ItemCounts → (old new : ℕ × List (ℕ × ℕ)) → Type 0
+RefersToAlike types c old new = (new.0 ≡ old.0 + 1) × TypeRefersTo c old.0 (first_alike types old.0) old.1 new.1
+
+-- Each function type refers to the first one that is alike.
+abbrev pub ReferToAlike : List ModuleType → ItemCounts → (old new : List (ℕ × ℕ)) → Type 0
+ReferToAlike types c old new = SoManySteps (RefersToAlike types c) c.types (0, old) (c.types, new)
+
+pub record GathersAlike (end : ℕ) (text : List ℕ) (old new : Gatherer) : Type 0 where
+  pub same : new ≡ record old { references = new.references }
+  pub counts : new.references.counts ≡ old.references.counts
+  pub types : List ModuleType
+  pub following : List ℕ
+  pub read : types_part old.references.counts.types end text ≡ Ok (types, following)
+  pub refer : ReferToAlike types old.references.counts (edges_of old.references.graph) (edges_of new.references.graph)
+
+abbrev pub GathersTypes : (end : ℕ) → (text : List ℕ) → (old new : Gatherer) → Type 0
+GathersTypes end text old new = (mid : Gatherer) × ThroughVector GathersGroup end text old mid × GathersAlike end text mid new
+
+-- ---- sections
+
+-- the module itself refers to the start function
+abbrev pub GathersStart : (end : ℕ) → (text : List ℕ) → (old new : Gatherer) → Type 0
+GathersStart end text old new = (following : List ℕ) × GathersOwn (copied_index own_index Funcs end text) following old new
+
+-- the contents of a section of this kind; the first body is that of the first function that isn't imported
+abbrev pub GathersContents : ContentsStep Gatherer
+GathersContents kind.Custom end text old new = new ≡ old
+GathersContents kind.DataCount end text old new = new ≡ old
+GathersContents kind.Type end text old new = GathersTypes end text old new
+GathersContents kind.Code end text old new = ThroughBodies GathersBody old.imported end text old new
+GathersContents kind.Start end text old new = GathersStart end text old new
+GathersContents k end text old new = ThroughVector (GathersItem k) end text old new
+
+-- Nothing is gathered yet.
+pub record BeginsGathering (g : Gatherer) : Type 0 where
+  pub next : (space : Space) → count_of g.next space ≡ 0
+  pub imported : g.imported ≡ 0
+  pub finds : g.copier.left ≡ None
+  pub edges : edges_of g.references.graph ≡ []
+
+-- The references are those of the items of a module with these bytes.
+abbrev pub AreReferencesOf : (bytes : List ℕ) → References → Type 0
+AreReferencesOf bytes r = (old : Gatherer) × (new : Gatherer) × BeginsGathering old × ThroughSections GathersContents bytes old new × (r ≡ new.references)

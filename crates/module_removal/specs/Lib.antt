@@ -1,5 +1,6 @@
--- steps, one after the other
+-- steps, one after the other; over the parts of a module
 pub mod SeveralSteps
+pub mod ModuleSteps
 -- the numbers of items, and their marks
 pub mod ItemNumbers
 -- which items are left, and the index that is written for each

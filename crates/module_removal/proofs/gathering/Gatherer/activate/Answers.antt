@@ -1,5 +1,5 @@
 use Rattle.module_removal.proofs.GatherLemmas.{activates_some, activates_no}
-use Rattle.module_removal.proofs.references.Gatherer.activate.Goals as goal
+use Rattle.module_removal.proofs.gathering.Gatherer.activate.Goals as goal
 
 pub returns-in-Some-clause-ok : goal.returns-in-Some-clause-ok
 returns-in-Some-clause-ok c =

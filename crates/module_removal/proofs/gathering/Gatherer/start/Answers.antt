@@ -1,10 +1,9 @@
-use Rattle.std.proofs.Common.{refl, ap, ◌∙◌}
-use Rattle.module_removal.specs.declared.references.Gatherer.{Gatherer}
+use Rattle.std.proofs.Common.{refl, ◌∙◌}
 use Rattle.module_removal.specs.CopiedParts.{copied_index}
 use Rattle.module_removal.specs.Gathered.{own_index, GathersOwn}
 use Rattle.wasm_operators.specs.declared.types.Space.TheVariants.{Funcs}
 use Rattle.module_removal.proofs.GatherLemmas.{gathers_own, with_following}
-use Rattle.module_removal.proofs.references.Gatherer.start.Goals as goal
+use Rattle.module_removal.proofs.gathering.Gatherer.start.Goals as goal
 
 pub returns : goal.returns
 returns c = λ none.
@@ -12,5 +11,4 @@ returns c = λ none.
     let new = c.refer.new.self in
     with_following c.refer.result (λ f. GathersOwn (copied_index own_index Funcs c.args.input.end c.args.input.rest.now) f old new) c.index.new.input.rest.now
     (gathers_own (λ w. copied_index w Funcs) c.args.input.end c.args.input.rest.now c.index.new.input.rest.now old new c.clear.new.self c.index.new.self old.references c.refer.result
-    (c.clear.ensures.left ∙ none) c.clear.ensures.found c.in-Ok.ensures.is refl refl (ap (λ (g : Gatherer). g.next) c.refer.ensures.same)
-    (ap (λ (g : Gatherer). g.copier.left) c.refer.ensures.same) c.refer.ensures.ok)
+    (c.clear.ensures.left ∙ none) c.clear.ensures.found c.in-Ok.ensures.is refl refl c.refer.ensures.same c.refer.ensures.ok)

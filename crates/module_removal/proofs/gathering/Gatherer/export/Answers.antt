@@ -1,13 +1,12 @@
-use Rattle.std.proofs.Common.{ap, ◌∙◌}
-use Rattle.module_removal.specs.declared.references.Gatherer.{Gatherer}
+use Rattle.std.proofs.Common.{◌∙◌}
 use Rattle.module_removal.specs.CopiedItems.{copied_export}
 use Rattle.module_removal.proofs.GatherLemmas.{gathers_own}
-use Rattle.module_removal.proofs.references.Gatherer.export.Goals as goal
+use Rattle.module_removal.proofs.gathering.Gatherer.export.Goals as goal
 
-pub returns : goal.returns
-returns c = λ none.
+pub returns-clause-is : goal.returns-clause-is
+returns-clause-is c = λ none.
     let old = c.args.self.now in
     let new = c.refer.new.self in
     gathers_own copied_export c.args.input.now.end c.args.input.now.rest.now c.export.new.input.rest.now old new c.clear.new.self c.export.new.self
     c.declare_all.new.self c.refer.result (c.clear.ensures.left ∙ none) c.clear.ensures.found c.in-Ok.ensures.is
-    c.declare_all.ensures.counts c.declare_all.ensures.graph (ap (λ (g : Gatherer). g.next) c.refer.ensures.same) (ap (λ (g : Gatherer). g.copier.left) c.refer.ensures.same) c.refer.ensures.ok
+    c.declare_all.ensures.counts c.declare_all.ensures.graph c.refer.ensures.same c.refer.ensures.ok

@@ -1,16 +1,16 @@
-use Rattle.std.proofs.Common.{ap, subst, ◌∙◌, OnOk}
+use Rattle.std.proofs.Common.{◌≡◌, ap, subst, ◌∙◌, OnOk}
 use Rattle.module_removal.specs.declared.copier.Copier.{Copier}
-use Rattle.module_removal.specs.declared.references.Gatherer.{Gatherer}
+use Rattle.module_removal.specs.declared.gathering.Gatherer.{Gatherer}
 use Rattle.module_removal.specs.CopiedItems.{copied_defined}
 use Rattle.module_removal.specs.Edges.{AddsReferencesTo}
 use Rattle.module_removal.specs.Gathered.{own_index, item_of_active, defined_target, GathersNext}
 use Rattle.std.proofs.Common.{option_map}
 use Rattle.module_removal.specs.Gathered.{Activates}
 use Rattle.module_removal.proofs.GatherLemmas.{gathers_next, with_its_target}
-use Rattle.module_removal.proofs.references.Gatherer.defined.Goals as goal
+use Rattle.module_removal.proofs.gathering.Gatherer.defined.Goals as goal
 
-pub returns : goal.returns
-returns c = λ none.
+pub returns-clause-is : goal.returns-clause-is
+returns-clause-is c = λ none.
     let old = c.args.self.now in
     let new = c.refer.new.self in
     let space = c.args.space in
@@ -22,7 +22,7 @@ returns c = λ none.
     let target = option_map item_of_active c.in-Ok-active_of.value in
     let kept = c.in-Ok-activate.ensures.same in
     with_its_target c.refer.result (defined_target space c.args.input.now.end c.args.input.now.rest.now)
-    (λ t. GathersNext space t tt (copied_defined own_index space c.args.input.now.end c.args.input.now.rest.now) c.defined.new.input.rest.now old new) target c.in-Ok-active_of.ensures.0
+    (λ t. GathersNext space t tt (copied_defined own_index space c.args.input.now.end c.args.input.now.rest.now) c.defined.new.input.rest.now old new) (new.imported ≡ old.imported) target c.in-Ok-active_of.ensures.0
     c.in-Ok-active_of.ensures.1
     (gathers_next space target tt (λ w. copied_defined w space) c.args.input.now.end c.args.input.now.rest.now c.defined.new.input.rest.now old new cleared c.defined.new.self act base number
     c.refer.result (ap (λ (g : Gatherer). g.copier.left) counted ∙ c.clear.ensures.left ∙ none)
@@ -32,3 +32,4 @@ returns c = λ none.
     (ap (λ (g : Gatherer). g.copier.left) c.refer.ensures.same ∙ ap (λ (g : Gatherer). g.copier.left) kept)
     (subst (λ (k : Copier). OnOk c.refer.result (AddsReferencesTo number k.found.items base new.references)) (ap (λ (g : Gatherer). g.copier) kept)
     c.refer.ensures.ok))
+    (ap (λ (g : Gatherer). g.imported) c.refer.ensures.same ∙ ap (λ (g : Gatherer). g.imported) kept ∙ ap (λ (g : Gatherer). g.imported) counted)

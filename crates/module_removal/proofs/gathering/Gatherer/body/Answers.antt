@@ -1,11 +1,10 @@
-use Rattle.std.proofs.Common.{◌≡◌, ℕ, Some, Ok, arith, refl, ap, subst, ◌∙◌}
-use Rattle.module_removal.specs.declared.references.Gatherer.{Gatherer}
+use Rattle.std.proofs.Common.{◌≡◌, ℕ, Some, Ok, arith, refl, subst, ◌∙◌}
 use Rattle.wasm_operators.specs.declared.types.Space.TheVariants.{Funcs}
 use Rattle.module_removal.specs.ItemNumbers.{number_of_item}
 use Rattle.module_removal.specs.CopiedParts.{item_at}
 use Rattle.module_removal.specs.NamedItems.{FindsOperators}
 use Rattle.module_removal.proofs.GatherLemmas.{gathers_body}
-use Rattle.module_removal.proofs.references.Gatherer.body.Goals as goal
+use Rattle.module_removal.proofs.gathering.Gatherer.body.Goals as goal
 
 pub returns : goal.returns
 returns c = λ none.
@@ -18,5 +17,4 @@ returns c = λ none.
     (subst (λ (n : ℕ). FindsOperators c.vector.new.self c.find_operators.new.self (Ok tt) n c.vector.new.input.rest.now) c.in-Ok-vector.ensures.same_end
     c.in-Ok-find_operators.ensures)
     (subst (λ (n : ℕ). number_of_item old.references.counts (item_at Funcs n) ≡ Some c.in-Ok-number.value) (omega (arith, c.in-Ok.ensures)) c.in-Ok-number.ensures.ok)
-    refl refl
-    (ap (λ (g : Gatherer). g.next) c.refer.ensures.same) (ap (λ (g : Gatherer). g.copier.left) c.refer.ensures.same) c.refer.ensures.ok
+    refl refl c.refer.ensures.same c.refer.ensures.ok
