@@ -20,6 +20,7 @@ pub mod AlikeLemmas
 -- what is reached is left, and what is left is copied
 pub mod ReachedLemmas
 pub mod KeptCopies
+pub mod GatheredCopies
 -- what is written for an item
 pub mod WritingLemmas
 -- what is written for a section, and for a module

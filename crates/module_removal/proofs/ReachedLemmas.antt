@@ -44,7 +44,7 @@ edge_in from n (m ∷ ms) (zero, lt, is) = (zero, omega arith, ap (λ (k : ℕ).
 edge_in from n (m ∷ ms) (suc k, lt, is) = let rest = edge_in from n ms (k, omega arith, is) in (suc rest.0, omega (arith, rest.1), rest.2)
 
 -- what a number says of its item
-number_parts :
+pub number_parts :
     (is_item fits : Bool) (m n : ℕ) → number_if is_item fits m ≡ Some n → (is_item ≡ true) × (fits ≡ true) × (m ≡ n)
 number_parts true true m n e = (refl, refl, cc)
 number_parts true false m n e = absurd cc

@@ -1,6 +1,6 @@
 //! Laws of what is left.
 
-ghost use Rattle.module_removal.specs.LeftLaws.{ReferencesAreLeft, ItemsAreCopied};
+ghost use Rattle.module_removal.specs.LeftLaws.{ReferencesAreLeft, ItemsAreCopied, LeftIsCopied};
 
 /// What an item that is reached refers to is left.
 pub fn law_references_are_left()
@@ -10,4 +10,9 @@ pub fn law_references_are_left()
 /// An item of a section that refers only to what is left is copied, under new indices.
 pub fn law_items_are_copied()
     ensures { ItemsAreCopied }
+{}
+
+/// Where the module itself and all that it reaches is left, each item of the module that is left is copied.
+pub fn law_left_is_copied()
+    ensures { LeftIsCopied }
 {}
