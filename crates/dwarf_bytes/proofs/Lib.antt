@@ -10,5 +10,3 @@ pub mod MergingLemmas
 -- what a reader takes
 pub mod Local
 pub mod Shorter
--- lists by ascending keys
-pub mod SortingLemmas
