@@ -96,55 +96,6 @@ fn push_url(alloc: Global, url: Option<&str>, made: &mut Vec<u8>) -> Result<(), 
     }
 }
 
-/// The sections with debug information that follow the code of a module, if it could be followed so far.
-fn debug_to_follow<'a>(
-    alloc: Global,
-    task: &Task<'_>,
-    parsed: &ParsedModule<'a>,
-    failure: Option<DebugFailure>,
-) -> Result<Vec<DebugSection<'a>>, ModuleError> {
-    match following_debug(alloc, task, parsed) {
-        Ok(mut debug) => {
-            if failure.is_some() {
-                debug.clear();
-            }
-            Ok(debug)
-        }
-        Err(error) => Err(error),
-    }
-}
-
-/// Adds the sections that are carried over, these with debug information, and the one of where the source map is. Returns why the debug
-/// information can't follow the code, if it can't.
-fn push_sections(
-    task: &Task<'_>,
-    parsed: &mut ParsedModule<'_>,
-    remainder: &Remainder,
-    code: CodeChange,
-    debug: &[DebugSection<'_>],
-    made: &mut Vec<u8>,
-) -> Result<Option<DebugFailure>, WriteError>
-    ensures { OnOk result ((carried sections section : List ℕ)
-        × AreSections debug.now sections
-        × MatchOption task.now.source_map_url (section ≡ [])
-        (λ u. section ≡ whole_section 0 (url_contents u.now))
-        × (made.new.items ≡ ((made.old.items ++ carried) ++ sections) ++ section)) }
-{
-    let alloc = *made.allocator();
-    match push_carried(task, parsed, debug, made) {
-        Ok(()) => {}
-        Err(error) => return Err(WriteError::from(error)),
-    }
-    let failure = match push_debug(alloc, parsed, remainder, code, debug, made) {
-        Ok(failure) => failure,
-        Err(error) => return Err(error),
-    };
-    match push_url(alloc, task.source_map_url, made) {
-        Ok(()) => Ok(failure),
-        Err(error) => Err(error),
-    }
-}
-
 /// Adds the sections after the others: with debug information, and of where the source map is.
 ///
 /// # Errors
@@ -165,26 +116,25 @@ pub fn push_followers<'a>(
         (λ u. section ≡ whole_section 0 (url_contents u.now))
         × (made.new.items ≡ ((made.old.items ++ carried) ++ debug) ++ section)) }
 {
-    let code = match CodeChange::between(parsed.bytes(), made) {
-        Ok(code) => code,
-        Err(error) => return Err(error),
-    };
-    let debug = match debug_to_follow(alloc, task, parsed, failure) {
-        Ok(debug) => debug,
-        Err(error) => return Err(error),
-    };
-    let own = match push_sections(task, parsed, remainder, code, &debug, made) {
+    let code = CodeChange::between(parsed.bytes(), made)?;
+    let notes = notes_of(alloc, parsed)?;
+    let mut debug = following_debug(alloc, task, parsed)?;
+    if failure.is_some() {
+        debug.clear();
+    }
+    push_carried(task, parsed, &debug, made)?;
+    let own = match push_debug(alloc, parsed, remainder, code, &debug, made) {
         Ok(own) => own,
         Err(error) => return Err(in_memory(error)),
     };
-    match notes_of(alloc, parsed) {
-        Ok(notes) => Ok(Followers {
+    match push_url(alloc, task.source_map_url, made) {
+        Ok(()) => Ok(Followers {
             debug,
             failure: failure.or(own),
             code,
             notes,
         }),
-        Err(error) => Err(error),
+        Err(error) => Err(in_memory(error)),
     }
 }
 

@@ -57,36 +57,6 @@ impl LeftModule<'_> {
         }
     }
 
-    /// Tells a listener of each body, in order. Its location pairs are lent.
-    fn tell_each<T: MapSink>(
-        &self,
-        parsed: &mut ParsedModule<'_>,
-        scratch: &mut Scratch,
-        told: &mut T,
-    ) -> Result<(), WriteError> {
-        let mut written = match written_bodies(self.made) {
-            Ok(written) => written,
-            Err(error) => return Err(WriteError::from(error)),
-        };
-        for old in parsed.bodies() {
-            if !self.remainder.left.has_function(old.func) {
-                continue;
-            }
-            let Some(new) = written.next() else {
-                return Err(WriteError::from(old.input.fault(ModuleFault::BodyCount)));
-            };
-            match parsed.rewrite_flat_with_pairs(old, scratch) {
-                Ok(()) => {}
-                Err(error) => return Err(WriteError::from(error)),
-            }
-            match self.tell_body(old.start(), new.start(), &mut scratch.pairs, told) {
-                Ok(()) => {}
-                Err(error) => return Err(error),
-            }
-        }
-        Ok(())
-    }
-
     /// Tells a listener of each body, in order.
     ///
     /// # Errors
@@ -98,7 +68,18 @@ impl LeftModule<'_> {
         parsed: &mut ParsedModule<'_>,
         told: &mut T,
     ) -> Result<(), WriteError> {
+        let mut written = written_bodies(self.made)?;
         let mut scratch = Scratch::new(alloc);
-        self.tell_each(parsed, &mut scratch, told)
+        for old in parsed.bodies() {
+            if !self.remainder.left.has_function(old.func) {
+                continue;
+            }
+            let Some(new) = written.next() else {
+                return Err(WriteError::from(old.input.fault(ModuleFault::BodyCount)));
+            };
+            parsed.rewrite_flat_with_pairs(old, &mut scratch)?;
+            self.tell_body(old.start(), new.start(), &mut scratch.pairs, told)?;
+        }
+        Ok(())
     }
 }

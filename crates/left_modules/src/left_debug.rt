@@ -132,38 +132,6 @@ impl Both<'_> {
         Ok(())
     }
 
-    /// Adds the operators of a body, which begins here, to its runs, and the locals that they name to those that are kept, each once.
-    fn push_operators(
-        &self,
-        new_start: usize,
-        pairs: &[(InstrLocId, usize)],
-        parameters: u32,
-        runs: &mut Runs,
-        locals: &mut Vec<LocalMove>,
-    ) -> Result<(), DebugError> {
-        for (location, place) in pairs {
-            let place = new_start.saturating_add(*place);
-            self.push_operator(*location, place, parameters, runs, locals)?;
-        }
-        locals.sort_by_key(|local: &LocalMove| local.old)?;
-        locals.dedup_by_key(|local| local.old);
-        Ok(())
-    }
-
-    /// Where a body begins: its address in the source, and in the module that was made.
-    fn begins(&self, old: &Body<'_>, new: &Body<'_>) -> Result<(u32, u32), DebugError> {
-        let begin = self.source.address(old.start())?;
-        Ok((begin, self.made.address(new.start())?))
-    }
-
-    /// The same of the address after its last operator.
-    fn ends(&self, old: &Body<'_>, new: &Body<'_>) -> Result<(u32, u32), DebugError> {
-        let end = old.start().saturating_add(old.bytes().len());
-        let end = self.source.address(end)?;
-        let new_end = new.start().saturating_add(new.bytes().len());
-        Ok((end, self.made.address(new_end)?))
-    }
-
     /// Where the addresses of a body go, which has these location pairs.
     fn moved(
         &self,
@@ -172,33 +140,22 @@ impl Both<'_> {
         pairs: &[(InstrLocId, usize)],
         parameters: u32,
     ) -> Result<MovedBody, DebugError> {
-        let (begin, new_begin) = self.begins(old, new)?;
-        let ends = self.ends(old, new);
-        let mut runs = Runs::new(self.alloc, begin, new_begin);
+        let (start, new_start) = (old.start(), new.start());
+        let begin = self.source.address(start)?;
+        let mut runs = Runs::new(self.alloc, begin, self.made.address(new_start)?);
         let mut locals = Vec::new(self.alloc);
-        let pushed = self.push_operators(new.start(), pairs, parameters, &mut runs, &mut locals);
-        match (pushed, ends) {
-            (Ok(()), Ok((end, new_end))) => runs
-                .into_body(end, new_end, parameters, locals)
-                .map_err(of_moves),
-            (Err(error), _) | (Ok(()), Err(error)) => Err(error),
+        for (location, place) in pairs {
+            let place = new_start.saturating_add(*place);
+            self.push_operator(*location, place, parameters, &mut runs, &mut locals)?;
         }
-    }
-
-    /// Adds where the addresses of a body go that is left, which was written as this one, with location pairs.
-    fn add_moved(
-        &self,
-        old: &Body<'_>,
-        new: &Body<'_>,
-        pairs: &[(InstrLocId, usize)],
-        parameters: &[u32],
-        moves: &mut Moves,
-    ) -> Result<(), DebugError> {
-        let parameters = parameters.get(old.func).copied().unwrap_or(0);
-        match self.moved(old, new, pairs, parameters) {
-            Ok(moved) => moves.push(moved).map_err(of_moves),
-            Err(error) => Err(error),
-        }
+        locals.sort_by_key(|local: &LocalMove| local.old)?;
+        locals.dedup_by_key(|local| local.old);
+        let end = start.saturating_add(old.bytes().len());
+        let end = self.source.address(end)?;
+        let new_end = new_start.saturating_add(new.bytes().len());
+        let new_end = self.made.address(new_end)?;
+        runs.into_body(end, new_end, parameters, locals)
+            .map_err(of_moves)
     }
 
     /// Adds where the addresses of the bodies go that are left.
@@ -207,13 +164,13 @@ impl Both<'_> {
         parsed: &mut ParsedModule<'_>,
         remainder: &Remainder,
         parameters: &[u32],
-        scratch: &mut Scratch,
         moves: &mut Moves,
     ) -> Result<(), DebugError> {
         let mut written = match written_bodies(self.made.bytes) {
             Ok(written) => written,
             Err(error) => return Err(of_module(error)),
         };
+        let mut scratch = Scratch::new(self.alloc);
         for old in parsed.bodies() {
             if !remainder.left.has_function(old.func) {
                 continue;
@@ -221,24 +178,15 @@ impl Both<'_> {
             let Some(new) = written.next() else {
                 return Err(unknown());
             };
-            match parsed.rewrite_flat_with_pairs(old, scratch) {
+            match parsed.rewrite_flat_with_pairs(old, &mut scratch) {
                 Ok(()) => {}
                 Err(error) => return Err(of_module(error)),
             }
-            self.add_moved(&old, &new, &scratch.pairs, parameters, moves)?;
+            let parameters = parameters.get(old.func).copied().unwrap_or(0);
+            let moved = self.moved(&old, &new, &scratch.pairs, parameters)?;
+            moves.push(moved).map_err(of_moves)?;
         }
         Ok(())
-    }
-
-    /// Where the addresses of a body go that isn't left: to this one, which is of no code, and the one after it.
-    fn removed(&self, body: &Body<'_>, new: u32, parameters: u32) -> Result<MovedBody, DebugError> {
-        let begin = self.source.address(body.start())?;
-        let end = body.start().saturating_add(body.bytes().len());
-        let end = self.source.address(end)?;
-        let runs = Runs::new(self.alloc, begin, new);
-        let none = Vec::new(self.alloc);
-        runs.into_body(end, new.saturating_add(1), parameters, none)
-            .map_err(of_moves)
     }
 
     /// Adds where the addresses of the bodies go that aren't left: to ones of no code, two for each body. Returns whether there is one.
@@ -254,12 +202,15 @@ impl Both<'_> {
             if remainder.left.has_function(body.func) {
                 continue;
             }
+            let begin = self.source.address(body.start())?;
+            let end = body.start().saturating_add(body.bytes().len());
+            let end = self.source.address(end)?;
             let next = new.checked_add(2).ok_or(unknown())?;
             let parameters = parameters.get(body.func).copied().unwrap_or(0);
-            match self.removed(&body, new, parameters) {
-                Ok(moved) => moves.push(moved).map_err(of_moves)?,
-                Err(error) => return Err(error),
-            }
+            let runs = Runs::new(self.alloc, begin, new);
+            let none = Vec::new(self.alloc);
+            let moved = runs.into_body(end, new.saturating_add(1), parameters, none);
+            moves.push(moved.map_err(of_moves)?).map_err(of_moves)?;
             new = next;
         }
         Ok(new != NO_CODE)
@@ -319,22 +270,25 @@ impl DebugMoves {
             made,
         };
         self.removes = both.add_removed(parsed, remainder, parameters, &mut self.removed)?;
-        let mut scratch = Scratch::new(alloc);
-        both.add_left(parsed, remainder, parameters, &mut scratch, &mut self.left)
+        both.add_left(parsed, remainder, parameters, &mut self.left)
     }
 }
 
-/// Adds those of a module, of which this is left in the module that was made.
-fn add_moves(
+/// Those of a module, of which this is left in the module that was made.
+fn debug_moves(
     alloc: Global,
     parsed: &mut ParsedModule<'_>,
     remainder: &Remainder,
     made: &[u8],
-    moves: &mut DebugMoves,
-) -> Result<(), DebugError> {
-    match parameters_of(alloc, parsed) {
-        Ok(parameters) => moves.add(alloc, parsed, remainder, made, &parameters),
-        Err(error) => Err(of_module(error)),
+) -> Result<DebugMoves, DebugError> {
+    let parameters = match parameters_of(alloc, parsed) {
+        Ok(parameters) => parameters,
+        Err(error) => return Err(of_module(error)),
+    };
+    let mut moves = DebugMoves::new(alloc);
+    match moves.add(alloc, parsed, remainder, made, &parameters) {
+        Ok(()) => Ok(moves),
+        Err(error) => Err(error),
     }
 }
 
@@ -445,7 +399,10 @@ fn moved_bytes(
         Ok(moved) => moved,
         Err(failure) => return Err(NotMoved::Failure(failure)),
     };
-    again_moved_bytes(alloc, sections, &moved, &moves.left)
+    match again_moved_bytes(alloc, sections, &moved, &moves.left) {
+        Ok(bytes) => Ok(bytes),
+        Err(error) => Err(error),
+    }
 }
 
 /// The sections as they are, since they can't be moved for this reason.
@@ -465,21 +422,6 @@ fn unmoved(
     }
 }
 
-/// The sections as they move with all code of the module, or as they are, and then why, if they can't be moved.
-fn moved_or_not(
-    alloc: Global,
-    sections: &[DebugSection<'_>],
-    moves: &DebugMoves,
-) -> Result<(Vec<u8>, Option<DebugFailure>), WriteError>
-    ensures { IfOk result (λ made. AreSections sections.now made.0.items) }
-{
-    match moved_bytes(alloc, sections, moves) {
-        Ok(bytes) => Ok((bytes, None)),
-        Err(NotMoved::Write(error)) => Err(error),
-        Err(NotMoved::Failure(failure)) => unmoved(alloc, sections, failure),
-    }
-}
-
 /// These sections with debug information, to be written after the module that was made, of which this is left: as they move with the code,
 /// or as they are, and then why, if they can't be moved.
 ///
@@ -495,9 +437,13 @@ pub(crate) fn left_debug(
 ) -> Result<(Vec<u8>, Option<DebugFailure>), WriteError>
     ensures { IfOk result (λ made. AreSections sections.now made.0.items) }
 {
-    let mut moves = DebugMoves::new(alloc);
-    match add_moves(alloc, parsed, remainder, made, &mut moves) {
-        Ok(()) => moved_or_not(alloc, sections, &moves),
-        Err(error) => unmoved(alloc, sections, failure(error)),
+    let moves = match debug_moves(alloc, parsed, remainder, made) {
+        Ok(moves) => moves,
+        Err(error) => return unmoved(alloc, sections, failure(error)),
+    };
+    match moved_bytes(alloc, sections, &moves) {
+        Ok(bytes) => Ok((bytes, None)),
+        Err(NotMoved::Write(error)) => Err(error),
+        Err(NotMoved::Failure(failure)) => unmoved(alloc, sections, failure),
     }
 }

@@ -1,36 +1,10 @@
 //! Modules without what nothing reaches.
 
-use module_removal::{Item, LeftCode, Remainder, references_of, remove};
-use std::alloc::{AllocError, Global};
+use module_removal::{Item, LeftCode, References, Remainder, references_of, remove};
+use std::alloc::Global;
 use walrus_ir::{FunctionId, IdHashSet, Instr, InstrLocId};
 use wasm_module::{Body, ModuleError, ParsedModule, Scratch};
 use wasm_ops::Space;
-
-/// The functions as items.
-fn items_of(alloc: Global, functions: &IdHashSet<FunctionId>) -> Result<Vec<Item>, AllocError> {
-    let mut items = Vec::new(alloc);
-    for function in functions {
-        if let Ok(index) = u32::try_from(function.index()) {
-            items.push(Item {
-                space: Space::Funcs,
-                index,
-            })?;
-        }
-    }
-    Ok(items)
-}
-
-/// What is left of a module without what nothing reaches, not even from these items.
-fn reached_from(
-    alloc: Global,
-    parsed: &ParsedModule<'_>,
-    roots: &[Item],
-) -> Result<Remainder, ModuleError> {
-    match references_of(alloc, parsed.bytes()) {
-        Ok(references) => references.reached(alloc, roots),
-        Err(error) => Err(error),
-    }
-}
 
 /// What is left of a module without what nothing reaches: neither an export, the start function, a segment that is seen
 /// outside of the module or may fail, nor one of these functions.
@@ -43,10 +17,20 @@ pub fn reached(
     parsed: &ParsedModule<'_>,
     functions: &IdHashSet<FunctionId>,
 ) -> Result<Remainder, ModuleError> {
-    match items_of(alloc, functions) {
-        Ok(roots) => reached_from(alloc, parsed, &roots),
-        Err(error) => Err(ModuleError::from(error)),
+    let mut roots = Vec::new(alloc);
+    for function in functions {
+        if let Ok(index) = u32::try_from(function.index()) {
+            roots.push(Item {
+                space: Space::Funcs,
+                index,
+            })?;
+        }
     }
+    let references: References = match references_of(alloc, parsed.bytes()) {
+        Ok(references) => references,
+        Err(error) => return Err(error),
+    };
+    references.reached(alloc, &roots)
 }
 
 /// Rewrites the body of a function with names of locals by its tree, and sets their new indices.
@@ -89,53 +73,27 @@ fn add_body<'a>(
     }
 }
 
-/// Adds the bodies of the functions that are left, as the module writes them under the numbers of what is left.
-fn add_bodies(
+/// The bodies of the functions that are left, as the module writes them under the numbers of what is left.
+fn code_of(
+    alloc: Global,
     parsed: &mut ParsedModule<'_>,
     remainder: &Remainder,
-    code: &mut LeftCode,
-    instrs: &mut Vec<(Instr, InstrLocId)>,
-    scratch: &mut Scratch,
-) -> Result<(), ModuleError> {
+) -> Result<LeftCode, ModuleError> {
+    let mut code = match LeftCode::new(alloc, parsed.bytes()) {
+        Ok(code) => code,
+        Err(error) => return Err(error),
+    };
+    let mut instrs = Vec::new(alloc);
+    let mut scratch = Scratch::new(alloc);
     for body in parsed.bodies() {
         if remainder.left.has_function(body.func) {
-            match add_body(parsed, body, code, instrs, scratch) {
+            match add_body(parsed, body, &mut code, &mut instrs, &mut scratch) {
                 Ok(()) => {}
                 Err(error) => return Err(error),
             }
         }
     }
-    Ok(())
-}
-
-/// The module without what nothing reaches, with these bodies and those of the functions that are left, which are added to them.
-fn removed(
-    alloc: Global,
-    parsed: &mut ParsedModule<'_>,
-    remainder: &Remainder,
-    code: &mut LeftCode,
-) -> Result<Vec<u8>, ModuleError> {
-    let mut instrs = Vec::new(alloc);
-    let mut scratch = Scratch::new(alloc);
-    match add_bodies(parsed, remainder, code, &mut instrs, &mut scratch) {
-        Ok(()) => remove(alloc, parsed.bytes(), remainder, code),
-        Err(error) => Err(error),
-    }
-}
-
-/// Lets the module write its bodies under the numbers of what is left.
-fn number_left(
-    alloc: Global,
-    parsed: &mut ParsedModule<'_>,
-    remainder: &Remainder,
-) -> Result<(), ModuleError> {
-    match remainder.left.numbers(alloc) {
-        Ok(numbers) => {
-            let _before = parsed.replace_numbers(numbers);
-            Ok(())
-        }
-        Err(error) => Err(ModuleError::from(error)),
-    }
+    Ok(code)
 }
 
 /// The module of which this is left. Its bodies are rewritten, under new indices.
@@ -148,12 +106,13 @@ pub fn module_of_left(
     parsed: &mut ParsedModule<'_>,
     remainder: &Remainder,
 ) -> Result<Vec<u8>, ModuleError> {
-    match number_left(alloc, parsed, remainder) {
-        Ok(()) => {}
-        Err(error) => return Err(error),
-    }
-    match LeftCode::new(alloc, parsed.bytes()) {
-        Ok(mut code) => removed(alloc, parsed, remainder, &mut code),
+    let numbers = match remainder.left.numbers(alloc) {
+        Ok(numbers) => numbers,
+        Err(error) => return Err(ModuleError::from(error)),
+    };
+    let _before = parsed.replace_numbers(numbers);
+    match code_of(alloc, parsed, remainder) {
+        Ok(code) => remove(alloc, parsed.bytes(), remainder, &code),
         Err(error) => Err(error),
     }
 }

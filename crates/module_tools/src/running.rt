@@ -262,7 +262,7 @@ where
         &self,
         source: &Option<SourceMap>,
         parsed: &mut ParsedModule<'a>,
-        module: &mut RewrittenModule<'a, B>,
+        mut module: RewrittenModule<'a, B>,
         debug: &[DebugSection<'a>],
         output: &'w str,
     ) -> Result<u64, ProgramFailure<'w>> {
@@ -271,14 +271,16 @@ where
             false => 0,
         };
         let sections = &debug[..count];
-        if omit(self.task, parsed, sections, module).is_err() {
+        if omit(self.task, parsed, sections, &mut module).is_err() {
             // Its sections were read before.
             return Err(ProgramFailure::Memory);
         }
-        match write_module(self.rt, parsed, module, sections, self.task, source, output) {
+        match write_module(
+            self.rt, parsed, &module, sections, self.task, source, output,
+        ) {
             Ok((written, failure)) => {
                 let outcome = DebugOutcome { sections, failure };
-                warn(self.rt, self.program, module, self.task, outcome);
+                warn(self.rt, self.program, &module, self.task, outcome);
                 Ok(written)
             }
             Err(failure) => Err(failure),
@@ -296,49 +298,11 @@ where
         output: &'w str,
     ) -> Result<u64, ProgramFailure<'w>> {
         match made {
-            Ok(mut module) => {
+            Ok(module) => {
                 self.progress.clear();
-                self.write_made(source, parsed, &mut module, debug, output)
+                self.write_made(source, parsed, module, debug, output)
             }
             Err(error) => Err(self.refused(parsed, &error)),
-        }
-    }
-
-    /// Writes the module with its functions rewritten, and the source map that follows it, if there is one. Returns how many bytes were
-    /// written of the module.
-    fn write_rewritten(
-        &self,
-        source: &Option<SourceMap>,
-        parsed: &mut ParsedModule<'a>,
-        changes: Changes,
-        debug: &[DebugSection<'a>],
-        output: &'w str,
-    ) -> Result<u64, ProgramFailure<'w>> {
-        if tells_pairs(self.task, debug) {
-            let made = rewritten_with_pairs(parsed, changes, self.progress);
-            return self.write_or_refuse(source, parsed, made, debug, output);
-        }
-        let made = rewritten(parsed, changes, self.progress);
-        self.write_or_refuse(source, parsed, made, debug, output)
-    }
-
-    /// Writes the module as the program changes it, and the source map that follows it, if there is one. Returns how many bytes were written
-    /// of the module.
-    fn write_changed(
-        &self,
-        source: &Option<SourceMap>,
-        parsed: &mut ParsedModule<'a>,
-        found: (Option<T::Change>, Changes),
-        debug: &[DebugSection<'a>],
-        output: &'w str,
-    ) -> Result<u64, ProgramFailure<'w>> {
-        let (change, changes) = found;
-        match change {
-            None => self.write_rewritten(source, parsed, changes, debug, output),
-            Some(change) => {
-                let made = changed(parsed, change, changes, self.progress);
-                self.write_or_refuse(source, parsed, made, debug, output)
-            }
         }
     }
 
@@ -351,14 +315,27 @@ where
         functions: IdHashSet<FunctionId>,
         output: &'w str,
     ) -> Result<u64, ProgramFailure<'w>> {
-        let found = match self.changes_of(parsed, functions) {
+        let (change, changes) = match self.changes_of(parsed, functions) {
             Ok(found) => found,
             Err(failure) => return Err(failure),
         };
-        match following_debug(self.rt.alloc(), self.task, parsed) {
-            Ok(debug) => self.write_changed(source, parsed, found, &debug, output),
+        let Ok(debug) = following_debug(self.rt.alloc(), self.task, parsed) else {
             // Its sections were read before.
-            Err(_) => Err(ProgramFailure::Memory),
+            return Err(ProgramFailure::Memory);
+        };
+        match change {
+            None if tells_pairs(self.task, &debug) => {
+                let made = rewritten_with_pairs(parsed, changes, self.progress);
+                self.write_or_refuse(source, parsed, made, &debug, output)
+            }
+            None => {
+                let made = rewritten(parsed, changes, self.progress);
+                self.write_or_refuse(source, parsed, made, &debug, output)
+            }
+            Some(change) => {
+                let made = changed(parsed, change, changes, self.progress);
+                self.write_or_refuse(source, parsed, made, &debug, output)
+            }
         }
     }
 
@@ -420,36 +397,44 @@ where
             Err(failure) => Err(failure),
         }
     }
+}
 
-    /// Does what is asked for with a module that was read from these bytes.
-    fn run_read(
-        &self,
-        bytes: &'a [u8],
-        parsed: &mut ParsedModule<'a>,
-    ) -> Result<Done, ProgramFailure<'w>> {
-        match check_validity(self.rt.alloc(), self.task, bytes, parsed) {
-            Ok(()) => {}
-            Err(failure) => return Err(failure),
-        }
-        let functions = parsed.body_count();
-        self.progress.begin(functions);
-        match self.outcome(parsed) {
-            Ok(outcome) => Ok(Done {
-                functions,
-                read: bytes.len() as u64,
-                outcome,
-            }),
-            Err(failure) => Err(failure),
-        }
+/// Does what is asked for with a module of these bytes.
+fn run_over<'w, 'a, R, T: Tool>(
+    rt: &'w R,
+    tool: &'a T,
+    program: &'a str,
+    task: &'a Task<'w>,
+    bytes: &'a [u8],
+    progress: &'a Progress<'a, R>,
+) -> Result<Done, ProgramFailure<'w>>
+where
+    R: LockFiles + Input + Clock + Print + Eprint + AllocGlobal + Drop,
+{
+    let mut parsed = match ParsedModule::read_in_box(rt.alloc(), bytes) {
+        Ok(parsed) => parsed,
+        Err(error) => return Err(ProgramFailure::not_read(rt.alloc(), task.input, bytes, &error)),
+    };
+    match check_validity(rt.alloc(), task, bytes, &parsed) {
+        Ok(()) => {}
+        Err(failure) => return Err(failure),
     }
-
-    /// Does what is asked for with a module of these bytes.
-    fn run_over(&self, bytes: &'a [u8]) -> Result<Done, ProgramFailure<'w>> {
-        let alloc = self.rt.alloc();
-        match ParsedModule::read_in_box(alloc, bytes) {
-            Ok(mut parsed) => self.run_read(bytes, &mut parsed),
-            Err(error) => Err(ProgramFailure::not_read(alloc, self.task.input, bytes, &error)),
-        }
+    let functions = parsed.body_count();
+    progress.begin(functions);
+    let run = ModuleRun {
+        rt,
+        tool,
+        program,
+        task,
+        progress,
+    };
+    match run.outcome(&mut parsed) {
+        Ok(outcome) => Ok(Done {
+            functions,
+            read: bytes.len() as u64,
+            outcome,
+        }),
+        Err(failure) => Err(failure),
     }
 }
 
@@ -464,15 +449,8 @@ fn read_and_run<'w, 'a, R, T: Tool>(
 where
     R: LockFiles + Input + Clock + Print + Eprint + AllocGlobal + Drop,
 {
-    let run = ModuleRun {
-        rt,
-        tool,
-        program,
-        task,
-        progress,
-    };
     match read_file(rt, task.input) {
-        Ok(bytes) => run.run_over(&bytes),
+        Ok(bytes) => run_over(rt, tool, program, task, &bytes, progress),
         Err(failure) => Err(failure),
     }
 }

@@ -3,24 +3,20 @@
 ghost use Rattle.std.specs.Prelude.{◌≤◌, IfOk};
 ghost use Rattle.std.specs.Process.{exit_status};
 
-use crate::snipped_modules::{SnippedModule, snipped};
-use left_modules::{
-    Followers, LeftModule, Origins, made_of_left, push_followers, reached, write_left,
-};
+use crate::snipped_modules::snipped;
+use left_modules::{LeftModule, Origins, made_of_left, push_followers, reached, write_left};
 use module_debug::DebugFailure;
 use module_removal::Remainder;
 use module_tools::{Terminals, Tool, check_task, run};
-use source_map::SourceMap;
 use std::alloc::Global;
 use std::io;
 use std::process::ExitCode;
 use std::rt::{Clock, Env};
 use std::time::Instant;
 use tool_files::{Done, LockFiles, Outcome, print_done, read_file, status_of_done};
-use tool_reading::{Choice, check_validity, functions_of, list_chosen, refused};
+use tool_reading::{check_validity, functions_of, list_removed, refused};
 use tool_words::{Program, ProgramFailure, Request, Task, exit_code, read_arguments, words};
 use tool_writing::{CodeChange, DebugOutcome, Notes, given_source_map, warn_of};
-use walrus_ir::{FunctionId, IdHashSet};
 use wasm_module::{ModuleError, ParsedModule};
 
 /// How the module that is read was made of another one, if it was.
@@ -32,16 +28,6 @@ struct Made<'m> {
     failure: Option<DebugFailure>,
     /// How its code differs from that of the other one.
     code: CodeChange,
-}
-
-/// The functions that aren't left.
-#[derive(Clone, Copy)]
-struct Removed<'m>(&'m Remainder);
-
-impl Choice for Removed<'_> {
-    fn includes(&self, function: usize) -> bool {
-        !self.0.left.has_function(function)
-    }
 }
 
 /// A run over a module that was read.
@@ -63,29 +49,20 @@ where
         refused(self.rt.alloc(), parsed, self.task.input, error)
     }
 
-    /// Says what is wrong now in a module that was written, with these after its code.
-    fn warn(&self, followers: &Followers<'_>) {
-        let all = Notes {
-            notes: followers.notes.as_slice(),
-            code: followers.code.after(self.made.code),
-        };
-        let outcome = DebugOutcome {
-            sections: followers.debug.as_slice(),
-            failure: followers.failure,
-        };
-        warn_of(self.rt, self.program, all, self.task, outcome);
-    }
-
     /// Writes a module that was made, of which this is left, and what follows it.
-    fn write_followed(
+    fn write_made(
         &self,
-        source: &Option<SourceMap>,
         parsed: &mut ParsedModule<'_>,
         remainder: &Remainder,
         made: &mut Vec<u8>,
         output: &'w str,
     ) -> Result<u64, ProgramFailure<'w>> {
-        let (rt, task, failure) = (self.rt, self.task, self.made.failure);
+        let (rt, task) = (self.rt, self.task);
+        let source = match given_source_map(rt, task) {
+            Ok(map) => map,
+            Err(failure) => return Err(failure),
+        };
+        let failure = self.made.failure;
         let followers = match push_followers(rt.alloc(), task, parsed, remainder, failure, made) {
             Ok(followers) => followers,
             Err(error) => return Err(self.refused(parsed, &error)),
@@ -95,40 +72,20 @@ where
             made,
             origins: self.made.origins,
         };
-        match write_left(rt, task, parsed, module, source, output) {
-            Ok(written) => {
-                self.warn(&followers);
-                Ok(written)
-            }
-            Err(failure) => Err(failure),
-        }
-    }
-
-    /// Writes a module that was made, of which this is left, and what follows it, after the source map is read, if one is given.
-    fn write_made(
-        &self,
-        parsed: &mut ParsedModule<'_>,
-        remainder: &Remainder,
-        made: &mut Vec<u8>,
-        output: &'w str,
-    ) -> Result<u64, ProgramFailure<'w>> {
-        match given_source_map(self.rt, self.task) {
-            Ok(source) => self.write_followed(&source, parsed, remainder, made, output),
-            Err(failure) => Err(failure),
-        }
-    }
-
-    /// Writes the module of which this is left, and returns how many bytes it has.
-    fn write(
-        &self,
-        parsed: &mut ParsedModule<'_>,
-        remainder: &Remainder,
-        output: &'w str,
-    ) -> Result<u64, ProgramFailure<'w>> {
-        match made_of_left(self.rt.alloc(), self.task, parsed, remainder) {
-            Ok(mut made) => self.write_made(parsed, remainder, &mut made, output),
-            Err(error) => Err(self.refused(parsed, &error)),
-        }
+        let written = match write_left(rt, task, parsed, module, &source, output) {
+            Ok(written) => written,
+            Err(failure) => return Err(failure),
+        };
+        let all = Notes {
+            notes: followers.notes.as_slice(),
+            code: followers.code.after(self.made.code),
+        };
+        let outcome = DebugOutcome {
+            sections: followers.debug.as_slice(),
+            failure: followers.failure,
+        };
+        warn_of(rt, self.program, all, task, outcome);
+        Ok(written)
     }
 
     /// Writes the module of which this is left, and returns how many bytes it has; or lists the functions that aren't, where no module is
@@ -139,62 +96,29 @@ where
         remainder: &Remainder,
     ) -> Result<Option<u64>, ProgramFailure<'w>> {
         let Some(output) = self.task.output else {
-            return match list_chosen(self.rt, parsed, &Removed(remainder)) {
+            return match list_removed(self.rt, parsed, &remainder.left) {
                 Ok(()) => Ok(None),
                 Err(failure) => Err(failure),
             };
         };
-        match self.write(parsed, remainder, output) {
+        let mut made = match made_of_left(self.rt.alloc(), self.task, parsed, remainder) {
+            Ok(made) => made,
+            Err(error) => return Err(self.refused(parsed, &error)),
+        };
+        match self.write_made(parsed, remainder, &mut made, output) {
             Ok(written) => Ok(Some(written)),
             Err(failure) => Err(failure),
         }
     }
 
-    /// Does what is asked for with a module that was read, of which these functions are kept.
-    fn collect_keeping(
-        &self,
-        parsed: &mut ParsedModule<'_>,
-        functions: &IdHashSet<FunctionId>,
-    ) -> Result<Option<u64>, ProgramFailure<'w>> {
-        match reached(self.rt.alloc(), parsed, functions) {
-            Ok(remainder) => self.write_or_list(parsed, &remainder),
-            Err(error) => Err(self.refused(parsed, &error)),
-        }
-    }
-
     /// Does what is asked for with a module that was read. Returns how many bytes were written, if a module was.
     fn collect(&self, parsed: &mut ParsedModule<'_>) -> Result<Option<u64>, ProgramFailure<'w>> {
-        match functions_of(self.rt, parsed, &self.task.kept) {
-            Ok(functions) => self.collect_keeping(parsed, &functions),
-            Err(failure) => Err(failure),
-        }
-    }
-
-    /// Does what is asked for with a module that was made of this one.
-    fn collect_snipped(
-        &self,
-        parsed: &ParsedModule<'_>,
-        snipped: &SnippedModule,
-    ) -> Result<Option<u64>, ProgramFailure<'w>> {
-        let made = Made {
-            origins: Some(&snipped.origins),
-            failure: snipped.failure,
-            code: snipped.code,
+        let functions = match functions_of(self.rt, parsed, &self.task.kept) {
+            Ok(functions) => functions,
+            Err(failure) => return Err(failure),
         };
-        match ParsedModule::read_in_box(self.rt.alloc(), &snipped.bytes) {
-            Ok(mut parsed) => Collecting { made, ..*self }.collect(&mut parsed),
-            Err(error) => Err(self.refused(parsed, &error)),
-        }
-    }
-
-    /// Does what is asked for with a module that was read, after the bodies of these functions are taken away.
-    fn collect_without(
-        &self,
-        parsed: &mut ParsedModule<'_>,
-        functions: IdHashSet<FunctionId>,
-    ) -> Result<Option<u64>, ProgramFailure<'w>> {
-        match snipped(self.rt.alloc(), self.task, parsed, functions) {
-            Ok(snipped) => self.collect_snipped(parsed, &snipped),
+        match reached(self.rt.alloc(), parsed, &functions) {
+            Ok(remainder) => self.write_or_list(parsed, &remainder),
             Err(error) => Err(self.refused(parsed, &error)),
         }
     }
@@ -204,26 +128,46 @@ where
         &self,
         parsed: &mut ParsedModule<'_>,
     ) -> Result<Option<u64>, ProgramFailure<'w>> {
-        match functions_of(self.rt, parsed, &self.task.functions) {
-            Ok(functions) => self.collect_without(parsed, functions),
-            Err(failure) => Err(failure),
+        let (rt, task) = (self.rt, self.task);
+        let functions = match functions_of(rt, parsed, &task.functions) {
+            Ok(functions) => functions,
+            Err(failure) => return Err(failure),
+        };
+        let snipped = match snipped(rt.alloc(), task, parsed, functions) {
+            Ok(snipped) => snipped,
+            Err(error) => return Err(self.refused(parsed, &error)),
+        };
+        let made = Made {
+            origins: Some(&snipped.origins),
+            failure: snipped.failure,
+            code: snipped.code,
+        };
+        match ParsedModule::read_in_box(rt.alloc(), &snipped.bytes) {
+            Ok(mut parsed) => Collecting { made, ..*self }.collect(&mut parsed),
+            Err(error) => Err(self.refused(parsed, &error)),
         }
     }
 
-    /// Does what is asked for with a module that was read from these bytes.
-    fn run_read(
-        &self,
-        bytes: &[u8],
-        parsed: &mut ParsedModule<'_>,
-    ) -> Result<Done, ProgramFailure<'w>> {
-        match check_validity(self.rt.alloc(), self.task, bytes, parsed) {
+    /// Does what is asked for with a module of these bytes.
+    fn run_over(&self, bytes: &[u8]) -> Result<Done, ProgramFailure<'w>> {
+        let (rt, task) = (self.rt, self.task);
+        let mut parsed = match ParsedModule::read_in_box(rt.alloc(), bytes) {
+            Ok(parsed) => parsed,
+            Err(error) => return Err(ProgramFailure::not_read(
+                rt.alloc(),
+                task.input,
+                bytes,
+                &error,
+            )),
+        };
+        match check_validity(rt.alloc(), task, bytes, &parsed) {
             Ok(()) => {}
             Err(failure) => return Err(failure),
         }
         let functions = parsed.body_count();
-        let written = match self.task.functions.is_empty() {
-            true => self.collect(parsed),
-            false => self.snip_and_collect(parsed),
+        let written = match task.functions.is_empty() {
+            true => self.collect(&mut parsed),
+            false => self.snip_and_collect(&mut parsed),
         };
         match written {
             Ok(written) => Ok(Done {
@@ -235,15 +179,6 @@ where
                 },
             }),
             Err(failure) => Err(failure),
-        }
-    }
-
-    /// Does what is asked for with a module of these bytes.
-    fn run_over(&self, bytes: &[u8]) -> Result<Done, ProgramFailure<'w>> {
-        let alloc = self.rt.alloc();
-        match ParsedModule::read_in_box(alloc, bytes) {
-            Ok(mut parsed) => self.run_read(bytes, &mut parsed),
-            Err(error) => Err(ProgramFailure::not_read(alloc, self.task.input, bytes, &error)),
         }
     }
 }

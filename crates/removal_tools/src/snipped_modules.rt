@@ -8,7 +8,7 @@ use std::alloc::{AllocError, Global};
 use tool_words::Task;
 use tool_writing::{CodeChange, following_debug};
 use walrus_ir::{FunctionId, IdHashSet};
-use wasm_module::{BodyWriter, ModuleError, ParsedModule, RewrittenModule, WriteError};
+use wasm_module::{ModuleError, ParsedModule, WriteError};
 
 /// A module that was made of another one.
 #[derive(Drop)]
@@ -47,70 +47,15 @@ fn push_debug(
     }
 }
 
-/// Writes the module that was made, which doesn't have these sections with debug information, and they after it. Returns why these can't be
-/// moved, if they can't.
-fn write_recorded<B: BodyWriter>(
+/// The module without the bodies of these functions, and its debug information after it.
+fn written(
     alloc: Global,
+    task: &Task<'_>,
     parsed: &mut ParsedModule<'_>,
-    module: &RewrittenModule<'_, B>,
-    debug: &[DebugSection<'_>],
-    recording: &mut Recording,
-    bytes: &mut Vec<u8>,
-) -> Result<Option<DebugFailure>, WriteError> {
-    match parsed.write_module_with_sink(module, recording, bytes) {
-        Ok(()) => push_debug(alloc, parsed, debug, &recording.places, bytes),
-        Err(error) => Err(error),
-    }
-}
-
-/// Writes the same. Returns where its operators come from too.
-fn write_traced<B: BodyWriter>(
-    alloc: Global,
-    parsed: &mut ParsedModule<'_>,
-    module: &RewrittenModule<'_, B>,
-    debug: &[DebugSection<'_>],
-    bytes: &mut Vec<u8>,
-) -> Result<(Origins, Option<DebugFailure>), WriteError> {
-    let mut recording = Recording {
-        origins: Origins::new(alloc),
-        places: OperatorPlaces::new(alloc, !debug.is_empty()),
-    };
-    match write_recorded(alloc, parsed, module, debug, &mut recording, bytes) {
-        Ok(failure) => {
-            let Recording { origins, .. } = recording;
-            Ok((origins, failure))
-        }
-        Err(error) => Err(error),
-    }
-}
-
-/// The module that was made, as it is written, and these sections with debug information after it.
-fn written_with<B: BodyWriter>(
-    alloc: Global,
-    parsed: &mut ParsedModule<'_>,
-    module: &RewrittenModule<'_, B>,
-    debug: &[DebugSection<'_>],
-    code: CodeChange,
+    functions: IdHashSet<FunctionId>,
 ) -> Result<SnippedModule, WriteError> {
-    let mut bytes = Vec::new(alloc);
-    match write_traced(alloc, parsed, module, debug, &mut bytes) {
-        Ok((origins, failure)) => Ok(SnippedModule {
-            bytes,
-            origins,
-            failure,
-            code,
-        }),
-        Err(error) => Err(error),
-    }
-}
-
-/// The module that was made, as it is written. These sections with debug information come last, if its code changes.
-fn written_after<'a, B: BodyWriter>(
-    alloc: Global,
-    parsed: &mut ParsedModule<'a>,
-    module: &mut RewrittenModule<'a, B>,
-    debug: &[DebugSection<'a>],
-) -> Result<SnippedModule, WriteError> {
+    let debug = following_debug(alloc, task, parsed)?;
+    let mut module = snip(alloc, parsed, functions)?;
     let code = CodeChange {
         changes: module.changes_code(),
         moves: module.moves_code(),
@@ -120,32 +65,21 @@ fn written_after<'a, B: BodyWriter>(
     for section in debug {
         module.omit_custom_section(section.name)?;
     }
-    written_with(alloc, parsed, module, debug, code)
-}
-
-/// The module without the bodies of these functions, and these sections with debug information after it.
-fn snipped_with<'a>(
-    alloc: Global,
-    parsed: &mut ParsedModule<'a>,
-    functions: IdHashSet<FunctionId>,
-    debug: &[DebugSection<'a>],
-) -> Result<SnippedModule, WriteError> {
-    match snip(alloc, parsed, functions) {
-        Ok(mut module) => written_after(alloc, parsed, &mut module, debug),
-        Err(error) => Err(WriteError::from(error)),
-    }
-}
-
-/// The module without the bodies of these functions, and its debug information after it.
-fn written(
-    alloc: Global,
-    task: &Task<'_>,
-    parsed: &mut ParsedModule<'_>,
-    functions: IdHashSet<FunctionId>,
-) -> Result<SnippedModule, WriteError> {
-    match following_debug(alloc, task, parsed) {
-        Ok(debug) => snipped_with(alloc, parsed, functions, &debug),
-        Err(error) => Err(WriteError::from(error)),
+    let mut recording = Recording {
+        origins: Origins::new(alloc),
+        places: OperatorPlaces::new(alloc, !debug.is_empty()),
+    };
+    let mut bytes = Vec::new(alloc);
+    parsed.write_module_with_sink(&module, &mut recording, &mut bytes)?;
+    let Recording { origins, places } = recording;
+    match push_debug(alloc, parsed, debug, &places, &mut bytes) {
+        Ok(failure) => Ok(SnippedModule {
+            bytes,
+            origins,
+            failure,
+            code,
+        }),
+        Err(error) => Err(error),
     }
 }
 

@@ -12,7 +12,7 @@ mod validating;
 
 pub use checking::{check_bodies, refused};
 pub use choosing::{check_input, functions_of};
-pub use listing::{Choice, list_chosen, list_functions};
+pub use listing::{list_functions, list_removed};
 pub use names::{Found, FunctionNames, function_at};
 pub use progress::{Progress, Watched, WatchedChange};
 pub use validating::{check_validity, validate_module, validate_module_within_limits};

@@ -1,6 +1,7 @@
 //! The functions of a module as lines.
 
 use crate::names::FunctionNames;
+use module_removal::LeftItems;
 use std::io::{BufWriter, Write};
 use std::{fmt, io};
 use tool_words::{Attempt, Escaped, ProgramFailure};
@@ -24,31 +25,15 @@ impl fmt::Display for Listed<'_> {
     }
 }
 
-/// Which functions are listed.
-pub trait Choice {
-    /// Whether the function with this index is, if it has a body.
-    fn includes(&self, function: usize) -> bool;
-}
-
-/// All functions are.
-#[derive(Clone, Copy)]
-struct All;
-
-impl Choice for All {
-    fn includes(&self, _function: usize) -> bool {
-        true
-    }
-}
-
-/// Writes a line for each of these functions with a body.
-fn write_lines<W: Write, C: Choice>(
+/// Writes a line for each function with a body that isn't left.
+fn write_lines<W: Write>(
     parsed: &ParsedModule<'_>,
     names: &FunctionNames<'_>,
-    choice: &C,
+    left: Option<&LeftItems>,
     out: &mut W,
 ) -> io::Result<()> {
     for body in parsed.bodies() {
-        if !choice.includes(body.func) {
+        if left.is_some_and(|left| left.has_function(body.func)) {
             continue;
         }
         let line = Listed {
@@ -61,29 +46,25 @@ fn write_lines<W: Write, C: Choice>(
     out.flush()
 }
 
-/// Writes a line for each of these functions with a body, buffered.
-fn print_lines<R: Print + AllocGlobal, C: Choice>(
+/// Writes a line for each function with a body that isn't left, buffered.
+fn print_lines<R: Print + AllocGlobal>(
     rt: &R,
     parsed: &ParsedModule<'_>,
+    left: Option<&LeftItems>,
     names: &FunctionNames<'_>,
-    choice: &C,
 ) -> io::Result<()> {
     let mut out = BufWriter::new(rt.alloc(), io::writer(rt))?;
-    write_lines(parsed, names, choice, &mut out)
+    write_lines(parsed, names, left, &mut out)
 }
 
-/// Prints a line for each of these functions with a body.
-///
-/// # Errors
-///
-/// Where they can't be printed, or memory runs out.
-pub fn list_chosen<'w, R: Print + AllocGlobal, C: Choice>(
+/// Prints a line for each function with a body that isn't left.
+fn list<'w, R: Print + AllocGlobal>(
     rt: &R,
     parsed: &ParsedModule<'_>,
-    choice: &C,
+    left: Option<&LeftItems>,
 ) -> Result<(), ProgramFailure<'w>> {
     let names = FunctionNames::read(rt.alloc(), parsed)?;
-    match print_lines(rt, parsed, &names, choice) {
+    match print_lines(rt, parsed, left, &names) {
         Ok(()) => Ok(()),
         Err(error) => Err(ProgramFailure::file("-", Attempt::Write, error)),
     }
@@ -93,10 +74,23 @@ pub fn list_chosen<'w, R: Print + AllocGlobal, C: Choice>(
 ///
 /// # Errors
 ///
-/// Those of `list_chosen`.
+/// Where they can't be printed, or memory runs out.
 pub fn list_functions<'w, R: Print + AllocGlobal>(
     rt: &R,
     parsed: &ParsedModule<'_>,
 ) -> Result<(), ProgramFailure<'w>> {
-    list_chosen(rt, parsed, &All)
+    list(rt, parsed, None)
+}
+
+/// Prints a line for each function with a body that isn't left.
+///
+/// # Errors
+///
+/// Those of `list_functions`.
+pub fn list_removed<'w, R: Print + AllocGlobal>(
+    rt: &R,
+    parsed: &ParsedModule<'_>,
+    left: &LeftItems,
+) -> Result<(), ProgramFailure<'w>> {
+    list(rt, parsed, Some(left))
 }
