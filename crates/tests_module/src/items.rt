@@ -30,7 +30,7 @@ pub(crate) enum Edit<'i> {
 }
 
 /// Changes an item of a section, and returns whether there is such an item.
-pub(crate) fn edit(
+pub(crate) fn make_edit(
     parsed: &ParsedModule<'_>,
     changes: &mut Changes,
     edit: Edit<'_>,

@@ -1,5 +1,5 @@
 //! What is done to a module before it is written: items are added, imported and exported.
-use crate::items::{Edit, edit};
+use crate::items::{Edit, make_edit};
 use std::alloc::{AllocError, Global};
 use walrus_body::LocalFunction;
 use walrus_ir::{
@@ -206,7 +206,7 @@ fn make(
             let (param, returned) = (type_of(*param), type_of(*returned));
             done(parsed.function_type(changes, param.as_slice(), returned.as_slice()))
         }
-        Step::Edit(change) => done(edit(parsed, changes, *change)),
+        Step::Edit(change) => done(make_edit(parsed, changes, *change)),
         Step::Import(ty) => parsed.import_function(changes, "t", "r", TypeId::new(*ty)),
         Step::Rewritten => match parsed.rewrite_all() {
             Ok(_rewritten) => Ok(FunctionId::new(0)),
