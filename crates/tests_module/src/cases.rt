@@ -26,7 +26,7 @@ pub(crate) enum Query<'i> {
     HasBodies,
     /// Its tables, memories, tags and globals.
     Storage,
-    /// Its data and element segments.
+    /// Its data segments.
     Segments,
     /// The contents of the custom section with this name, and the section as it is written.
     Custom(&'i str),

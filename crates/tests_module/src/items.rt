@@ -1,12 +1,11 @@
-//! The items of sections: segments and custom sections as they are read, and items that are replaced, renamed or removed.
+//! The items of sections: data segments and custom sections as they are read, and items that are replaced, renamed or removed.
 use crate::cases::{Query, check};
 use crate::making::{Item, Step};
 use crate::texts::EVERY_SECTION;
 use crate::whole_modules::{Change, Output};
 use module_items::{
-    ActiveSegment, Element, ElementSegment, custom_section, data_segments, element_segments,
-    put_custom_section, remove_export, rename_export, rename_import, replace_export, replace_item,
-    set_memory_limits,
+    ActiveSegment, custom_section, data_segments, put_custom_section, remove_export, rename_export,
+    rename_import, replace_export, replace_item, set_memory_limits,
 };
 use std::test::Fail;
 use wasm_body::Space;
@@ -66,8 +65,11 @@ fn push_active(text: &mut String, active: Option<ActiveSegment<'_>>) -> Result<(
     }
 }
 
-// Appends the data segments, each with its place.
-fn push_data(text: &mut String, parsed: &ParsedModule<'_>) -> Result<(), ModuleError> {
+/// Appends the data segments, each with its place.
+pub(crate) fn push_segments(
+    text: &mut String,
+    parsed: &ParsedModule<'_>,
+) -> Result<(), ModuleError> {
     for segment in data_segments(parsed)? {
         match segment {
             Ok(segment) => {
@@ -76,57 +78,6 @@ fn push_data(text: &mut String, parsed: &ParsedModule<'_>) -> Result<(), ModuleE
                 push_hex(text, segment.bytes)?;
                 write!(text, " at {}; ", segment.at)?;
             }
-            Err(error) => return Err(error),
-        }
-    }
-    Ok(())
-}
-
-// Appends the elements of a segment.
-fn push_elements(text: &mut String, segment: &ElementSegment<'_>) -> Result<(), ModuleError> {
-    for element in segment.elements {
-        match element {
-            Ok(Element::Function(index)) => write!(text, " {index}")?,
-            Ok(Element::Expression(bytes)) => {
-                write!(text, " ")?;
-                push_hex(text, bytes)?;
-            }
-            Err(error) => return Err(error),
-        }
-    }
-    Ok(())
-}
-
-// Appends an element segment, with its place.
-fn push_element_segment(
-    text: &mut String,
-    segment: &ElementSegment<'_>,
-) -> Result<(), ModuleError> {
-    match segment.is_declared {
-        true => write!(text, "declared")?,
-        false => push_active(text, segment.active)?,
-    }
-    if let Some(ty) = segment.ty {
-        write!(text, " of {ty:?}")?;
-    }
-    write!(text, ":")?;
-    push_elements(text, segment)?;
-    write!(text, " at {}; ", segment.at)?;
-    Ok(())
-}
-
-/// Appends the data and element segments.
-pub(crate) fn push_segments(
-    text: &mut String,
-    parsed: &ParsedModule<'_>,
-) -> Result<(), ModuleError> {
-    match push_data(text, parsed) {
-        Ok(()) => {}
-        Err(error) => return Err(error),
-    }
-    for segment in element_segments(parsed)? {
-        match segment {
-            Ok(segment) => push_element_segment(text, &segment)?,
             Err(error) => return Err(error),
         }
     }
@@ -291,12 +242,7 @@ fn segments_are_read(rt: HostRuntime) -> Result<(), Fail> {
         &[
             (
                 EVERY_SECTION,
-                "in 0 from 41000b: 6869 at 276; passive: 010203 at 283; in 1 from 42000b:  at 288; \
-                in 0 from 41000b: 0 at 193; passive: 1 at 199; in 1 from 41000b: 0 at 203; \
-                declared: at 211; in 0 from 41000b: d2000b at 214; \
-                passive of Ref(RefType { nullable: true, heap_type: Abstract(Func) }): d0700b at 222; \
-                in 2 from 41000b of Ref(RefType { nullable: true, heap_type: Abstract(Extern) }): at 228; \
-                declared of Ref(RefType { nullable: true, heap_type: Abstract(Func) }): at 235; ",
+                "in 0 from 41000b: 6869 at 276; passive: 010203 at 283; in 1 from 42000b:  at 288; ",
             ),
             ("0061736d01000000", ""),
         ],
