@@ -9,8 +9,8 @@ use Rattle.dwarf.specs.declared.index_abbreviations.IndexAbbreviation.{IndexAbbr
 use Rattle.dwarf.specs.declared.index_abbreviations.IndexAttribute.{IndexAttribute}
 use Rattle.dwarf.specs.IndexEntries.{repeats, codes_of, repeats_number}
 use Rattle.dwarf.specs.IndexInMemory.{index_declaration_of}
-use Rattle.dwarf.specs.Sorting.{inserted_by, sorted_by}
-use Rattle.dwarf.proofs.SortingLemmas.{RiseFrom, rises_from, sorted_mapped}
+use Rattle.dwarf_bytes.specs.Sorting.{inserted_by, sorted_by}
+use Rattle.dwarf_bytes.proofs.SortingLemmas.{RiseFrom, rises_from, sorted_mapped}
 
 or_swap : (a b c : Bool) → (a || (b || c)) ≡ (b || (a || c))
 or_swap true true c = refl

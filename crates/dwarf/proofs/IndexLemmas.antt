@@ -17,7 +17,7 @@ use Rattle.dwarf.specs.declared.index_abbreviations.IndexMeaning.TheVariants as 
 use Rattle.dwarf.specs.declared.name_index.PlacedNumber.{PlacedNumber}
 use Rattle.dwarf.specs.declared.name_index.Target.{Target}
 use Rattle.dwarf.specs.NameIndex.{SpelledIndex}
-use Rattle.dwarf.specs.Sorting.{sorted_by}
+use Rattle.dwarf_bytes.specs.Sorting.{sorted_by}
 use Rattle.dwarf.proofs.Repeating.{bind_fault, bind_value}
 use Rattle.dwarf.specs.IndexEntries.{IndexDeclaration, index_declarations, attributes_with, from_offset, unit_offsets_followed, spelled_index_followed, places_of_names, IndexFollowing, placed_value, with_offset, target_with, target_from, entry_followed, entries_at_most, name_entries_followed, repeats_number, once, all_names_followed}
 

@@ -13,8 +13,6 @@ pub mod FieldLemmas
 pub mod NamesKeep
 pub mod RangesKeep
 pub mod MacrosKeep
--- lists by ascending keys
-pub mod SortingLemmas
 -- the index of names
 pub mod IndexTables
 pub mod IndexCodes

@@ -22,7 +22,7 @@ use Rattle.dwarf.specs.declared.name_index.PlacedNumber.{PlacedNumber}
 use Rattle.dwarf.specs.declared.name_index.Target.{Target}
 use Rattle.dwarf.specs.NameIndex.{PlacedBytes, SpelledIndex, numbers_part, spelled_index, index_meaning, index_form, index_value}
 use Rattle.dwarf.specs.Replacing.{Replacing, ReplacingReader, part_replaced, each_replaced, section_replaced, unit_followed}
-use Rattle.dwarf.specs.Sorting.{sorted_by}
+use Rattle.dwarf_bytes.specs.Sorting.{sorted_by}
 
 -- ---- abbreviations (section 6.1.1.4.7)
 

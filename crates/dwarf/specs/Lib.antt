@@ -17,8 +17,6 @@ pub mod NewFields
 -- the index of names
 pub mod NameIndex
 pub mod NameIndexViews
--- lists by ascending keys
-pub mod Sorting
 -- entries of that index
 pub mod IndexEntries
 pub mod IndexSound

@@ -10,7 +10,7 @@ ghost use Rattle.dwarf_line.specs.Repeated.{all_values};
 ghost use Rattle.dwarf.specs.IndexEntries.{placed_value, target_with, target_from, no_target, number_of_list, compile_unit_of, unit_with, offset_written, offset_in_unit_followed, target_followed, entry_followed, from_offset, name_entries_followed, once, all_names_followed, unit_offsets_followed, spelled_index_followed, index_followed, name_index_followed};
 ghost use Rattle.dwarf.specs.NameIndex.{augmentation_passed, index_counts, numbers_part, hashes_passed, index_parts, spelled_index};
 ghost use Rattle.dwarf.specs.NameIndexViews.{counts_of, placed_bytes, index_spelled, index_following};
-ghost use Rattle.dwarf.specs.Sorting.{sorted_by};
+ghost use Rattle.dwarf_bytes.specs.Sorting.{sorted_by};
 
 use crate::index_abbreviations::{
     IndexAbbreviations, IndexAttribute, IndexForm, IndexMeaning, repeats_number,

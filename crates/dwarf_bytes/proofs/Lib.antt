@@ -10,3 +10,5 @@ pub mod MergingLemmas
 -- what a reader takes
 pub mod Local
 pub mod Shorter
+-- lists by ascending keys
+pub mod SortingLemmas

@@ -9,6 +9,8 @@ pub mod Changes
 pub mod Patches
 pub mod Order
 pub mod Merging
+-- lists by ascending keys
+pub mod Sorting
 -- addresses by index
 pub mod Addresses
 pub mod Uses

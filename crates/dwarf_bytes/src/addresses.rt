@@ -1,6 +1,14 @@
 //! The addresses that units name by index (DWARF 5, sections 7.27 and 2.17).
 
-ghost use Rattle.std.specs.Prelude.{◌≡◌, OnErr};
+ghost use Rattle.std.specs.Prelude.{◌≡◌, ◌+◌, ◌^◌, ◌⊎◌, nat_lt, [], ◌∷◌, map, option_map, None, Ok, Err, IfOk, OnOk, IfErr, OnErr};
+ghost use Rattle.wasm_numbers.specs.Results.{unless};
+ghost use Rattle.dwarf_bytes.specs.declared.fault.DebugFault.{DebugFault as AFault};
+ghost use Rattle.dwarf_bytes.specs.declared.fault.DebugFault.TheVariants.{BadOffset};
+ghost use Rattle.dwarf_bytes.specs.declared.fault.DebugError.TheVariants.{Memory, Fault};
+ghost use Rattle.dwarf_bytes.specs.Merging.{merging, AreMerged, IsFaultOfMerging, AreAllMerged, IsFaultOfAll};
+ghost use Rattle.dwarf_bytes.specs.Numbers.{size_in_bytes};
+ghost use Rattle.dwarf_bytes.specs.Patches.{changes, sized_part_of};
+ghost use Rattle.dwarf_bytes.specs.Uses.{told_address, is_same_address, number_at_replaced, address_replaced, addresses_replaced, is_same_table, longer_table_steps, longer_steps_after, longer_steps};
 
 use crate::fault::{DebugError, DebugFault};
 use crate::merging::MergedPatches;
@@ -145,7 +153,8 @@ impl LongerTable {
 impl AddressUses {
     ghost use Rattle.std.specs.Prelude.{◌≡◌, ◌++◌, ◌∷◌, ◌⊎◌, [], Ok, Err, IfOk, IfErr, OnOk, OnErr};
     ghost use Rattle.dwarf_bytes.specs.Addresses.{addresses_of_table};
-    ghost use Rattle.dwarf_bytes.specs.Uses.{told, lengthened, none_added};
+    ghost use Rattle.dwarf_bytes.specs.Patches.{changes};
+    ghost use Rattle.dwarf_bytes.specs.Uses.{told, lengthened, none_added, AreAddressesReplaced, IsFaultOfAddresses};
     ghost use Rattle.dwarf_bytes.specs.declared.fault.DebugFault.{DebugFault as AFault};
     ghost use Rattle.dwarf_bytes.specs.declared.fault.DebugError.TheVariants.{Memory, Fault};
 
@@ -193,7 +202,11 @@ impl AddressUses {
     }
 
     /// The addresses that others use become what they say.
-    pub fn add_all(&mut self, others: &AddressUses) -> Result<(), DebugError> {
+    pub fn add_all(&mut self, others: &AddressUses) -> Result<(), DebugError>
+        ensures told { OnOk result (told self.new ≡ told self.old ++ told others.now) }
+        ensures tables { OnOk result (lengthened self.new ≡ lengthened self.old ++ lengthened others.now) }
+        ensures memory { IfErr result (λ e. e ≡ Memory) }
+    {
         self.uses.extend_from_slice(&others.uses)?;
         self.longer.extend_from_slice(&others.longer)?;
         Ok(())
@@ -205,60 +218,163 @@ impl AddressUses {
     ///
     /// `Unsupported` if one address becomes different ones in different uses; `Overlap` if two addresses overlap; `DoesNotFit`; out of
     /// memory.
-    pub fn patches(&mut self, alloc: Global) -> Result<Patches, DebugError> {
-        self.uses
-            .sort_by_key(|other: &AddressUse| other.address.at)?;
-        let mut patches = Patches::new(alloc);
-        let mut last: Option<AddressUse> = None;
-        for step in &self.uses {
-            match last {
-                Some(other) if other.address == step.address => {
-                    if other.new != step.new {
-                        return Err(DebugError::Fault(DebugFault::Unsupported));
-                    }
-                }
-                _ => push_number(step.address.at, step.address.size, step.new, &mut patches)?,
-            }
-            last = Some(*step);
-        }
-        if self.longer.is_empty() {
-            return Ok(patches);
-        }
-        self.lengthen(alloc, &patches)
-    }
-
-    /// The same with the tables that get one more address.
-    fn lengthen(&mut self, alloc: Global, first: &Patches) -> Result<Patches, DebugError> {
+    pub fn patches(&mut self, alloc: Global) -> Result<Patches, DebugError>
+        ensures replaced { IfOk result (λ p. AreAddressesReplaced (told self.old) (lengthened self.old) (changes p)) }
+        ensures refused { IfErr result (λ e. (e ≡ Memory) ⊎ ((fault : AFault) × (e ≡ Fault fault)
+            × IsFaultOfAddresses (told self.old) (lengthened self.old) fault)) }
+    {
+        self.uses.sort_by_key(|one: &AddressUse| one.address.at)?;
         self.longer.sort_by_key(|table: &LongerTable| table.end)?;
-        let mut all = MergedPatches::new(alloc, first);
-        let mut scratch = Vec::new(alloc);
-        let mut last: Option<LongerTable> = None;
-        for table in &self.longer {
-            if last == Some(*table) {
-                continue;
-            }
-            let size = table.size.bytes();
-            let length = table.length.saturating_add(size as u64);
-            scratch.clear();
-            write_sized(&mut scratch, table.length_size, length)?;
-            all.push(table.length_at, table.length_size.bytes(), &scratch)?;
-            scratch.clear();
-            write_sized(&mut scratch, table.size, table.size.greatest())?;
-            all.push(table.end, 0, &scratch)?;
-            last = Some(*table);
+        let first = replaced(alloc, &self.uses)?;
+        if self.longer.is_empty() {
+            return Ok(first);
         }
-        all.finish()
+        lengthened(alloc, &self.longer, &first)
+    }
+}
+
+/// Whether two addresses are the same.
+fn is_same_address(address: &Address, other: &Address) -> bool
+    ensures { result ≡ is_same_address address.now other.now }
+{
+    address.at == other.at
+        && (address.value == other.value && address.size.bytes() == other.size.bytes())
+}
+
+/// Checks that the place after a number of this size is one of 64 bits.
+fn check_place(at: usize, size: Size) -> Result<(), DebugFault>
+    ensures { result ≡ unless (nat_lt (at + size_in_bytes size) (2 ^ 64)) BadOffset }
+{
+    match at.checked_add(size.bytes()) {
+        Some(_) => Ok(()),
+        None => Err(DebugFault::BadOffset),
     }
 }
 
 /// A number of this size at this place becomes this one.
-fn push_number(
-    at: usize,
-    size: Size,
-    number: u64,
-    patches: &mut Patches,
-) -> Result<(), DebugError> {
+fn push_number(at: usize, size: Size, number: u64, patches: &mut Patches) -> Result<(), DebugError>
+    ensures replaced { OnOk result (number_at_replaced at size number (changes patches.old) ≡ Ok (changes patches.new)) }
+    ensures refused { IfErr result (λ e. (e ≡ Memory) ⊎ ((fault : AFault) × (e ≡ Fault fault)
+        × (number_at_replaced at size number (changes patches.old) ≡ Err fault))) }
+{
     let mut scratch = Vec::new(patches.allocator());
     write_sized(&mut scratch, size, number)?;
+    check_place(at, size)?;
     patches.push(at, size.bytes(), &scratch)
+}
+
+/// An address becomes what it is told, where this one was before it.
+fn replace_address(
+    before: Option<AddressUse>,
+    one: &AddressUse,
+    patches: &mut Patches,
+) -> Result<(), DebugError>
+    ensures replaced { OnOk result (address_replaced (option_map told_address before) (told_address one.now) (changes patches.old)
+        ≡ Ok (changes patches.new)) }
+    ensures refused { IfErr result (λ e. (e ≡ Memory) ⊎ ((fault : AFault) × (e ≡ Fault fault)
+        × (address_replaced (option_map told_address before) (told_address one.now) (changes patches.old) ≡ Err fault))) }
+{
+    match before {
+        Some(other) if is_same_address(&other.address, &one.address) => {
+            if other.new == one.new {
+                Ok(())
+            } else {
+                Err(DebugError::Fault(DebugFault::Unsupported))
+            }
+        }
+        _ => push_number(one.address.at, one.address.size, one.new, patches),
+    }
+}
+
+/// What is replaced by these addresses, by ascending places.
+fn replaced(alloc: Global, uses: &[AddressUse]) -> Result<Patches, DebugError>
+    ensures replaced { IfOk result (λ p. addresses_replaced None (map told_address uses.now) [] ≡ Ok (changes p)) }
+    ensures refused { IfErr result (λ e. (e ≡ Memory) ⊎ ((fault : AFault) × (e ≡ Fault fault)
+        × (addresses_replaced None (map told_address uses.now) [] ≡ Err fault))) }
+{
+    let mut patches = Patches::new(alloc);
+    let mut before = None;
+    'each: for one in uses {
+        replace_address(before, one, &mut patches)?;
+        before = Some(*one);
+    }
+    Ok(patches)
+}
+
+/// Whether two tables are the same.
+fn is_same_table(table: &LongerTable, other: &LongerTable) -> bool
+    ensures { result ≡ is_same_table table.now other.now }
+{
+    table.length_at == other.length_at
+        && (table.length_size.bytes() == other.length_size.bytes()
+            && (table.length == other.length
+                && (table.end == other.end && table.size.bytes() == other.size.bytes())))
+}
+
+/// So many bytes become a number of this size.
+fn merge_number(
+    place: (usize, usize),
+    size: Size,
+    number: u64,
+    scratch: &mut Vec<u8>,
+    all: &mut MergedPatches<'_>,
+) -> Result<(), DebugError>
+    ensures merged { OnOk result (AreMerged (sized_part_of place.0 place.1 size number ∷ []) (merging all.old) (merging all.new)) }
+    ensures refused { IfErr result (λ e. (e ≡ Memory) ⊎ ((fault : AFault) × (e ≡ Fault fault)
+        × IsFaultOfMerging (sized_part_of place.0 place.1 size number ∷ []) (merging all.old) fault)) }
+{
+    let (at, old) = place;
+    scratch.clear();
+    write_sized(scratch, size, number)?;
+    all.push(at, old, scratch)
+}
+
+/// A table gets one more address.
+fn lengthen(
+    table: &LongerTable,
+    scratch: &mut Vec<u8>,
+    all: &mut MergedPatches<'_>,
+) -> Result<(), DebugError>
+    ensures merged { OnOk result (AreMerged (longer_table_steps table.now) (merging all.old) (merging all.new)) }
+    ensures refused { IfErr result (λ e. (e ≡ Memory) ⊎ ((fault : AFault) × (e ≡ Fault fault)
+        × IsFaultOfMerging (longer_table_steps table.now) (merging all.old) fault)) }
+{
+    let length = table.length.saturating_add(table.size.bytes() as u64);
+    let place = (table.length_at, table.length_size.bytes());
+    merge_number(place, table.length_size, length, scratch, all)?;
+    let none = table.size.greatest();
+    merge_number((table.end, 0), table.size, none, scratch, all)
+}
+
+/// A table gets one more address, where this one was before it.
+fn lengthen_after(
+    before: Option<LongerTable>,
+    table: &LongerTable,
+    scratch: &mut Vec<u8>,
+    all: &mut MergedPatches<'_>,
+) -> Result<(), DebugError>
+    ensures merged { OnOk result (AreMerged (longer_steps_after before table.now) (merging all.old) (merging all.new)) }
+    ensures refused { IfErr result (λ e. (e ≡ Memory) ⊎ ((fault : AFault) × (e ≡ Fault fault)
+        × IsFaultOfMerging (longer_steps_after before table.now) (merging all.old) fault)) }
+{
+    match before {
+        Some(other) if is_same_table(&other, table) => Ok(()),
+        _ => lengthen(table, scratch, all),
+    }
+}
+
+/// The same with the tables that get one more address, by ascending ends.
+fn lengthened(alloc: Global, tables: &[LongerTable], first: &Patches) -> Result<Patches, DebugError>
+    ensures replaced { IfOk result (λ p. AreAllMerged (changes first.now) (longer_steps None tables.now) (changes p)) }
+    ensures refused { IfErr result (λ e. (e ≡ Memory) ⊎ ((fault : AFault) × (e ≡ Fault fault)
+        × IsFaultOfAll (changes first.now) (longer_steps None tables.now) fault)) }
+{
+    let mut all = MergedPatches::new(alloc, first);
+    let mut scratch = Vec::new(alloc);
+    let mut before = None;
+    'each: for table in tables {
+        lengthen_after(before, table, &mut scratch, &mut all)?;
+        before = Some(*table);
+    }
+    all.finish()
 }

@@ -12,10 +12,10 @@ use Rattle.dwarf.specs.declared.index_abbreviations.IndexAttribute.{IndexAttribu
 use Rattle.dwarf.specs.IndexEntries.{repeats, codes_of, attributes_with}
 use Rattle.dwarf.specs.IndexInMemory.{index_declaration_of}
 use Rattle.dwarf.specs.IndexSound.{HasIndexAttributes}
-use Rattle.dwarf.specs.Sorting.{sorted_by}
+use Rattle.dwarf_bytes.specs.Sorting.{sorted_by}
 use Rattle.dwarf.proofs.IndexCodes.{code, codes_sorted, codes_declared, ascends}
 use Rattle.dwarf.proofs.IndexTables.{attributes_found}
-use Rattle.dwarf.proofs.SortingLemmas.{sorted_by_calls, find_sorted, all_sorted}
+use Rattle.dwarf_bytes.proofs.SortingLemmas.{sorted_by_calls, find_sorted, all_sorted}
 use Rattle.dwarf.proofs.index_abbreviations.IndexAbbreviations.read.Goals as goal
 use Rattle.dwarf.proofs.index_abbreviations.IndexAbbreviations.read.Goals.{In_ok-sort_by_key}
 

@@ -1,6 +1,6 @@
 use Rattle.std.proofs.Common.{ℕ}
 use Rattle.std.proofs.lemmas.List.Sorted.{IsNonDecreasingBy-from_sort}
-use Rattle.dwarf.proofs.SortingLemmas.{sorted_is}
+use Rattle.dwarf_bytes.proofs.SortingLemmas.{sorted_is}
 use Rattle.dwarf.proofs.name_index.NameIndex.sorted_names.Goals as goal
 
 pub returns-clause-read : goal.returns-clause-read

@@ -8,7 +8,7 @@ use Rattle.std.proofs.lemmas.Bool.{ltb-true, ltb-false, lt-ltb, le-ltb, eqb-true
 use Rattle.std.proofs.lemmas.Fn.{always_returns_same}
 use Rattle.std.proofs.lemmas.List.Elements.{filter_agree}
 use Rattle.std.proofs.lemmas.List.Sorted.{IsNonDecreasingBy-from_sort_by_key}
-use Rattle.dwarf.specs.Sorting.{inserted_by, sorted_by}
+use Rattle.dwarf_bytes.specs.Sorting.{inserted_by, sorted_by}
 use denote.Param.Members.{Mut}
 
 -- keys from this one on that don't fall
