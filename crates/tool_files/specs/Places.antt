@@ -5,7 +5,7 @@ use Rattle.tool_words.specs.declared.ending.Attempt.TheVariants.{Write}
 use Rattle.tool_words.specs.declared.ending.ProgramFailure.{ProgramFailure}
 use Rattle.tool_words.specs.declared.ending.ProgramFailure.TheVariants as failure
 use Rattle.tool_files.specs.declared.places.Place.{Place}
-use Rattle.tool_words.specs.declared.program.Task.{Task}
+use Rattle.tool_words.specs.declared.task.Task.{Task}
 use Rattle.tool_words.specs.declared.usage_error.UsageError.{UsageError}
 use Rattle.tool_words.specs.declared.usage_error.UsageError.TheVariants.{SameFile}
 

@@ -2,11 +2,11 @@
 use Rattle.std.specs.Prelude.{◌≡◌, length, [], true, false, nat_lt, None}
 use Rattle.tool_words.specs.declared.ending.ProgramFailure.{ProgramFailure}
 use Rattle.tool_words.specs.declared.ending.ProgramFailure.TheVariants as failure
-use Rattle.tool_words.specs.declared.program.Options.{Options}
+use Rattle.tool_words.specs.declared.arguments.Options.{Options}
 use Rattle.tool_words.specs.declared.program.Program.{Program}
-use Rattle.tool_words.specs.declared.program.Request.{Request}
-use Rattle.tool_words.specs.declared.program.Request.TheVariants as request
-use Rattle.tool_words.specs.declared.program.Task.{Task}
+use Rattle.tool_words.specs.declared.task.Request.{Request}
+use Rattle.tool_words.specs.declared.task.Request.TheVariants as request
+use Rattle.tool_words.specs.declared.task.Task.{Task}
 
 -- No file is written, but where the module goes.
 pub record WritesNoFile (task : Task) : Type 0 where
