@@ -1,15 +1,18 @@
--- Exports that are removed, renamed, or lead elsewhere; imports under other names; and the limits of memories (WebAssembly core
--- specification 3.0, binary format, export section, import section, limits).
-use Rattle.std.specs.Prelude.{◌≡◌, ◌<◌, ◌⊎◌, ◌+◌, ◌*◌, ℕ, Bool, true, false, is_some, List, [], ◌∷◌, ◌++◌, Option, Some, None, Ok}
+-- Exports that are removed, renamed, or lead elsewhere; imports under other names; and the limits of memories and tables (WebAssembly
+-- core specification 3.0, binary format, export section, import section, limits, table section).
+use Rattle.std.specs.Prelude.{◌≡◌, ◌<◌, ◌⊎◌, ◌+◌, ◌*◌, ℕ, Bool, true, false, is_some, List, [], ◌∷◌, ◌++◌, take, length, ◌-◌, Option, Some, None, Result, Ok}
 use Rattle.wasm_operators.specs.declared.types.Space.{Space}
 use Rattle.wasm_operators.specs.Shortest.{short_number}
 use Rattle.wasm_sections.specs.declared.changes.Changes.{Changes}
 use Rattle.wasm_sections.specs.declared.limits.Limits.{Limits}
+use Rattle.wasm_sections.specs.declared.sections.SectionKind.{SectionKind}
 use Rattle.wasm_sections.specs.declared.sections.SectionKind.TheVariants as kind
 use Rattle.wasm_sections.specs.Additions.{AreUnchanged}
 use Rattle.wasm_sections.specs.CodeSections.{entry}
-use Rattle.wasm_sections.specs.Format.{name_part, export_part, imported_part}
-use Rattle.wasm_sections.specs.Parts.{Part, ◌>=>◌, extent, number}
+use Rattle.wasm_sections.specs.Format.{name_part, export_part, imported_part, after_table_mark, reference_part, constant_part, limits_part}
+use Rattle.wasm_numbers.specs.Results.{◌>>=◌}
+use Rattle.wasm_sections.specs.declared.fault.ModuleError.{ModuleError}
+use Rattle.wasm_sections.specs.Parts.{Part, ◌>=>◌, extent, just, number}
 use Rattle.wasm_sections.specs.Views.{HasExport, IsExportKind}
 use Rattle.wasm_module.specs.AddedItems.{export_of}
 use Rattle.module_items.specs.Items.{several_items}
@@ -72,38 +75,52 @@ abbrev pub HasExportIn : (name : List ℕ) → (contents : Option (ℕ × List �
 HasExportIn name None = ⊥
 HasExportIn name (Some c) = HasExport name c.0 c.1
 
+-- ---- an item that is made anew of what it was
+
+-- After so many items of these contents come these bytes.
+pub record IsItemFront (k : SectionKind) (place end : ℕ) (contents front : List ℕ) : Type 0 where
+  pub count : ℕ
+  pub items : List ℕ
+  pub counted : number end contents ≡ Ok (count, items)
+  pub is_there : place < count
+  pub before : List ℕ
+  pub passed : several_items k place end items ≡ Ok (before, front)
+
+-- The item at this place of these contents is this, as this part of it is read.
+pub record HasItemAt {X : Type 0} (k : SectionKind) (part : Part X) (place : ℕ) (x : X) (end : ℕ) (contents : List ℕ) : Type 0 where
+  pub front : List ℕ
+  pub at : IsItemFront k place end contents front
+  pub following : List ℕ
+  pub item : part end front ≡ Ok (x, following)
+
+-- What is made of the item at this place, as its bytes; or there is no such item.
+abbrev pub IsMadeOfItem :
+    {X : Type 0} → (k : SectionKind) → (part : Part X) → (make : X → List ℕ) → (place : ℕ) → (contents : Option (ℕ × List ℕ)) → (made : Option (List ℕ)) → Type 0
+IsMadeOfItem k part make place None made = made ≡ None
+IsMadeOfItem {X = X} k part make place (Some c) None = ¬ ((x : X) × HasItemAt k part place x c.0 c.1)
+IsMadeOfItem {X = X} k part make place (Some c) (Some bytes) = (x : X) × HasItemAt k part place x c.0 c.1 × (bytes ≡ make x)
+
+-- The item at this place gives way to what is made of it, if there is such an item.
+abbrev pub IsItemRemade :
+    {X : Type 0} → (k : SectionKind) → (part : Part X) → (make : X → List ℕ) → (place : ℕ) → (contents : Option (ℕ × List ℕ)) → (old new : Changes) → (is_there : Bool) → Type 0
+IsItemRemade k part make place None old new is_there = (is_there ≡ false) × AreUnchanged old new
+IsItemRemade {X = X} k part make place (Some c) old new is_there =
+    ((is_there ≡ false) × AreUnchanged old new × ¬ ((x : X) × HasItemAt k part place x c.0 c.1))
+    ⊎ ((x : X) × HasItemAt k part place x c.0 c.1 × IsItemReplaced k place 1 (make x) (Some c) old new is_there)
+
 -- ---- imports
 
 -- what an import is, after its names, as its bytes
 abbrev pub description_part : Part (List ℕ)
 description_part = name_part >=> λ from. name_part >=> λ name. extent imported_part
 
--- After so many imports of these contents comes one that is this, by these bytes.
-pub record HasImportAt (place : ℕ) (description : List ℕ) (end : ℕ) (contents : List ℕ) : Type 0 where
-  pub count : ℕ
-  pub items : List ℕ
-  pub counted : number end contents ≡ Ok (count, items)
-  pub is_there : place < count
-  pub before : List ℕ
-  pub front : List ℕ
-  pub passed : several_items kind.Import place end items ≡ Ok (before, front)
-  pub following : List ℕ
-  pub import : description_part end front ≡ Ok (description, following)
-
--- The import at this place with other names, as its bytes; or there is no such import.
-abbrev pub IsOtherImport : (place : ℕ) → (from name : List ℕ) → (contents : Option (ℕ × List ℕ)) → (made : Option (List ℕ)) → Type 0
-IsOtherImport place from name None made = made ≡ None
-IsOtherImport place from name (Some c) None = ¬ ((description : List ℕ) × HasImportAt place description c.0 c.1)
-IsOtherImport place from name (Some c) (Some bytes) =
-    (description : List ℕ) × HasImportAt place description c.0 c.1 × (bytes ≡ entry from ++ (entry name ++ description))
+-- an import with these names
+abbrev pub import_written : (from name description : List ℕ) → List ℕ
+import_written from name description = entry from ++ (entry name ++ description)
 
 -- The import at this place has these names, and is what it was, if there is such an import.
 abbrev pub IsImportRenamed : (place : ℕ) → (from name : List ℕ) → (contents : Option (ℕ × List ℕ)) → (old new : Changes) → (is_there : Bool) → Type 0
-IsImportRenamed place from name None old new is_there = (is_there ≡ false) × AreUnchanged old new
-IsImportRenamed place from name (Some c) old new is_there =
-    ((is_there ≡ false) × AreUnchanged old new × ¬ ((description : List ℕ) × HasImportAt place description c.0 c.1))
-    ⊎ ((description : List ℕ) × HasImportAt place description c.0 c.1
-    × IsItemReplaced kind.Import place 1 (entry from ++ (entry name ++ description)) (Some c) old new is_there)
+IsImportRenamed place from name = IsItemRemade kind.Import description_part (import_written from name) place
 
 -- ---- limits
 
@@ -122,3 +139,36 @@ maximum_written None = []
 -- limits: their flag, the minimum, and the maximum if there is one
 abbrev pub limits_written : Limits → List ℕ
 limits_written l = limits_flag l ∷ (short_number l.min ++ maximum_written l.max)
+
+-- ---- tables
+
+-- the two bytes with which a table with an initial value begins, if it has one; whether it has one
+abbrev pub mark_or_none : (marked : Option (List ℕ)) → (text : List ℕ) → Result (Bool × List ℕ) ModuleError
+mark_or_none None text = Ok (false, text)
+mark_or_none (Some marked) text = Ok (true, marked)
+
+abbrev pub mark_part : Part Bool
+mark_part end text = mark_or_none (after_table_mark text) text
+
+-- what comes before the limits of a table, the type of its elements; whether the table has an initial value
+abbrev pub before_limits_part : Part Bool
+before_limits_part = mark_part >=> λ is_marked. reference_part >=> λ element. just is_marked
+
+-- what comes after the limits of a table: its initial value, if it has one
+abbrev pub after_limits_part : (is_marked : Bool) → Part (List ℕ)
+after_limits_part true = constant_part
+after_limits_part false = just []
+
+-- the bytes of a table before its limits, and those after them
+abbrev pub around_limits_part : Part (List ℕ × List ℕ)
+around_limits_part end text =
+    before_limits_part end text
+    >>= λ x. (limits_part >=> λ limits. after_limits_part x.0 >=> λ after. just (take (length text - length x.1) text, after)) end x.1
+
+-- a table with these limits
+abbrev pub table_written : Limits → (around : List ℕ × List ℕ) → List ℕ
+table_written limits around = around.0 ++ (limits_written limits ++ around.1)
+
+-- The table at this place has these limits, and is else what it was, if there is such a table.
+abbrev pub IsTableLimited : (place : ℕ) → Limits → (contents : Option (ℕ × List ℕ)) → (old new : Changes) → (is_there : Bool) → Type 0
+IsTableLimited place limits = IsItemRemade kind.Table around_limits_part (table_written limits) place

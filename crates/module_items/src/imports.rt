@@ -1,13 +1,13 @@
 //! Imports under other names (WebAssembly core specification 3.0, binary format, import section).
-ghost use Rattle.std.specs.Prelude.{◌≡◌, ◌++◌, ℕ, List, option_map, OnErr, IfOk, IfErr, MatchOption};
+ghost use Rattle.std.specs.Prelude.{◌≡◌, ℕ, List, option_map, OnErr, IfOk, IfErr, MatchOption};
 ghost use Rattle.wasm_numbers.specs.Results.{Gives};
 ghost use Rattle.wasm_sections.specs.Additions.{AreUnchanged, IsTooMuch};
-ghost use Rattle.wasm_sections.specs.CodeSections.{entry};
 ghost use Rattle.wasm_sections.specs.Sections.{SectionAt, IsModule};
 ghost use Rattle.module_items.specs.Replacing.{placed_contents};
-ghost use Rattle.module_items.specs.Renaming.{description_part, HasImportAt, IsOtherImport, IsImportRenamed};
+ghost use Rattle.wasm_sections.specs.declared.sections.SectionKind.TheVariants.{Import as ImportKind};
+ghost use Rattle.module_items.specs.Renaming.{description_part, import_written, HasItemAt, IsMadeOfItem, IsImportRenamed};
 
-use crate::passing::pass_items;
+use crate::passing::front_of_item;
 use crate::replacing::{NewItems, contents_with, replace};
 use std::alloc::Global;
 use wasm_module::ParsedModule;
@@ -37,21 +37,14 @@ fn description<'a>(input: &mut Input<'a>) -> Result<&'a [u8], ModuleError>
 /// What the import at this place of these contents is, as its bytes; None if there is no such import.
 fn description_at<'a>(contents: Input<'a>, place: u32) -> Result<Option<&'a [u8]>, ModuleError>
     ensures { IfOk result (λ found. MatchOption found
-        (¬ ((bytes : List ℕ) × HasImportAt place bytes contents.entry.end contents.entry.rest.now))
-        (λ bytes. HasImportAt place bytes.now contents.entry.end contents.entry.rest.now)) }
+        (¬ ((bytes : List ℕ) × HasItemAt ImportKind description_part place bytes contents.entry.end contents.entry.rest.now))
+        (λ bytes. HasItemAt ImportKind description_part place bytes.now contents.entry.end contents.entry.rest.now)) }
 {
-    let mut left = contents;
-    let count = match left.number() {
-        Ok(count) => count,
+    let mut left = match front_of_item(contents, SectionKind::Import, place) {
+        Ok(Some(front)) => front,
+        Ok(None) => return Ok(None),
         Err(error) => return Err(error),
     };
-    if place >= count {
-        return Ok(None);
-    }
-    match pass_items(&mut left, SectionKind::Import, place) {
-        Ok(_) => {}
-        Err(error) => return Err(error),
-    }
     match description(&mut left) {
         Ok(bytes) => Ok(Some(bytes)),
         Err(error) => Err(error),
@@ -66,7 +59,7 @@ fn import_bytes(
     name: &str,
     description: &[u8],
 ) -> Result<Vec<u8>, ModuleError>
-    ensures written { IfOk result (λ made. made.items ≡ entry from.now ++ (entry name.now ++ description.now)) }
+    ensures written { IfOk result (λ made. made.items ≡ import_written from.now name.now description.now) }
     ensures refused { IfErr result IsTooMuch }
 {
     let mut out = Vec::new(alloc);
@@ -91,7 +84,8 @@ fn renamed(
     name: &str,
 ) -> Result<Option<Vec<u8>>, ModuleError>
     ensures { (all : List SectionAt) → IsModule parsed.now.bytes.now all → IfOk result
-        (λ made. IsOtherImport place from.now name.now (placed_contents all changes.now 2) (option_map (λ v. v.items) made)) }
+        (λ made. IsMadeOfItem ImportKind description_part (import_written from.now name.now) place
+        (placed_contents all changes.now 2) (option_map (λ v. v.items) made)) }
 {
     let contents = match contents_with(parsed, changes, SectionKind::Import) {
         Ok(Some(contents)) => contents,

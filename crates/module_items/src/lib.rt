@@ -7,9 +7,11 @@ mod data;
 mod elements;
 mod exports;
 mod imports;
+mod limits;
 mod memories;
 mod passing;
 mod replacing;
+mod tables;
 
 pub use custom::{custom_section, put_custom_section};
 pub use data::{ActiveSegment, DataSegment, DataSegments, data_segments};
@@ -18,3 +20,4 @@ pub use exports::{remove_export, rename_export, replace_export};
 pub use imports::rename_import;
 pub use memories::set_memory_limits;
 pub use replacing::replace_item;
+pub use tables::set_table_limits;

@@ -1,9 +1,10 @@
 //! Items that are passed over, by the kind of their section (WebAssembly core specification 3.0, binary format, modules).
-ghost use Rattle.std.specs.Prelude.{◌≡◌, ◌≤◌, length, OnOk};
+ghost use Rattle.std.specs.Prelude.{◌≡◌, ◌≤◌, ℕ, List, length, OnOk, IfOk, MatchOption};
 ghost use Rattle.wasm_numbers.specs.Results.{Gives};
 ghost use Rattle.wasm_sections.specs.Format.{export_part, import_part, table_part, global_part, tag_part, limits_part};
 ghost use Rattle.wasm_sections.specs.Parts.{number, passed, repeated};
 ghost use Rattle.module_items.specs.Items.{item_part, several_items};
+ghost use Rattle.module_items.specs.Renaming.{IsItemFront};
 
 use wasm_sections::{Exports, Imports, Input, Items, ModuleError, ModuleFault, SectionKind};
 
@@ -147,4 +148,28 @@ pub(crate) fn pass_items<'a>(
         }
     }
     Ok(begin.until(input))
+}
+
+/// What is left of these contents from the item at this place on, counted from 0; None if there is no such item.
+pub(crate) fn front_of_item<'a>(
+    contents: Input<'a>,
+    kind: SectionKind,
+    place: u32,
+) -> Result<Option<Input<'a>>, ModuleError>
+    ensures { IfOk result (λ found. MatchOption found
+        (¬ ((front : List ℕ) × IsItemFront kind place contents.entry.end contents.entry.rest.now front))
+        (λ i. (i.end ≡ contents.entry.end) × IsItemFront kind place contents.entry.end contents.entry.rest.now i.rest.now)) }
+{
+    let mut left = contents;
+    let count = match left.number() {
+        Ok(count) => count,
+        Err(error) => return Err(error),
+    };
+    if place >= count {
+        return Ok(None);
+    }
+    match pass_items(&mut left, kind, place) {
+        Ok(_) => Ok(Some(left)),
+        Err(error) => Err(error),
+    }
 }
