@@ -6,6 +6,7 @@
 ghost use Rattle.wasm_module.specs.RewrittenCode.{keeps_locals};
 ghost use Rattle.inserted_code.specs.InsertedCode.{Inserts};
 
+use module_items::{NewExport, export_all};
 use module_tools::Tool;
 use std::alloc::{AllocError, Global};
 use walrus_body::LocalFunction;
@@ -15,6 +16,7 @@ use walrus_ir::{
     BlockKind, FunctionId, GlobalId, IdHashSet, Instr, InstrLocId, InstrSeqId, ModuleLocals, Value,
     dfs_in_order,
 };
+use wasm_body::Space;
 use wasm_module::{ChangeFunction, Changes, ModuleError, ParsedModule};
 
 /// The sequences inside of loops, in the order of the `loop` operators.
@@ -105,13 +107,22 @@ impl Tool for Counting {
             Ok(())
         })?;
         let (mut changes, mut first) = (Changes::new(alloc), 0);
+        let mut names: Vec<String> = Vec::new(alloc);
         for number in 0..count {
-            let name = format!(in alloc; "loop_{number}")?;
             let global = parsed.add_value_global(&mut changes, Value::I64(0), true)?;
-            parsed.export_global(&mut changes, name.as_str(), global)?;
             // They have the next indices, one after the other.
             first = global.index().saturating_sub(number);
+            names.push(format!(in alloc; "loop_{number}")?)?;
         }
+        let mut exports = Vec::new(alloc);
+        for (number, name) in names.iter().enumerate() {
+            exports.push(NewExport {
+                name: name.as_str(),
+                space: Space::Globals,
+                index: first.saturating_add(number) as u32,
+            })?;
+        }
+        export_all(parsed, &mut changes, &exports)?;
         Ok((Some(CountTurns(first)), changes))
     }
 }

@@ -111,7 +111,12 @@ fn check_free(parsed: &ParsedModule<'_>, changes: &Changes, name: &str) -> Resul
 
 /// An export of what has this index in this index space.
 #[tactic(auto, using(wasm_encode::proofs::Appending::appending))]
-fn export_bytes(alloc: Global, name: &str, kind: u8, index: u32) -> Result<Vec<u8>, ModuleError>
+pub(crate) fn export_bytes(
+    alloc: Global,
+    name: &str,
+    kind: u8,
+    index: u32,
+) -> Result<Vec<u8>, ModuleError>
     ensures written { IfOk result (λ made. made.items ≡ export_of name.now kind index) }
     ensures refused { IfErr result IsTooMuch }
 {

@@ -9,6 +9,7 @@ mod exports;
 mod imports;
 mod limits;
 mod memories;
+mod new_exports;
 mod passing;
 mod replacing;
 mod tables;
@@ -19,5 +20,6 @@ pub use elements::{Element, ElementSegment, ElementSegments, Elements, element_s
 pub use exports::{remove_export, rename_export, replace_export};
 pub use imports::rename_import;
 pub use memories::set_memory_limits;
+pub use new_exports::{NewExport, export_all};
 pub use replacing::replace_item;
 pub use tables::set_table_limits;

@@ -64,7 +64,7 @@ pub(crate) fn contents_with<'c>(
 }
 
 /// The number of items, with these bytes in the place of one of them.
-fn join(
+pub(crate) fn join(
     alloc: Global,
     count: usize,
     before: &[u8],

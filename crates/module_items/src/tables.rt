@@ -114,7 +114,7 @@ fn table_bytes(
     around: AroundLimits<'_>,
     limits: &Limits,
 ) -> Result<Vec<u8>, ModuleError>
-    ensures { IfOk result (λ made. made.items ≡ table_written limits.now (around.before.now, around.after.now)) }
+    ensures { IfOk result (λ made. made.items ≡ table_written limits.now (around.entry.before.now, around.entry.after.now)) }
 {
     let limits = match limits_bytes(alloc, limits) {
         Ok(limits) => limits,

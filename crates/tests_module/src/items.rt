@@ -4,8 +4,9 @@ use crate::making::{Item, Step};
 use crate::texts::EVERY_SECTION;
 use crate::whole_modules::{Change, Output};
 use module_items::{
-    ActiveSegment, custom_section, data_segments, put_custom_section, remove_export, rename_export,
-    rename_import, replace_export, replace_item, set_memory_limits,
+    ActiveSegment, NewExport, custom_section, data_segments, export_all, put_custom_section,
+    remove_export, rename_export, rename_import, replace_export, replace_item, set_memory_limits,
+    set_table_limits,
 };
 use std::test::Fail;
 use wasm_body::Space;
@@ -24,6 +25,10 @@ pub(crate) enum Edit<'i> {
     RenameImport(u32, &'i str, &'i str),
     /// The memory at this place has these limits.
     MemoryLimits(u32, Limits),
+    /// The table at this place has these limits.
+    TableLimits(u32, Limits),
+    /// These exports are added.
+    ExportAll(&'i [NewExport<'i>]),
     /// The item at this place of a section has these bytes.
     Item(SectionKind, u32, &'i [u8]),
 }
@@ -42,6 +47,11 @@ pub(crate) fn make_edit(
         }
         Edit::RenameImport(place, from, name) => rename_import(parsed, changes, place, from, name),
         Edit::MemoryLimits(place, limits) => set_memory_limits(parsed, changes, place, &limits),
+        Edit::TableLimits(place, limits) => set_table_limits(parsed, changes, place, &limits),
+        Edit::ExportAll(exports) => match export_all(parsed, changes, exports) {
+            Ok(()) => Ok(true),
+            Err(error) => Err(error),
+        },
         Edit::Item(kind, place, bytes) => replace_item(parsed, changes, kind, place, bytes),
     }
 }
@@ -115,8 +125,26 @@ const TOO_GREAT: Limits = Limits {
     is_64: false,
 };
 
+/// A module with two tables, of which the second has an initial value.
+const TABLES: &str = "0061736d01000000 040d02 700001 400070010203d0700b";
+
+/// The limits of one element or more.
+const ONE: Limits = Limits {
+    min: 1,
+    max: None,
+    is_shared: false,
+    is_64: false,
+};
+
+/// An export of a function.
+const B: NewExport<'static> = NewExport {
+    name: "b",
+    space: Space::Funcs,
+    index: 0,
+};
+
 /// What is changed of which module.
-const EDITED: [(&[Step<'static>], &str, &str); 18] = [
+const EDITED: [(&[Step<'static>], &str, &str); 28] = [
     (
         &[Step::Edit(Edit::RemoveExport("a"))],
         EXPORTED,
@@ -205,6 +233,84 @@ const EDITED: [(&[Step<'static>], &str, &str); 18] = [
         STORED,
         "0061736d01000000 010401600000 020701016501660000 0503010001 0606017f0141000b",
     ),
+    (
+        &[Step::Edit(Edit::TableLimits(
+            0,
+            Limits {
+                min: 5,
+                max: Some(10),
+                is_shared: false,
+                is_64: false,
+            },
+        ))],
+        TABLES,
+        "0061736d01000000 040e 02 7001050a 400070010203d0700b",
+    ),
+    // The initial value stays.
+    (
+        &[Step::Edit(Edit::TableLimits(1, ONE))],
+        TABLES,
+        "0061736d01000000 040c 02 700001 4000700001d0700b",
+    ),
+    (&[Step::Edit(Edit::TableLimits(2, ONE))], TABLES, TABLES),
+    (
+        &[Step::Edit(Edit::TableLimits(
+            0,
+            Limits {
+                is_shared: true,
+                max: Some(1),
+                ..ONE
+            },
+        ))],
+        TABLES,
+        "BadLimits at 0",
+    ),
+    (
+        &[Step::Edit(Edit::ExportAll(&[
+            B,
+            NewExport {
+                name: "c",
+                space: Space::Memories,
+                index: 200,
+            },
+        ]))],
+        EXPORTED,
+        "0061736d01000000 010401600000 03020100 070e 03 01610000 01620000 016302c801 0a040102000b",
+    ),
+    (
+        &[Step::Edit(Edit::ExportAll(&[NewExport { name: "a", ..B }]))],
+        EXPORTED,
+        "ExportTaken at 0",
+    ),
+    (
+        &[Step::Edit(Edit::ExportAll(&[
+            B,
+            NewExport {
+                space: Space::Memories,
+                ..B
+            },
+        ]))],
+        EXPORTED,
+        "ExportTaken at 0",
+    ),
+    (
+        &[Step::Edit(Edit::ExportAll(&[NewExport {
+            space: Space::Types,
+            ..B
+        }]))],
+        EXPORTED,
+        "BadExportKind at 0",
+    ),
+    (
+        &[Step::Edit(Edit::ExportAll(&[NewExport {
+            name: "x",
+            space: Space::Globals,
+            index: 0,
+        }]))],
+        STORED,
+        "0061736d01000000 010401600000 020701016501660000 0503010001 0606017f00412a0b 0705 01 01780300",
+    ),
+    (&[Step::Edit(Edit::ExportAll(&[]))], STORED, STORED),
     // Groups of types and bodies aren't replaced.
     (
         &[Step::Edit(Edit::Item(SectionKind::Code, 0, &[2, 0, 0x0b]))],
