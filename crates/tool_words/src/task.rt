@@ -58,7 +58,7 @@ pub enum SectionChoice<'w> {
 
 impl Asked<'_> {
     /// The option by which they are asked for; of one that no option asks for nothing.
-    fn name(self) -> &'static str {
+    pub(crate) fn name(self) -> &'static str {
         match self {
             Asked::Function(_) => "",
             Asked::Pattern(_) => "--pattern",
@@ -71,7 +71,7 @@ impl Asked<'_> {
 
 impl SectionChoice<'_> {
     /// The option by which they are chosen.
-    fn name(self) -> &'static str {
+    pub(crate) fn name(self) -> &'static str {
         match self {
             SectionChoice::LeaveOutAll => "--strip",
             SectionChoice::LeaveOutDebug => "--strip-debug",
