@@ -1,11 +1,8 @@
--- equal types of values; the types of a module, and the pick; their lists, digests of lists, and the index; types by the numbers
--- of their lists
+-- equal types of values; the types of a module, and the pick; the table of types, digests of lists and the index
 pub mod Types
-pub mod TypeLists
+pub mod TypeEntries
 pub mod TypeDigest
-pub mod ListIndex
-pub mod TypeTable
-pub mod TypeNumbers
+pub mod TypeIndex
 -- the types of locals, in runs
 pub mod LocalRuns
 -- the default location; the form in contracts of instructions with lists, of a sequence and of a builder; a builder that lends
