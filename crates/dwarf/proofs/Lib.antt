@@ -17,5 +17,7 @@ pub mod MacrosKeep
 pub mod IndexTables
 pub mod IndexCodes
 pub mod IndexLemmas
+-- lists of a section
+pub mod PlacedLemmas
 -- sections by their names
 pub mod SectionLemmas

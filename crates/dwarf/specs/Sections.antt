@@ -3,7 +3,9 @@ use Rattle.std.specs.Prelude.{◌≡◌, ◌≢◌, ◌⊎◌, List, [], ◌∷�
 use Rattle.dwarf.specs.declared.moving.MovedSection.{MovedSection}
 use Rattle.dwarf.specs.declared.sections.NamedSection.{NamedSection}
 use Rattle.dwarf.specs.declared.sections.SectionName.{SectionName}
-use Rattle.dwarf.specs.declared.sections.SectionName.TheVariants.{Unmoved, Unknown}
+use Rattle.dwarf.specs.declared.lists.ListKind.{ListKind}
+use Rattle.dwarf.specs.declared.lists.ListKind.TheVariants as kinds
+use Rattle.dwarf.specs.declared.sections.SectionName.TheVariants.{Ranges, Locations, RangeLists, LocationLists, Unmoved, Unknown}
 
 -- a section's name and its contents
 abbrev pub NamedContents : Type 0
@@ -34,3 +36,10 @@ IsSectionAdded name contents old new =
 -- why it can't be: it isn't one that is read, or there is one of its name
 abbrev pub IsSectionRefused : SectionName → (old : List NamedContents) → Type 0
 IsSectionRefused name old = (name ≡ Unknown) ⊎ ((bytes : List ℕ) × AreContents old name bytes × (bytes ≢ []))
+
+-- the section of lists of this kind
+abbrev pub section_of_lists : ListKind → SectionName
+section_of_lists kinds.Ranges = Ranges
+section_of_lists kinds.Locations = Locations
+section_of_lists kinds.RangeLists = RangeLists
+section_of_lists kinds.LocationLists = LocationLists

@@ -10,6 +10,7 @@ use Rattle.dwarf_bytes.specs.Addresses.{address_at}
 use Rattle.dwarf_expressions.specs.declared.encoding.Encoding.{Encoding}
 use Rattle.dwarf_expressions.specs.Expressions.{BeginWith}
 use Rattle.dwarf_new_lists.specs.declared.kind.Lists.{Lists}
+use Rattle.dwarf_new_lists.specs.declared.kind.Lists.TheVariants.{Ranges, Locations}
 use Rattle.dwarf_new_lists.specs.Kinds.{new_list_is_end}
 use Rattle.dwarf_new_lists.specs.Entries.{AnEntry, an_entry}
 use Rattle.dwarf_new_lists.specs.Sayings.{AreMovedOfNewList}
@@ -45,3 +46,10 @@ pub record IsMovedListOfNewList (lists : Lists) (e : Encoding) (bs : List Body) 
   pub free : end_from 0 before ≤ offset
   pub changed : after ≡ before ++ (record { at = offset; old = end - offset; new = text }) ∷ []
   pub tells : Tells bs t uses new_uses (code_indices bs (address_at t) base olds)
+
+-- by what the list has
+abbrev pub IsMovedRangeList : Encoding → List Body → AddressTable → (base : ℕ) → (section : List ℕ) → (offset end : ℕ) → (before after : List SectionChange) → (uses new_uses : List (Address × ℕ)) → Type 0
+IsMovedRangeList = IsMovedListOfNewList Ranges
+
+abbrev pub IsMovedLocationList : Encoding → List Body → AddressTable → (base : ℕ) → (section : List ℕ) → (offset end : ℕ) → (before after : List SectionChange) → (uses new_uses : List (Address × ℕ)) → Type 0
+IsMovedLocationList = IsMovedListOfNewList Locations

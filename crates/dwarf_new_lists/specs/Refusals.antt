@@ -17,6 +17,7 @@ use Rattle.dwarf_expressions.specs.Moving.{IsRefusedOfExpression}
 use Rattle.dwarf_new_lists.specs.declared.kind.Kind.{Kind}
 use Rattle.dwarf_new_lists.specs.declared.kind.Kind.TheVariants.{IndexLength, OffsetPair, Length}
 use Rattle.dwarf_new_lists.specs.declared.kind.Lists.{Lists}
+use Rattle.dwarf_new_lists.specs.declared.kind.Lists.TheVariants.{Ranges, Locations}
 use Rattle.dwarf_new_lists.specs.declared.kind.Operand.{Operand}
 use Rattle.dwarf_new_lists.specs.declared.kind.Operand.TheVariants.{Address}
 use Rattle.dwarf_new_lists.specs.declared.saying.Saying.{Saying}
@@ -125,3 +126,10 @@ IsRefusedListOfNewList lists e bs t base section offset before fault =
     ⊎ (((offset ≤ length section) × IsRefusedAfter lists e bs t base (drop offset section) fault)
     ⊎ ((xs : List AnEntry) × (rest : List ℕ) × IsList lists e.address_size (drop offset section) xs rest × ArePassedEntries e bs t base xs
     × (fault ≡ faults.Overlap) × (offset < end_from 0 before)))
+
+-- by what the list has
+abbrev pub IsRefusedRangeList : Encoding → List Body → AddressTable → (base : ℕ) → (section : List ℕ) → (offset : ℕ) → (before : List SectionChange) → DebugFault → Type 0
+IsRefusedRangeList = IsRefusedListOfNewList Ranges
+
+abbrev pub IsRefusedLocationList : Encoding → List Body → AddressTable → (base : ℕ) → (section : List ℕ) → (offset : ℕ) → (before : List SectionChange) → DebugFault → Type 0
+IsRefusedLocationList = IsRefusedListOfNewList Locations
