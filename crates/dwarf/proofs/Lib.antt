@@ -21,3 +21,8 @@ pub mod IndexLemmas
 pub mod PlacedLemmas
 -- sections by their names
 pub mod SectionLemmas
+pub mod NamedContents
+-- results with the section of their fault
+pub mod Failures
+-- what becomes of the sections
+pub mod DebugSteps

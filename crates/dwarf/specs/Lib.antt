@@ -26,3 +26,6 @@ pub mod PlacedLists
 pub mod PlacedListsViews
 -- sections by their names
 pub mod Sections
+-- what becomes of all sections
+pub mod MovedDebug
+pub mod MovedDebugViews

@@ -189,7 +189,7 @@ impl<'a> ListSection<'a> {
     ghost use Rattle.dwarf_bytes.specs.Merging.{AreAllMerged, IsFaultOfAll};
     ghost use Rattle.dwarf_bytes.specs.Patches.{changes};
     ghost use Rattle.dwarf_bytes.specs.Uses.{told, lengthened};
-    ghost use Rattle.dwarf.specs.Sections.{contents_by_name, AreContents, section_of_lists};
+    ghost use Rattle.dwarf.specs.Sections.{contents_by_name, contents_named, section_of_lists};
     ghost use Rattle.dwarf.specs.declared.lists.PlacedList.{PlacedList as APlacedList};
     ghost use Rattle.dwarf.specs.declared.sections.SectionName.TheVariants.{Addresses};
     ghost use Rattle.dwarf.specs.PlacedLists.{list_of_kind, placed_lists, lists_by_offset, IsListMoved, IsListRefused, IsNextListMoved, IsNextListRefused, AreListsMoved, IsFaultOfLists, AreListsReplaced, AreListsRefused, IsListSection, IsListSectionRefused};
@@ -200,8 +200,8 @@ impl<'a> ListSection<'a> {
     /// The section with lists of this kind.
     pub(crate) fn of(sections: &DebugSections<'a>, kind: ListKind) -> ListSection<'a>
         ensures kind { result.kind ≡ kind }
-        ensures contents { AreContents (contents_by_name sections.now.sections.items) (section_of_lists kind) result.contents.now }
-        ensures addresses { AreContents (contents_by_name sections.now.sections.items) Addresses result.addresses.now }
+        ensures contents { result.contents.now ≡ contents_named (contents_by_name sections.now.sections.items) (section_of_lists kind) }
+        ensures addresses { result.addresses.now ≡ contents_named (contents_by_name sections.now.sections.items) Addresses }
     {
         ListSection {
             kind,
