@@ -17,5 +17,12 @@ pub mod MacrosKeep
 pub mod IndexTables
 pub mod IndexCodes
 pub mod IndexLemmas
+-- lists of a section
+pub mod PlacedLemmas
 -- sections by their names
 pub mod SectionLemmas
+pub mod NamedContents
+-- results with the section of their fault
+pub mod Failures
+-- what becomes of the sections
+pub mod DebugSteps

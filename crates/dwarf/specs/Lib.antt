@@ -21,5 +21,11 @@ pub mod NameIndexViews
 pub mod IndexEntries
 pub mod IndexSound
 pub mod IndexInMemory
+-- lists by their offsets
+pub mod PlacedLists
+pub mod PlacedListsViews
 -- sections by their names
 pub mod Sections
+-- what becomes of all sections
+pub mod MovedDebug
+pub mod MovedDebugViews

@@ -1,21 +1,35 @@
 //! Moving the sections of debug information.
 
-ghost use Rattle.std.specs.Prelude.{◌≡◌, ◌⊎◌, ◌++◌, ◌∷◌, [], Err, option_map, MatchResult, OnOk, IfErr};
-ghost use Rattle.dwarf_bytes.specs.declared.fault.DebugError.TheVariants.{Memory};
-ghost use Rattle.dwarf.specs.Sections.{moved_contents, IsFirstNamed};
+ghost use Rattle.std.specs.Prelude.{◌≡◌, ◌++◌, ◌∷◌, [], ℕ, List as AList, Ok, Err, option_map, OnOk, IfOk, IfErr};
+ghost use Rattle.wasm_numbers.specs.Results.{each};
+ghost use Rattle.dwarf_bytes.specs.declared.fault.DebugError.TheVariants.{Memory, Fault};
+ghost use Rattle.dwarf_bytes.specs.Patches.{changes};
+ghost use Rattle.dwarf_line.specs.declared.moved.Moved.{Moved as AMoved};
+ghost use Rattle.dwarf_line.specs.Refusals.{IsRefusal};
+ghost use Rattle.dwarf_info.specs.EntryViews.{entries_moved};
+ghost use Rattle.dwarf_info.specs.Sound.{Ascend};
+ghost use Rattle.dwarf.specs.declared.sections.SectionName.TheVariants as names;
+ghost use Rattle.dwarf.specs.AddressRanges.{code_followed};
+ghost use Rattle.dwarf.specs.Macros.{macro_section_followed};
+ghost use Rattle.dwarf.specs.IndexEntries.{name_index_followed};
+ghost use Rattle.dwarf.specs.Names.{names_followed};
+ghost use Rattle.dwarf.specs.Replacing.{section_with};
+ghost use Rattle.dwarf.specs.Sections.{NamedContents, contents_by_name, contents_named, moved_contents, IsFirstNamed};
+ghost use Rattle.dwarf.specs.MovedDebug.{section_read, IsFailureOf, section_followed, name_followers, name_sections_moved, last_sections_moved, AreOthersMoved, AreOthersNotMoved, AreLinesMoved, AreSectionsMoved, AreSectionsNotMoved};
+ghost use Rattle.dwarf.specs.MovedDebugViews.{debug_setting, entries_of_module};
 
 use crate::address_ranges::move_address_ranges;
 use crate::failure::{DebugFailure, within};
-use crate::lists::{ListKind, ListSection};
 use crate::macros::follow_macros;
+use crate::moved_entries::{AllEntries, check_names_in_expressions, move_addresses};
+use crate::moved_lists::MovedLists;
+use crate::moved_units::add_units;
 use crate::name_index::follow_name_index;
 use crate::names::follow_names;
+use crate::replacing::replaced;
 use crate::sections::{DebugSections, SectionName};
 use code_moves::Moves;
-use dwarf_bytes::{AddressUses, DebugError, DebugFault, Patches};
-use dwarf_info::{
-    Abbreviations, ListUse, MovedEntries, Shifts, UnitSection, follow_units, move_units,
-};
+use dwarf_bytes::{AddressUses, DebugError, Patches};
 use dwarf_line::{Moved, MovedLines, move_lines};
 use std::alloc::Global;
 
@@ -45,17 +59,11 @@ impl MovedSections {
         None
     }
 
-    /// Adds the new contents of a section, or says which section can't be moved.
-    fn add(
-        &mut self,
-        name: SectionName,
-        contents: Result<Vec<u8>, DebugError>,
-    ) -> Result<(), DebugFailure>
-        ensures added { OnOk result (MatchResult contents
-            (λ bytes. moved_contents self.new.sections.items ≡ moved_contents self.old.sections.items ++ (name, bytes.items) ∷ []) (λ e. ⊥)) }
-        ensures refused { IfErr result (λ e. (e.section ≡ name) × ((e.error ≡ Memory) ⊎ (contents ≡ Err e.error))) }
+    /// Adds the new contents of a section.
+    pub(crate) fn add(&mut self, name: SectionName, contents: Vec<u8>) -> Result<(), DebugFailure>
+        ensures added { OnOk result (moved_contents self.new.sections.items ≡ moved_contents self.old.sections.items ++ (name, contents.items) ∷ []) }
+        ensures memory { IfErr result (λ f. f.error ≡ Memory) }
     {
-        let contents = within(name, contents)?;
         match self.sections.push(MovedSection { name, contents }) {
             Ok(()) => Ok(()),
             Err(_) => Err(DebugFailure {
@@ -66,237 +74,159 @@ impl MovedSections {
     }
 }
 
-/// The entries of two sections.
-#[derive(Drop)]
-struct AllEntries<'t> {
-    abbreviations: Abbreviations,
-    info: MovedEntries<'t>,
-    types: MovedEntries<'t>,
-}
-
-impl<'t> AllEntries<'t> {
-    /// Moves the entries of the module, of which line tables go there.
-    fn moved(
-        alloc: Global,
-        sections: &DebugSections<'_>,
-        moves: &Moves,
-        tables: &'t [Moved],
-    ) -> Result<AllEntries<'t>, DebugFailure> {
-        let name = SectionName::Abbreviations;
-        let abbreviations = within(name, Abbreviations::read(alloc, sections.get(name)))?;
-        let counts_code = !sections.get(SectionName::AddressRanges).is_empty();
-        let addresses = sections.get(SectionName::Addresses);
-        let mut info = MovedEntries::new(alloc, tables, counts_code);
-        let name = SectionName::Info;
-        let (section, kind) = (sections.get(name), UnitSection::Info);
-        let moved = move_units(
-            alloc,
-            moves,
-            &abbreviations,
-            section,
-            kind,
-            addresses,
-            &mut info,
-        );
-        within(name, moved)?;
-        let mut types = MovedEntries::new(alloc, tables, false);
-        let name = SectionName::Types;
-        let (section, kind) = (sections.get(name), UnitSection::Types);
-        let moved = move_units(
-            alloc,
-            moves,
-            &abbreviations,
-            section,
-            kind,
-            addresses,
-            &mut types,
-        );
-        within(name, moved)?;
-        Ok(AllEntries {
-            abbreviations,
-            info,
-            types,
-        })
-    }
-
-    /// The lists of this kind that they use, among others.
-    fn lists(&self, kind: ListKind) -> (&[ListUse], &[ListUse]) {
-        match kind {
-            ListKind::Ranges | ListKind::RangeLists => (self.info.ranges(), self.types.ranges()),
-            ListKind::Locations | ListKind::LocationLists => {
-                (self.info.locations(), self.types.locations())
-            }
-        }
-    }
-}
-
-/// What is replaced in those sections of lists where something changes its size.
-#[derive(Drop)]
-struct MovedLists {
-    ranges: Patches,
-    locations: Patches,
-    range_lists: Patches,
-    location_lists: Patches,
-}
-
-/// Adds a section of lists, as its lists become. Returns what is replaced in it if something changes its size, and nothing otherwise: no
-/// offset into it changes then, so what is replaced needn't be in memory any longer.
-fn add_lists(
+/// Adds the addresses that are named by index, of which these parts are replaced.
+fn add_addresses(
     alloc: Global,
     sections: &DebugSections<'_>,
-    kind: ListKind,
-    entries: &AllEntries<'_>,
-    moves: &Moves,
-    addresses: &mut AddressUses,
-    out: &mut MovedSections,
-) -> Result<Patches, DebugFailure> {
-    let section = ListSection::of(sections, kind);
-    let uses = entries.lists(kind);
-    let patches = within(
-        kind.section(),
-        section.patches(alloc, uses, moves, addresses),
-    )?;
-    out.add(kind.section(), section.applied(alloc, &patches))?;
-    match patches.resizes() {
-        true => Ok(patches),
-        false => Ok(Patches::new(alloc)),
-    }
-}
-
-impl MovedLists {
-    /// Moves all lists, and adds their sections.
-    fn moved(
-        alloc: Global,
-        sections: &DebugSections<'_>,
-        entries: &AllEntries<'_>,
-        moves: &Moves,
-        uses: &mut AddressUses,
-        out: &mut MovedSections,
-    ) -> Result<MovedLists, DebugFailure> {
-        let kind = ListKind::Ranges;
-        let ranges = add_lists(alloc, sections, kind, entries, moves, uses, out)?;
-        let kind = ListKind::Locations;
-        let locations = add_lists(alloc, sections, kind, entries, moves, uses, out)?;
-        let kind = ListKind::RangeLists;
-        let range_lists = add_lists(alloc, sections, kind, entries, moves, uses, out)?;
-        let kind = ListKind::LocationLists;
-        let location_lists = add_lists(alloc, sections, kind, entries, moves, uses, out)?;
-        Ok(MovedLists {
-            ranges,
-            locations,
-            range_lists,
-            location_lists,
-        })
-    }
-
-    /// Whether a list changes its size.
-    fn resizes(&self) -> bool {
-        self.ranges.resizes()
-            || self.locations.resizes()
-            || self.range_lists.resizes()
-            || self.location_lists.resizes()
-    }
-}
-
-/// What becomes of a section of units, in which these parts are replaced; and offsets follow what they lead to, where anything changes its
-/// size.
-fn applied_units(
-    alloc: Global,
-    abbreviations: &Abbreviations,
-    section: &[u8],
-    kind: UnitSection,
-    own: &Patches,
-    shifts: Option<&Shifts<'_>>,
-) -> Result<Vec<u8>, DebugError> {
-    match shifts {
-        None => own.apply(alloc, section),
-        Some(shifts) => {
-            let all = follow_units(alloc, abbreviations, section, kind, own, shifts)?;
-            all.apply(alloc, section)
-        }
-    }
-}
-
-/// Adds the sections of units.
-fn add_units(
-    alloc: Global,
-    sections: &DebugSections<'_>,
-    entries: &AllEntries<'_>,
-    lists: &MovedLists,
     addresses: &Patches,
     out: &mut MovedSections,
-) -> Result<(), DebugFailure> {
-    let (info, types) = (entries.info.patches(), entries.types.patches());
-    let all = Shifts {
-        info,
-        ranges: &lists.ranges,
-        locations: &lists.locations,
-        range_lists: &lists.range_lists,
-        location_lists: &lists.location_lists,
-        addresses,
-    };
-    let resizes = info.resizes() || types.resizes() || lists.resizes() || addresses.resizes();
-    let shifts = match resizes {
-        true => Some(&all),
-        false => None,
-    };
-    let abbreviations = &entries.abbreviations;
-    let (name, kind) = (SectionName::Info, UnitSection::Info);
-    let section = sections.get(name);
-    out.add(
+) -> Result<(), DebugFailure>
+    ensures added { OnOk result ((one : NamedContents)
+        × (section_followed (contents_by_name sections.now.sections.items) (names.Addresses, section_with (changes addresses.now)) ≡ Ok one)
+        × (moved_contents out.new.sections.items ≡ moved_contents out.old.sections.items ++ one ∷ [])) }
+    ensures refused { IfErr result (IsFailureOf (λ section fault.
+        section_followed (contents_by_name sections.now.sections.items) (names.Addresses, section_with (changes addresses.now)) ≡ Err (section, fault))) }
+{
+    let name = SectionName::Addresses;
+    let contents = within(name, replaced(alloc, sections.get(name), addresses))?;
+    out.add(name, contents)?;
+    Ok(())
+}
+
+/// Adds the index of names.
+fn add_name_index(
+    alloc: Global,
+    sections: &DebugSections<'_>,
+    info: &Patches,
+    out: &mut MovedSections,
+) -> Result<(), DebugFailure>
+    ensures added { OnOk result ((one : NamedContents)
+        × (section_followed (contents_by_name sections.now.sections.items) (names.NameIndex, name_index_followed (changes info.now)) ≡ Ok one)
+        × (moved_contents out.new.sections.items ≡ moved_contents out.old.sections.items ++ one ∷ [])) }
+    ensures refused { IfErr result (IsFailureOf (λ section fault.
+        section_followed (contents_by_name sections.now.sections.items) (names.NameIndex, name_index_followed (changes info.now)) ≡ Err (section, fault))) }
+{
+    let name = SectionName::NameIndex;
+    let contents = within(name, follow_name_index(alloc, sections.get(name), info))?;
+    out.add(name, contents)?;
+    Ok(())
+}
+
+/// Adds a section of tables of names.
+fn add_name_tables(
+    alloc: Global,
+    sections: &DebugSections<'_>,
+    name: SectionName,
+    is_gnu: bool,
+    info: &Patches,
+    out: &mut MovedSections,
+) -> Result<(), DebugFailure>
+    ensures added { OnOk result ((one : NamedContents)
+        × (section_followed (contents_by_name sections.now.sections.items) (name, names_followed (changes info.now) is_gnu) ≡ Ok one)
+        × (moved_contents out.new.sections.items ≡ moved_contents out.old.sections.items ++ one ∷ [])) }
+    ensures refused { IfErr result (IsFailureOf (λ section fault.
+        section_followed (contents_by_name sections.now.sections.items) (name, names_followed (changes info.now) is_gnu) ≡ Err (section, fault))) }
+{
+    let contents = within(name, follow_names(alloc, sections.get(name), is_gnu, info))?;
+    out.add(name, contents)?;
+    Ok(())
+}
+
+/// Adds the address ranges.
+fn add_address_ranges(
+    alloc: Global,
+    sections: &DebugSections<'_>,
+    entries: &AllEntries<'_>,
+    moves: &Moves,
+    out: &mut MovedSections,
+) -> Result<(), DebugFailure>
+    ensures added { OnOk result ((one : NamedContents)
+        × (section_followed (contents_by_name sections.now.sections.items) (
+          names.AddressRanges,
+          code_followed moves.now.bodies.items (entries_moved entries.now.info).code (entries_moved entries.now.info).changes,
+        ) ≡ Ok one)
+        × (moved_contents out.new.sections.items ≡ moved_contents out.old.sections.items ++ one ∷ [])) }
+    ensures refused { IfErr result (IsFailureOf (λ section fault.
+        section_followed (contents_by_name sections.now.sections.items) (
+          names.AddressRanges,
+          code_followed moves.now.bodies.items (entries_moved entries.now.info).code (entries_moved entries.now.info).changes,
+        ) ≡ Err (section, fault))) }
+{
+    let name = SectionName::AddressRanges;
+    let code = entries.info.code();
+    let info = entries.info.patches();
+    let contents = within(
         name,
-        applied_units(alloc, abbreviations, section, kind, info, shifts),
+        move_address_ranges(alloc, sections.get(name), code, info, moves),
     )?;
-    let (name, kind) = (SectionName::Types, UnitSection::Types);
-    let section = sections.get(name);
-    out.add(
-        name,
-        applied_units(alloc, abbreviations, section, kind, types, shifts),
-    )
+    out.add(name, contents)?;
+    Ok(())
+}
+
+/// Adds the sections of names.
+fn add_all_names(
+    alloc: Global,
+    sections: &DebugSections<'_>,
+    info: &Patches,
+    out: &mut MovedSections,
+) -> Result<(), DebugFailure>
+    ensures added { OnOk result ((news : AList NamedContents)
+        × (each (section_followed (contents_by_name sections.now.sections.items)) (name_followers (changes info.now)) ≡ Ok news)
+        × (moved_contents out.new.sections.items ≡ moved_contents out.old.sections.items ++ news)) }
+    ensures refused { IfErr result (IsFailureOf (λ section fault.
+        each (section_followed (contents_by_name sections.now.sections.items)) (name_followers (changes info.now)) ≡ Err (section, fault))) }
+{
+    add_name_index(alloc, sections, info, out)?;
+    let name = SectionName::PublicNames;
+    add_name_tables(alloc, sections, name, false, info, out)?;
+    let name = SectionName::PublicTypes;
+    add_name_tables(alloc, sections, name, false, info, out)?;
+    let name = SectionName::GnuPublicNames;
+    add_name_tables(alloc, sections, name, true, info, out)?;
+    let name = SectionName::GnuPublicTypes;
+    add_name_tables(alloc, sections, name, true, info, out)?;
+    Ok(())
 }
 
 /// Adds the sections of names, if entries are at other places.
 fn add_names(
     alloc: Global,
     sections: &DebugSections<'_>,
-    entries: &AllEntries<'_>,
+    info: &Patches,
     out: &mut MovedSections,
-) -> Result<(), DebugFailure> {
-    let info = entries.info.patches();
-    if !info.resizes() {
-        return Ok(());
+) -> Result<(), DebugFailure>
+    ensures added { OnOk result ((news : AList NamedContents)
+        × (name_sections_moved (contents_by_name sections.now.sections.items) (changes info.now) ≡ Ok news)
+        × (moved_contents out.new.sections.items ≡ moved_contents out.old.sections.items ++ news)) }
+    ensures refused { IfErr result (IsFailureOf (λ section fault.
+        name_sections_moved (contents_by_name sections.now.sections.items) (changes info.now) ≡ Err (section, fault))) }
+{
+    if info.resizes() {
+        return add_all_names(alloc, sections, info, out);
     }
-    let name = SectionName::NameIndex;
-    out.add(name, follow_name_index(alloc, sections.get(name), info))?;
-    let name = SectionName::PublicNames;
-    out.add(name, follow_names(alloc, sections.get(name), false, info))?;
-    let name = SectionName::PublicTypes;
-    out.add(name, follow_names(alloc, sections.get(name), false, info))?;
-    let name = SectionName::GnuPublicNames;
-    out.add(name, follow_names(alloc, sections.get(name), true, info))?;
-    let name = SectionName::GnuPublicTypes;
-    out.add(name, follow_names(alloc, sections.get(name), true, info))
+    Ok(())
 }
 
-/// Checks that no expression names an entry that is at another place.
-fn check_names_in_expressions(entries: &AllEntries<'_>) -> Result<(), DebugFailure> {
-    let names = entries.info.names_entries() || entries.types.names_entries();
-    let resizes = entries.info.patches().resizes() || entries.types.patches().resizes();
-    match names && resizes {
-        true => Err(DebugFailure::fault(SectionName::Info, DebugFault::Unsupported)),
-        false => Ok(()),
-    }
-}
-
-/// What is replaced among the addresses that are named by index, which lists and entries of two sections use so.
-fn move_addresses(
+/// Adds the sections after the units.
+fn add_last(
     alloc: Global,
-    mut uses: AddressUses,
+    sections: &DebugSections<'_>,
+    moves: &Moves,
     entries: &AllEntries<'_>,
-) -> Result<Patches, DebugError> {
-    uses.add_all(entries.info.addresses())?;
-    uses.add_all(entries.types.addresses())?;
-    uses.patches(alloc)
+    addresses: &Patches,
+    out: &mut MovedSections,
+) -> Result<(), DebugFailure>
+    ensures added { OnOk result ((news : AList NamedContents)
+        × (last_sections_moved (debug_setting sections.now moves.now) (entries_of_module entries.now) (changes addresses.now) ≡ Ok news)
+        × (moved_contents out.new.sections.items ≡ moved_contents out.old.sections.items ++ news)) }
+    ensures refused { IfErr result (IsFailureOf (λ section fault.
+        last_sections_moved (debug_setting sections.now moves.now) (entries_of_module entries.now) (changes addresses.now) ≡ Err (section, fault))) }
+{
+    add_addresses(alloc, sections, addresses, out)?;
+    let info = entries.info.patches();
+    add_names(alloc, sections, info, out)?;
+    add_address_ranges(alloc, sections, entries, moves, out)?;
+    Ok(())
 }
 
 /// What becomes of the sections of a module whose code moves so, but for line tables, which go there.
@@ -306,7 +236,12 @@ fn move_others(
     moves: &Moves,
     tables: &[Moved],
     out: &mut MovedSections,
-) -> Result<(), DebugFailure> {
+) -> Result<(), DebugFailure>
+    ensures moved { OnOk result ((news : AList NamedContents)
+        × AreOthersMoved (debug_setting sections.now moves.now) tables.now news
+        × (moved_contents out.new.sections.items ≡ moved_contents out.old.sections.items ++ news)) }
+    ensures refused { IfErr result (IsFailureOf (AreOthersNotMoved (debug_setting sections.now moves.now) tables.now)) }
+{
     let entries = AllEntries::moved(alloc, sections, moves, tables)?;
     let mut uses = AddressUses::new(alloc);
     let lists = MovedLists::moved(alloc, sections, &entries, moves, &mut uses, out)?;
@@ -314,14 +249,43 @@ fn move_others(
     let name = SectionName::Addresses;
     let addresses = within(name, move_addresses(alloc, uses, &entries))?;
     add_units(alloc, sections, &entries, &lists, &addresses, out)?;
-    out.add(name, addresses.apply(alloc, sections.get(name)))?;
-    add_names(alloc, sections, &entries, out)?;
-    let name = SectionName::AddressRanges;
-    let (code, info) = (entries.info.code(), entries.info.patches());
-    out.add(
-        name,
-        move_address_ranges(alloc, sections.get(name), code, info, moves),
-    )
+    add_last(alloc, sections, moves, &entries, &addresses, out)?;
+    Ok(())
+}
+
+/// Adds the macros.
+fn add_macros(
+    alloc: Global,
+    sections: &DebugSections<'_>,
+    tables: &[Moved],
+    out: &mut MovedSections,
+) -> Result<(), DebugFailure>
+    requires { Ascend (λ (m : AMoved). m.old) 0 tables.now }
+    ensures added { OnOk result ((macros : AList ℕ)
+        × (macro_section_followed tables.now (contents_named (contents_by_name sections.now.sections.items) names.Macros) ≡ Ok macros)
+        × (moved_contents out.new.sections.items ≡ moved_contents out.old.sections.items ++ (names.Macros, macros) ∷ [])) }
+    ensures refused { IfErr result (IsFailureOf (λ section fault. (section ≡ names.Macros)
+        × (macro_section_followed tables.now (contents_named (contents_by_name sections.now.sections.items) names.Macros) ≡ Err fault))) }
+{
+    let name = SectionName::Macros;
+    let contents = within(name, follow_macros(alloc, sections.get(name), tables))?;
+    out.add(name, contents)?;
+    Ok(())
+}
+
+/// What becomes of the line tables, and where they go.
+fn moved_lines(
+    alloc: Global,
+    sections: &DebugSections<'_>,
+    moves: &Moves,
+) -> Result<MovedLines, DebugFailure>
+    ensures moved { IfOk result (λ lines. AreLinesMoved (debug_setting sections.now moves.now) lines.bytes.items lines.tables.items) }
+    ensures refused { IfErr result (IsFailureOf (λ section fault. (section ≡ names.Lines)
+        × IsRefusal (section_read (debug_setting sections.now moves.now) names.Lines) (Fault fault))) }
+{
+    let name = SectionName::Lines;
+    let lines = within(name, move_lines(alloc, sections.get(name), moves))?;
+    Ok(lines)
 }
 
 /// What becomes of the sections of a module whose code moves so.
@@ -333,16 +297,17 @@ pub fn move_sections(
     alloc: Global,
     sections: &DebugSections<'_>,
     moves: &Moves,
-) -> Result<MovedSections, DebugFailure> {
+) -> Result<MovedSections, DebugFailure>
+    ensures moved { IfOk result (λ out. AreSectionsMoved (debug_setting sections.now moves.now) (moved_contents out.sections.items)) }
+    ensures refused { IfErr result (IsFailureOf (AreSectionsNotMoved (debug_setting sections.now moves.now))) }
+{
     let mut out = MovedSections {
         sections: Vec::new(alloc),
     };
-    let name = SectionName::Lines;
-    let lines = within(name, move_lines(alloc, sections.get(name), moves))?;
+    let lines = moved_lines(alloc, sections, moves)?;
     let MovedLines { bytes, tables, .. } = lines;
-    out.add(name, Ok(bytes))?;
-    let name = SectionName::Macros;
-    out.add(name, follow_macros(alloc, sections.get(name), &tables))?;
+    out.add(SectionName::Lines, bytes)?;
+    add_macros(alloc, sections, &tables, &mut out)?;
     move_others(alloc, sections, moves, &tables, &mut out)?;
     Ok(out)
 }

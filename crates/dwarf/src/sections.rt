@@ -3,7 +3,7 @@
 ghost use Rattle.std.specs.Prelude.{◌≡◌, ◌⊎◌, [], OnOk, OnErr, IfErr};
 ghost use Rattle.dwarf_bytes.specs.declared.fault.DebugError.TheVariants.{Memory, Fault};
 ghost use Rattle.dwarf_bytes.specs.declared.fault.DebugFault.TheVariants as faults;
-ghost use Rattle.dwarf.specs.Sections.{contents_by_name, AreContents, IsSectionAdded, IsSectionRefused};
+ghost use Rattle.dwarf.specs.Sections.{contents_by_name, contents_named, AreContents, IsSectionAdded, IsSectionRefused};
 
 use crate::failure::DebugFailure;
 use dwarf_bytes::{DebugError, DebugFault};
@@ -126,6 +126,14 @@ impl<'a> DebugSections<'a> {
 
     /// The contents of a section; none if there is no such section.
     pub fn get(&self, name: SectionName) -> &'a [u8]
+        ensures contents { AreContents (contents_by_name self.now.sections.items) name result.now }
+        ensures named { result.now ≡ contents_named (contents_by_name self.now.sections.items) name }
+    {
+        self.find(name)
+    }
+
+    /// The contents of the first section of this name.
+    fn find(&self, name: SectionName) -> &'a [u8]
         ensures { AreContents (contents_by_name self.now.sections.items) name result.now }
     {
         'sections: for section in &self.sections {

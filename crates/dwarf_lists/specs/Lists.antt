@@ -7,6 +7,7 @@ use Rattle.dwarf_bytes.specs.Changes.{SectionChange, AreChangesInOrder, end_from
 use Rattle.dwarf_expressions.specs.declared.encoding.Encoding.{Encoding}
 use Rattle.dwarf_expressions.specs.Expressions.{BeginWith}
 use Rattle.dwarf_lists.specs.declared.entry.Kind.{Kind}
+use Rattle.dwarf_lists.specs.declared.entry.Kind.TheVariants.{Ranges, Locations}
 use Rattle.dwarf_lists.specs.Entries.{Entry, list_entry, BeginsItem, BeginsList}
 use Rattle.dwarf_lists.specs.Moving.{AreMovedOfList, from_all, IsRefusedEntry}
 
@@ -39,3 +40,17 @@ IsRefusedList kind e bodies section offset from before fault =
     ⊎ (((fault ≡ faults.Overlap) × (offset < end_from 0 before))
     ⊎ ((xs : List Entry) × (bytes : List ℕ) × BeginWith (BeginsItem kind e.address_size) (drop offset section) xs bytes
     × IsRefusedNextOfList kind e bodies (from_all from xs) bytes fault))
+
+-- ---- by what the list has
+
+abbrev pub IsMovedListOfRanges : Encoding → List Body → (section : List ℕ) → (offset from end : ℕ) → (before after : List SectionChange) → Type 0
+IsMovedListOfRanges = IsMovedListOfList Ranges
+
+abbrev pub IsMovedListOfLocations : Encoding → List Body → (section : List ℕ) → (offset from end : ℕ) → (before after : List SectionChange) → Type 0
+IsMovedListOfLocations = IsMovedListOfList Locations
+
+abbrev pub IsRefusedListOfRanges : Encoding → List Body → (section : List ℕ) → (offset from : ℕ) → (before : List SectionChange) → DebugFault → Type 0
+IsRefusedListOfRanges = IsRefusedList Ranges
+
+abbrev pub IsRefusedListOfLocations : Encoding → List Body → (section : List ℕ) → (offset from : ℕ) → (before : List SectionChange) → DebugFault → Type 0
+IsRefusedListOfLocations = IsRefusedList Locations

@@ -10,3 +10,5 @@ pub mod Ends
 pub mod Tellings
 -- where a list is in what is written
 pub mod Found
+-- what of an entry is passed
+pub mod Passing

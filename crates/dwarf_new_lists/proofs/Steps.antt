@@ -1,6 +1,7 @@
 -- An entry that is moved, and one more of them.
 use Rattle.std.proofs.Common.{◌≡◌, ℕ, ◌+◌, ◌^◌, true, false, ltb, ◌&&◌, List, [], ◌∷◌, ◌++◌, Option, Some, None, option_map, is_some, MatchOption, inl, inr, refl, sym, ap, ◌∙◌, subst, append_assoc}
 use Rattle.std.proofs.lemmas.Bool.{cases_Bool}
+use Rattle.std.specs.List.{AllByRecursion}
 use Rattle.std.proofs.lemmas.List.{append-nil}
 use Rattle.code_moves.specs.declared.body.Body.{Body}
 use Rattle.code_moves.specs.Moves.{body_with_address, new_address}
@@ -21,7 +22,7 @@ use Rattle.dwarf_new_lists.specs.Kinds.{new_list_kind_of, has_expression}
 use Rattle.dwarf_new_lists.specs.Reading.{new_list_entry_of}
 use Rattle.dwarf_new_lists.specs.Contexts.{IsSameEntry}
 use Rattle.dwarf_new_lists.specs.Writing.{IsText, as_operand, IsOf, HasOperands, IsMovedExpression, IsWrittenOf}
-use Rattle.dwarf_new_lists.specs.Sayings.{range, new_list_of_index, new_list_body_of, says, says_entry, next_base, moved_addresses, moved_saying, SaysMoved, IsMovedOfNewList, AreMovedOfNewList}
+use Rattle.dwarf_new_lists.specs.Sayings.{range, new_list_of_index, new_list_body_of, says, says_entry, next_base, base_after_entries, moved_addresses, moved_saying, SaysMoved, IsMovedOfNewList, AreMovedOfNewList}
 use Rattle.dwarf_new_lists.specs.NewLists.{BeginsEntry, AreWhole}
 
 -- ---- the operands that a kind doesn't have say nothing
@@ -121,17 +122,12 @@ next_base_moved bs at base new_base kind one two new_one new_two e s =
 
 -- ---- one more
 
--- the base after some entries
-abbrev pub base_after : (at : ℕ → Option ℕ) → (base : ℕ) → List AnEntry → ℕ
-base_after at base [] = base
-base_after at base (e ∷ es) = base_after at (next_base base (says_entry at base e)) es
-
-pub after_more : (at : ℕ → Option ℕ) (base : ℕ) (es : List AnEntry) (e : AnEntry) → base_after at base (es ++ e ∷ []) ≡ next_base (base_after at base es) (says_entry at (base_after at base es) e)
+pub after_more : (at : ℕ → Option ℕ) (base : ℕ) (es : List AnEntry) (e : AnEntry) → base_after_entries at base (es ++ e ∷ []) ≡ next_base (base_after_entries at base es) (says_entry at (base_after_entries at base es) e)
 after_more at base [] e = refl
 after_more at base (x ∷ es) e = after_more at (next_base base (says_entry at base x)) es e
 
 pub moved_more : (enc : Encoding) (bs : List Body) (at : ℕ → Option ℕ) (base new_base : ℕ) (os ns : List AnEntry) (o n : AnEntry) → AreMovedOfNewList enc bs at base new_base os ns
-    → IsMovedOfNewList enc bs at (base_after at base os) (base_after (moved_addresses bs at) new_base ns) o n → AreMovedOfNewList enc bs at base new_base (os ++ o ∷ []) (ns ++ n ∷ [])
+    → IsMovedOfNewList enc bs at (base_after_entries at base os) (base_after_entries (moved_addresses bs at) new_base ns) o n → AreMovedOfNewList enc bs at base new_base (os ++ o ∷ []) (ns ++ n ∷ [])
 moved_more enc bs at base new_base [] [] o n all one = (one, tt)
 moved_more enc bs at base new_base [] (y ∷ ns) o n all one = absurd all
 moved_more enc bs at base new_base (x ∷ os) [] o n all one = absurd all
@@ -144,8 +140,8 @@ pub record SoFar (lists : Lists) (enc : Encoding) (bs : List Body) (at : ℕ →
   pub appended : out ≡ front ++ text
   pub writes : WritesOfExpression (BeginsEntry lists enc.address_size) text ns
   pub moved : AreMovedOfNewList enc bs at base (new_address bs base) os ns
-  pub old_after : old_base ≡ base_after at base os
-  pub new_after : new_base ≡ base_after (moved_addresses bs at) (new_address bs base) ns
+  pub old_after : old_base ≡ base_after_entries at base os
+  pub new_after : new_base ≡ base_after_entries (moved_addresses bs at) (new_address bs base) ns
   pub bases : new_base ≡ new_address bs old_base
 
 pub none_so_far : (lists : Lists) (enc : Encoding) (bs : List Body) (at : ℕ → Option ℕ) (base : ℕ) (bytes out : List ℕ) (old_base new_base : ℕ) → old_base ≡ base → new_base ≡ new_address bs base
@@ -175,8 +171,8 @@ pub one_more : (lists : Lists) (enc : Encoding) (bs : List Body) (at : ℕ → O
 one_more lists enc bs at base bytes front os ns text rest out old_base new_base so_far o n one after new_out old_next next read added reads moves old_is next_is =
     let B = BeginsEntry lists enc.address_size in
     let moved_at = moved_addresses bs at in
-    let old_after = base_after at base os in
-    let new_after = base_after moved_at (new_address bs base) ns in
+    let old_after = base_after_entries at base os in
+    let new_after = base_after_entries moved_at (new_address bs base) ns in
     let at_after : IsMovedOfNewList enc bs at old_after new_after o n =
     subst (λ (b : ℕ). IsMovedOfNewList enc bs at b new_after o n) so_far.old_after (subst (λ (b : ℕ). IsMovedOfNewList enc bs at old_base b o n) so_far.new_after moves) in
     let new_is = new_next enc bs at old_base new_base o n moves so_far.bases in
@@ -195,8 +191,7 @@ one_more lists enc bs at base bytes front os ns text rest out old_base new_base 
 
 -- entries of which none is the end
 abbrev pub AreOpen : List AnEntry → Type 0
-AreOpen [] = Unit {0}
-AreOpen (e ∷ es) = (new_list_is_end e.kind ≡ false) × AreOpen es
+AreOpen = AllByRecursion (λ e. new_list_is_end e.kind ≡ false)
 
 pub open_more : (es : List AnEntry) (e : AnEntry) → AreOpen es → new_list_is_end e.kind ≡ false → AreOpen (es ++ e ∷ [])
 open_more [] e all one = (one, tt)

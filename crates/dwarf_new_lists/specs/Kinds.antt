@@ -19,6 +19,10 @@ abbrev pub new_list_is_end : Kind → Bool
 new_list_is_end End = true
 new_list_is_end _ = false
 
+abbrev pub is_default : Kind → Bool
+is_default Default = true
+is_default _ = false
+
 -- the operands of an entry
 abbrev pub new_list_operands : Kind → Operand × Operand
 new_list_operands End = (Nothing, Nothing)

@@ -14,5 +14,8 @@ pub mod Contexts
 pub mod NewLists
 -- what is told of addresses
 pub mod Tellings
+-- why a list isn't moved
+pub mod Refusals
+pub mod WritingRefusals
 -- what is claimed of a section
 pub mod Laws

@@ -3,13 +3,14 @@ use Rattle.std.specs.Prelude.{◌≡◌, ℕ, ◌-◌, ◌<◌, ◌≤◌, List,
 use Rattle.code_moves.specs.declared.body.Body.{Body}
 use Rattle.code_moves.specs.Moves.{new_address}
 use Rattle.dwarf_bytes.specs.declared.size.Size.{Size}
-use Rattle.dwarf_bytes.specs.Changes.{SectionChange}
+use Rattle.dwarf_bytes.specs.Changes.{SectionChange, end_from}
 use Rattle.dwarf_bytes.specs.declared.addresses.Address.{Address}
 use Rattle.dwarf_bytes.specs.declared.addresses.AddressTable.{AddressTable}
 use Rattle.dwarf_bytes.specs.Addresses.{address_at}
 use Rattle.dwarf_expressions.specs.declared.encoding.Encoding.{Encoding}
 use Rattle.dwarf_expressions.specs.Expressions.{BeginWith}
 use Rattle.dwarf_new_lists.specs.declared.kind.Lists.{Lists}
+use Rattle.dwarf_new_lists.specs.declared.kind.Lists.TheVariants.{Ranges, Locations}
 use Rattle.dwarf_new_lists.specs.Kinds.{new_list_is_end}
 use Rattle.dwarf_new_lists.specs.Entries.{AnEntry, an_entry}
 use Rattle.dwarf_new_lists.specs.Sayings.{AreMovedOfNewList}
@@ -31,8 +32,8 @@ IsList lists size bytes es rest = BeginWith (BeginsEntry lists size) bytes es re
 abbrev pub IsListText : Lists → Size → (text : List ℕ) → List AnEntry → Type 0
 IsListText lists size text es = (following : List ℕ) → IsList lists size (text ++ following) es following
 
--- A list of a section is moved: it has these entries, and it is replaced by a text that has those. Where addresses
--- of code go that it names by index is told.
+-- A list of a section, after all that is replaced before, is moved: it has these entries, and it is replaced by a text that has those. Where
+-- addresses of code go that it names by index is told.
 pub record IsMovedListOfNewList (lists : Lists) (e : Encoding) (bs : List Body) (t : AddressTable) (base : ℕ) (section : List ℕ) (offset end : ℕ) (before after : List SectionChange) (uses new_uses : List (Address × ℕ)) : Type 0 where
   pub olds : List AnEntry
   pub news : List AnEntry
@@ -42,5 +43,13 @@ pub record IsMovedListOfNewList (lists : Lists) (e : Encoding) (bs : List Body) 
   pub moved : AreMovedOfNewList e bs (address_at t) base (new_address bs base) olds news
   pub some : offset < end
   pub within : end ≤ length section
+  pub free : end_from 0 before ≤ offset
   pub changed : after ≡ before ++ (record { at = offset; old = end - offset; new = text }) ∷ []
   pub tells : Tells bs t uses new_uses (code_indices bs (address_at t) base olds)
+
+-- by what the list has
+abbrev pub IsMovedRangeList : Encoding → List Body → AddressTable → (base : ℕ) → (section : List ℕ) → (offset end : ℕ) → (before after : List SectionChange) → (uses new_uses : List (Address × ℕ)) → Type 0
+IsMovedRangeList = IsMovedListOfNewList Ranges
+
+abbrev pub IsMovedLocationList : Encoding → List Body → AddressTable → (base : ℕ) → (section : List ℕ) → (offset end : ℕ) → (before after : List SectionChange) → (uses new_uses : List (Address × ℕ)) → Type 0
+IsMovedLocationList = IsMovedListOfNewList Locations

@@ -40,6 +40,11 @@ abbrev pub next_base : (base : ℕ) → Saying → ℕ
 next_base base (saying.Base address) = address
 next_base base _ = base
 
+-- the base after these entries
+abbrev pub base_after_entries : (at : ℕ → Option ℕ) → (base : ℕ) → List AnEntry → ℕ
+base_after_entries at base [] = base
+base_after_entries at base (e ∷ es) = base_after_entries at (next_base base (says_entry at base e)) es
+
 -- ---- where the code has moved
 
 -- the addresses by their indices

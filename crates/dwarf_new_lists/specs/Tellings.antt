@@ -1,39 +1,30 @@
 -- What is told of the addresses that lists name by index (DWARF 5, section 7.27).
-use Rattle.std.specs.Prelude.{◌≡◌, ℕ, List, [], ◌∷◌, ◌++◌, Option, Some, is_some, if◌then◌else◌}
-use Rattle.std.specs.List.{AllByRecursion}
+use Rattle.std.specs.Prelude.{◌≡◌, ℕ, List, [], ◌∷◌, ◌++◌, Option, None, option_map, is_some, if◌then◌else◌, Result, Ok, Err}
+use Rattle.std.specs.List.{filter_map}
 use Rattle.code_moves.specs.declared.body.Body.{Body}
 use Rattle.code_moves.specs.Moves.{address_moved}
 use Rattle.dwarf_bytes.specs.declared.addresses.Address.{Address}
 use Rattle.dwarf_bytes.specs.declared.addresses.AddressTable.{AddressTable}
-use Rattle.dwarf_bytes.specs.Addresses.{place_of_address, address_at}
+use Rattle.dwarf_bytes.specs.declared.fault.DebugFault.{DebugFault}
+use Rattle.dwarf_bytes.specs.Addresses.{addresses_of_table, indexed_address}
 use Rattle.dwarf_new_lists.specs.declared.kind.Kind.{Kind}
 use Rattle.dwarf_new_lists.specs.declared.kind.Kind.TheVariants.{BaseIndex, IndexPair, IndexLength}
 use Rattle.dwarf_new_lists.specs.declared.saying.Saying.{Saying}
 use Rattle.dwarf_new_lists.specs.Entries.{AnEntry}
 use Rattle.dwarf_new_lists.specs.Sayings.{says_entry, next_base, moved_saying}
 
--- the address of this index, and where it goes
-pub record IsUse (bs : List Body) (t : AddressTable) (index : ℕ) (use_is : Address × ℕ) : Type 0 where
-  pub place : use_is.0.at ≡ place_of_address t index
-  pub size : use_is.0.size ≡ t.size
-  pub value : address_at t index ≡ Some use_is.0.value
-  pub moves : address_moved bs use_is.0.value ≡ Some use_is.1
+-- an address, if there is one, and where it goes, if it is of a body
+abbrev pub told_of_address : List Body → Result Address DebugFault → Option (Address × ℕ)
+told_of_address bs (Ok a) = option_map (λ new. (a, new)) (address_moved bs a.value)
+told_of_address bs (Err fault) = None
 
-abbrev pub IsSomeUse : List Body → AddressTable → Address × ℕ → Type 0
-IsSomeUse bs t u = (index : ℕ) × IsUse bs t index u
+-- the address of this index
+abbrev pub told_of_index : List Body → AddressTable → (index : ℕ) → Option (Address × ℕ)
+told_of_index bs t index = told_of_address bs (indexed_address (addresses_of_table t) index)
 
--- if the address of this index is of a body, it is told where it goes
-abbrev pub IsToldOfNewList : List Body → AddressTable → List (Address × ℕ) → (index : ℕ) → Type 0
-IsToldOfNewList bs t uses index =
-    (value new : ℕ) → address_at t index ≡ Some value → address_moved bs value ≡ Some new
-    → (front back : List (Address × ℕ)) × (u : Address × ℕ) × (uses ≡ front ++ u ∷ back) × IsUse bs t index u
-
--- Only uses are told, of addresses of the table; among them those of these indices.
-pub record Tells (bs : List Body) (t : AddressTable) (before after : List (Address × ℕ)) (indices : List ℕ) : Type 0 where
-  pub added : List (Address × ℕ)
-  pub grown : after ≡ before ++ added
-  pub uses : AllByRecursion (IsSomeUse bs t) added
-  pub told : AllByRecursion (IsToldOfNewList bs t added) indices
+-- After what was told before, each address of these indices that is of a body is told, in their order, and nothing else.
+abbrev pub Tells : List Body → AddressTable → (before after : List (Address × ℕ)) → (indices : List ℕ) → Type 0
+Tells bs t before after is = after ≡ before ++ filter_map (told_of_index bs t) is
 
 -- ---- which addresses an entry and a list name by index
 

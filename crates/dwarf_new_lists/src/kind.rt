@@ -119,13 +119,20 @@ impl Lists {
 
 impl Kind {
     ghost use Rattle.std.specs.Prelude.{◌≡◌};
-    ghost use Rattle.dwarf_new_lists.specs.Kinds.{new_list_is_end, new_list_operands};
+    ghost use Rattle.dwarf_new_lists.specs.Kinds.{new_list_is_end, is_default, new_list_operands};
 
     /// Whether the entry ends its list.
     pub(crate) fn is_end(self) -> bool
         ensures { result ≡ new_list_is_end self }
     {
         matches!(self, Kind::End)
+    }
+
+    /// Whether the entry is a location wherever no other entry says one.
+    pub(crate) fn is_default(self) -> bool
+        ensures { result ≡ is_default self }
+    {
+        matches!(self, Kind::Default)
     }
 
     /// The operands of an entry.

@@ -1,13 +1,17 @@
 //! Lists.
 
-ghost use Rattle.std.specs.Prelude.{◌≡◌, ◌≤◌, length, drop, IfOk, OnOk};
-ghost use Rattle.dwarf_bytes.specs.Uses.{told};
+ghost use Rattle.std.specs.Prelude.{◌≡◌, ◌<◌, ◌≤◌, ◌⊎◌, length, drop, IfOk, OnOk, IfErr, OnErr};
+ghost use Rattle.dwarf_bytes.specs.declared.fault.DebugError.TheVariants.{Memory, Fault};
+ghost use Rattle.dwarf_bytes.specs.declared.fault.DebugFault.{DebugFault as AFault};
+ghost use Rattle.dwarf_bytes.specs.declared.fault.DebugFault.TheVariants.{BadOffset};
+ghost use Rattle.dwarf_bytes.specs.Uses.{told, lengthened};
 ghost use Rattle.dwarf_bytes.specs.Patches.{changes};
 ghost use Rattle.dwarf_new_lists.specs.declared.kind.Lists.TheVariants as lists;
 ghost use Rattle.dwarf_new_lists.specs.NewLists.{IsMovedListOfNewList};
+ghost use Rattle.dwarf_new_lists.specs.Refusals.{IsRefusedListOfNewList};
 
 use crate::entry::read_entry;
-use crate::kind::{Kind, Lists};
+use crate::kind::Lists;
 use crate::moving::{Base, Context};
 use crate::saying::says;
 use crate::writing::write_entry;
@@ -31,6 +35,7 @@ pub struct NewList {
 fn bytes_from(section: &[u8], offset: usize) -> Result<&[u8], DebugFault>
     ensures bytes { IfOk result (λ bytes. bytes.now ≡ drop offset section.now) }
     ensures within { OnOk result (offset ≤ length section.now) }
+    ensures refused { IfErr result (λ fault. (fault ≡ BadOffset) × (length section.now < offset)) }
 {
     section.get(offset..).ok_or(DebugFault::BadOffset)
 }
@@ -47,7 +52,9 @@ struct Step<'a> {
 }
 
 impl Context<'_> {
-    ghost use Rattle.std.specs.Prelude.{◌≡◌, ◌++◌, ℕ, List, IfOk};
+    ghost use Rattle.std.specs.Prelude.{◌≡◌, ◌⊎◌, ◌++◌, ℕ, List, IfOk, IfErr, OnErr};
+    ghost use Rattle.dwarf_bytes.specs.declared.fault.DebugError.TheVariants.{Memory, Fault};
+    ghost use Rattle.dwarf_bytes.specs.declared.fault.DebugFault.{DebugFault as AFault};
     ghost use Rattle.code_moves.specs.Moves.{new_address};
     ghost use Rattle.dwarf_new_lists.specs.Entries.{AnEntry, an_entry};
     ghost use Rattle.dwarf_new_lists.specs.Kinds.{new_list_is_end};
@@ -55,8 +62,9 @@ impl Context<'_> {
     ghost use Rattle.dwarf_new_lists.specs.Sayings.{says_entry, next_base, IsMovedOfNewList, AreMovedOfNewList};
     ghost use Rattle.dwarf_new_lists.specs.Contexts.{bodies, addresses};
     ghost use Rattle.dwarf_new_lists.specs.NewLists.{BeginsEntry, IsList, IsListText, IsMovedListOfNewList};
+    ghost use Rattle.dwarf_new_lists.specs.Refusals.{IsPassedEntry, ArePassedEntries, IsRefusedNextOfNewList, IsRefusedAfter, IsRefusedListOfNewList};
     ghost use Rattle.dwarf_bytes.specs.Patches.{changes};
-    ghost use Rattle.dwarf_bytes.specs.Uses.{told};
+    ghost use Rattle.dwarf_bytes.specs.Uses.{told, lengthened};
     ghost use Rattle.dwarf_new_lists.specs.Tellings.{Tells, indices_of_code, code_indices};
 
     // Appends the entry at the front.
@@ -78,12 +86,17 @@ impl Context<'_> {
             × (step.is_end ≡ new_list_is_end old.kind)
             × Tells (bodies self.now) self.now.addresses.now (told uses.old) (told uses.new)
             (indices_of_code (bodies self.now) (says_entry (addresses self.now) base.old old)
-            old.kind old.one old.two)) }
+            old.kind old.one old.two)
+            × IsPassedEntry self.now.encoding (bodies self.now) self.now.addresses.now base.old base.new old) }
+        ensures tables { lengthened uses.new ≡ lengthened uses.old }
+        ensures refused { IfErr result (λ e. (e ≡ Memory) ⊎ ((fault : AFault) × (e ≡ Fault fault)
+            × IsRefusedNextOfNewList self.now.lists self.now.encoding (bodies self.now) self.now.addresses.now
+            base.old base.new bytes.now fault)) }
         ensures base { base.new ≡ new_address (bodies self.now) base.old → IfOk result
             (λ step. step.base.new ≡ new_address (bodies self.now) step.base.old) }
     {
         let (entry, rest) = read_entry(self.lists, self.encoding.address_size, bytes)?;
-        if entry.kind == Kind::Default {
+        if entry.kind.is_default() {
             // its locals are those of a function that the list doesn't name
             return Err(DebugError::Fault(DebugFault::Unsupported));
         }
@@ -106,14 +119,19 @@ impl Context<'_> {
         alloc: Global,
         out: &mut Vec<u8>,
     ) -> Result<&'b [u8], DebugError>
-        ensures { IfOk result (λ rest. (olds news : List AnEntry) × (text : List ℕ)
+        ensures moved { IfOk result (λ rest. (olds news : List AnEntry) × (text : List ℕ)
             × IsList self.now.lists self.now.encoding.address_size bytes.now olds rest.now
             × (out.new.items ≡ out.old.items ++ text)
             × IsListText self.now.lists self.now.encoding.address_size text news
             × AreMovedOfNewList self.now.encoding (bodies self.now) (addresses self.now) base
             (new_address (bodies self.now) base) olds news
             × Tells (bodies self.now) self.now.addresses.now (told uses.old) (told uses.new)
-            (code_indices (bodies self.now) (addresses self.now) base olds)) }
+            (code_indices (bodies self.now) (addresses self.now) base olds)
+            × ArePassedEntries self.now.encoding (bodies self.now) self.now.addresses.now base olds) }
+        ensures tables { lengthened uses.new ≡ lengthened uses.old }
+        ensures refused { IfErr result (λ e. (e ≡ Memory) ⊎ ((fault : AFault) × (e ≡ Fault fault)
+            × IsRefusedAfter self.now.lists self.now.encoding (bodies self.now) self.now.addresses.now
+            base bytes.now fault)) }
     {
         let mut rest = bytes;
         let mut base = self.base_at(base);
@@ -135,9 +153,14 @@ impl Context<'_> {
         uses: &mut AddressUses,
         patches: &mut Patches,
     ) -> Result<usize, DebugError>
-        ensures { IfOk result (λ end. IsMovedListOfNewList self.now.lists self.now.encoding
+        ensures moved { IfOk result (λ end. IsMovedListOfNewList self.now.lists self.now.encoding
             (bodies self.now) self.now.addresses.now list.now.base section.now list.now.offset end
             (changes patches.old) (changes patches.new) (told uses.old) (told uses.new)) }
+        ensures refused { IfErr result (λ e. (e ≡ Memory) ⊎ ((fault : AFault) × (e ≡ Fault fault)
+            × IsRefusedListOfNewList self.now.lists self.now.encoding (bodies self.now) self.now.addresses.now
+            list.now.base section.now list.now.offset (changes patches.old) fault)) }
+        ensures tables { lengthened uses.new ≡ lengthened uses.old }
+        ensures unchanged { OnErr result (changes patches.new ≡ changes patches.old) }
     {
         let bytes = bytes_from(section, list.offset)?;
         let alloc = patches.allocator();
@@ -157,7 +180,7 @@ impl Context<'_> {
 /// `BadOffset` if the list, or an address that it names, isn't in its section; `Overlap` if the list begins before the end of the
 /// last one; `UnknownForm` if an entry is of a kind that isn't known; `Truncated` or `BadNumber` if an entry isn't all in the section;
 /// `Unsupported` if a number would be negative, if an entry with a length ends in no body, or if an entry is a default location; `DoesNotFit` if an address doesn't fit
-/// its size; out of memory.
+/// its size; out of memory. Nothing of the section is replaced then, and some of the addresses may be told.
 pub fn move_range_list(
     section: &[u8],
     list: &NewList,
@@ -166,9 +189,14 @@ pub fn move_range_list(
     uses: &mut AddressUses,
     patches: &mut Patches,
 ) -> Result<usize, DebugError>
-    ensures { IfOk result (λ end. IsMovedListOfNewList lists.Ranges list.now.encoding moves.now.bodies.items
+    ensures moved { IfOk result (λ end. IsMovedListOfNewList lists.Ranges list.now.encoding moves.now.bodies.items
         addresses.now list.now.base section.now list.now.offset end
         (changes patches.old) (changes patches.new) (told uses.old) (told uses.new)) }
+    ensures refused { IfErr result (λ e. (e ≡ Memory) ⊎ ((fault : AFault) × (e ≡ Fault fault)
+        × IsRefusedListOfNewList lists.Ranges list.now.encoding moves.now.bodies.items addresses.now
+        list.now.base section.now list.now.offset (changes patches.old) fault)) }
+    ensures tables { lengthened uses.new ≡ lengthened uses.old }
+    ensures unchanged { OnErr result (changes patches.new ≡ changes patches.old) }
 {
     let context = Context {
         lists: Lists::Ranges,
@@ -193,9 +221,14 @@ pub fn move_location_list(
     uses: &mut AddressUses,
     patches: &mut Patches,
 ) -> Result<usize, DebugError>
-    ensures { IfOk result (λ end. IsMovedListOfNewList lists.Locations list.now.encoding moves.now.bodies.items
+    ensures moved { IfOk result (λ end. IsMovedListOfNewList lists.Locations list.now.encoding moves.now.bodies.items
         addresses.now list.now.base section.now list.now.offset end
         (changes patches.old) (changes patches.new) (told uses.old) (told uses.new)) }
+    ensures refused { IfErr result (λ e. (e ≡ Memory) ⊎ ((fault : AFault) × (e ≡ Fault fault)
+        × IsRefusedListOfNewList lists.Locations list.now.encoding moves.now.bodies.items addresses.now
+        list.now.base section.now list.now.offset (changes patches.old) fault)) }
+    ensures tables { lengthened uses.new ≡ lengthened uses.old }
+    ensures unchanged { OnErr result (changes patches.new ≡ changes patches.old) }
 {
     let context = Context {
         lists: Lists::Locations,

@@ -1,6 +1,7 @@
 //! What becomes of an entry.
 
-ghost use Rattle.std.specs.Prelude.{◌≡◌, ◌+◌, IfOk};
+ghost use Rattle.std.specs.Prelude.{◌≡◌, ◌<◌, ◌+◌, IfOk, IfErr};
+ghost use Rattle.dwarf_bytes.specs.declared.fault.DebugFault.TheVariants.{Unsupported};
 ghost use Rattle.dwarf_new_lists.specs.Contexts.{IsSameEntry};
 
 use crate::entry::{Entry, Number};
@@ -28,7 +29,8 @@ pub(crate) struct Base {
 
 // how many addresses are from the first one to the one before the second one
 fn difference(low: u64, high: u64) -> Result<u64, DebugFault>
-    ensures { IfOk result (λ n. low + n ≡ high) }
+    ensures ok { IfOk result (λ n. low + n ≡ high) }
+    ensures err { IfErr result (λ fault. (fault ≡ Unsupported) × (high < low)) }
 {
     high.checked_sub(low).ok_or(DebugFault::Unsupported)
 }
@@ -54,10 +56,17 @@ fn with_operands<'b>(entry: &Entry<'b>, operands: (u64, u64)) -> Entry<'b>
 }
 
 impl<'a> Context<'a> {
-    ghost use Rattle.std.specs.Prelude.{◌≡◌, ◌+◌, ◌∷◌, [], ℕ, IfOk, OnOk, option_map};
-    ghost use Rattle.dwarf_bytes.specs.Uses.{told};
+    ghost use Rattle.std.specs.Prelude.{◌≡◌, ◌⊎◌, ◌+◌, ◌&&◌, ◌∷◌, [], ℕ, true, false, nat_le, is_some, IfOk, OnOk, IfErr, option_map, Ok, Err};
+    ghost use Rattle.wasm_numbers.specs.Results.{each};
+    ghost use Rattle.dwarf_bytes.specs.declared.fault.DebugError.TheVariants.{Memory, Fault};
+    ghost use Rattle.dwarf_bytes.specs.declared.fault.DebugFault.{DebugFault as AFault};
+    ghost use Rattle.dwarf_bytes.specs.declared.fault.DebugFault.TheVariants.{Unsupported};
+    ghost use Rattle.dwarf_bytes.specs.Addresses.{addresses_of_table, indexed_address};
+    ghost use Rattle.dwarf_bytes.specs.declared.addresses.Address.{Address as AnAddress};
+    ghost use Rattle.dwarf_bytes.specs.Uses.{told, lengthened};
+    ghost use Rattle.dwarf_new_lists.specs.Refusals.{has_numbers, numbers_said};
     ghost use Rattle.dwarf_new_lists.specs.Tellings.{Tells, indices, indices_of_code};
-    ghost use Rattle.code_moves.specs.Moves.{new_address};
+    ghost use Rattle.code_moves.specs.Moves.{new_address, address_moved};
     ghost use Rattle.dwarf_new_lists.specs.declared.saying.Saying.TheVariants as saying;
     ghost use Rattle.dwarf_new_lists.specs.Sayings.{new_list_body_of, next_base};
     ghost use Rattle.dwarf_new_lists.specs.Contexts.{bodies, addresses, says_old, says_new, EntrySaysMoved, IsSameEntry};
@@ -85,8 +94,13 @@ impl<'a> Context<'a> {
 
     // Tells where the address of this index goes, if it is of a body.
     fn tell(&self, index: u64, uses: &mut AddressUses) -> Result<(), DebugError>
-        ensures { OnOk result (Tells (bodies self.now) self.now.addresses.now (told uses.old)
+        ensures told { OnOk result (Tells (bodies self.now) self.now.addresses.now (told uses.old)
             (told uses.new) (index ∷ [])) }
+        ensures named { OnOk result ((a : AnAddress)
+            × (indexed_address (addresses_of_table self.now.addresses.now) index ≡ Ok a)) }
+        ensures tables { lengthened uses.new ≡ lengthened uses.old }
+        ensures refused { IfErr result (λ e. (e ≡ Memory) ⊎ ((fault : AFault) × (e ≡ Fault fault)
+            × (indexed_address (addresses_of_table self.now.addresses.now) index ≡ Err fault))) }
     {
         let address = self.addresses.get(index)?;
         if let Some(new) = self.moves.address(address.value) {
@@ -97,8 +111,12 @@ impl<'a> Context<'a> {
 
     // Tells where the addresses go whose indices are operands of the entry.
     fn tell_all(&self, entry: &Entry<'_>, uses: &mut AddressUses) -> Result<(), DebugError>
-        ensures { OnOk result (Tells (bodies self.now) self.now.addresses.now (told uses.old)
+        ensures told { OnOk result (Tells (bodies self.now) self.now.addresses.now (told uses.old)
             (told uses.new) (indices entry.now.kind entry.now.one.value entry.now.two.value)) }
+        ensures tables { lengthened uses.new ≡ lengthened uses.old }
+        ensures refused { IfErr result (λ e. (e ≡ Memory) ⊎ ((fault : AFault) × (e ≡ Fault fault)
+            × (each (indexed_address (addresses_of_table self.now.addresses.now))
+            (indices entry.now.kind entry.now.one.value entry.now.two.value) ≡ Err fault))) }
     {
         match entry.kind {
             Kind::BaseIndex | Kind::IndexLength => self.tell(entry.one.value, uses)?,
@@ -113,7 +131,10 @@ impl<'a> Context<'a> {
 
     // the length of addresses up to the one before this one, where they go
     fn new_length(&self, high: u64, new_low: u64, new_high: u64) -> Result<u64, DebugFault>
-        ensures { IfOk result (λ n. new_low + n ≡ new_high) }
+        ensures length { IfOk result (λ n. new_low + n ≡ new_high) }
+        ensures ok { OnOk result ((is_some (address_moved (bodies self.now) high) && nat_le new_low new_high) ≡ true) }
+        ensures err { IfErr result (λ fault. (fault ≡ Unsupported)
+            × ((is_some (address_moved (bodies self.now) high) && nat_le new_low new_high) ≡ false)) }
     {
         if self.moves.address(high).is_none() {
             return Err(DebugFault::Unsupported);
@@ -129,9 +150,12 @@ impl<'a> Context<'a> {
         low: u64,
         high: u64,
     ) -> Result<(u64, u64), DebugFault>
-        ensures { (old_base : ℕ) → says_old self.now old_base entry.now ≡ saying.Range low high
+        ensures says { (old_base : ℕ) → says_old self.now old_base entry.now ≡ saying.Range low high
             → IfOk result (λ x. says_new self.now base entry.now x.0 x.1 ≡ saying.Range
             (new_address (bodies self.now) low) (new_address (bodies self.now) high)) }
+        ensures ok { OnOk result (has_numbers (bodies self.now) base entry.now.kind low high ≡ true) }
+        ensures err { IfErr result (λ fault. (fault ≡ Unsupported)
+            × (has_numbers (bodies self.now) base entry.now.kind low high ≡ false)) }
     {
         let new_low = self.new_address(low);
         let new_high = self.new_address(high);
@@ -191,6 +215,12 @@ impl<'a> Context<'a> {
         ensures told { OnOk result (Tells (bodies self.now) self.now.addresses.now
             (told uses.old) (told uses.new) (indices_of_code (bodies self.now) said
             entry.now.kind entry.now.one.value entry.now.two.value)) }
+        ensures tables { lengthened uses.new ≡ lengthened uses.old }
+        ensures passes { OnOk result (numbers_said (bodies self.now) base.new entry.now.kind said ≡ true) }
+        ensures refused { IfErr result (λ e. (e ≡ Memory) ⊎ ((fault : AFault) × (e ≡ Fault fault)
+            × ((each (indexed_address (addresses_of_table self.now.addresses.now))
+            (indices entry.now.kind entry.now.one.value entry.now.two.value) ≡ Err fault)
+            ⊎ ((fault ≡ Unsupported) × (numbers_said (bodies self.now) base.new entry.now.kind said ≡ false))))) }
     {
         match said {
             Saying::Nothing => Ok((*entry, None)),

@@ -1,8 +1,9 @@
 //! What entries say of addresses (DWARF 5, sections 2.17.3 and 2.6.2).
 
-ghost use Rattle.std.specs.Prelude.{◌≡◌, ◌+◌, IfOk};
-ghost use Rattle.dwarf_bytes.specs.Addresses.{address_at};
-ghost use Rattle.dwarf_new_lists.specs.Sayings.{range, says};
+ghost use Rattle.std.specs.Prelude.{◌≡◌, ◌+◌};
+ghost use Rattle.wasm_numbers.specs.Results.{Gives};
+ghost use Rattle.dwarf_new_lists.specs.Sayings.{range};
+ghost use Rattle.dwarf_new_lists.specs.Refusals.{said_or_fault};
 
 use crate::entry::Entry;
 use crate::kind::Kind;
@@ -49,20 +50,29 @@ pub(crate) fn says(
     base: u64,
     entry: &Entry<'_>,
 ) -> Result<Saying, DebugFault>
-    ensures { IfOk result (λ s. s ≡ says (address_at addresses.now) base entry.now.kind
+    ensures { Gives (λ s. s) result (said_or_fault addresses.now base entry.now.kind
         entry.now.one.value entry.now.two.value) }
 {
     let one = entry.one.value;
     let two = entry.two.value;
-    let saying = match entry.kind {
-        Kind::BaseIndex => Saying::Base(addresses.get(one)?.value),
-        Kind::IndexPair => { Saying::Range(addresses.get(one)?.value, addresses.get(two)?.value) }
-        Kind::IndexLength => with_length(addresses.get(one)?.value, two),
-        Kind::OffsetPair => from_base(base, one, two),
-        Kind::Base => Saying::Base(one),
-        Kind::Pair => Saying::Range(one, two),
-        Kind::Length => with_length(one, two),
-        Kind::End | Kind::Default | Kind::Views => Saying::Nothing,
-    };
-    Ok(saying)
+    match entry.kind {
+        Kind::BaseIndex => {
+            let address = addresses.get(one)?;
+            Ok(Saying::Base(address.value))
+        }
+        Kind::IndexPair => {
+            let low = addresses.get(one)?;
+            let high = addresses.get(two)?;
+            Ok(Saying::Range(low.value, high.value))
+        }
+        Kind::IndexLength => {
+            let low = addresses.get(one)?;
+            Ok(with_length(low.value, two))
+        }
+        Kind::OffsetPair => Ok(from_base(base, one, two)),
+        Kind::Base => Ok(Saying::Base(one)),
+        Kind::Pair => Ok(Saying::Range(one, two)),
+        Kind::Length => Ok(with_length(one, two)),
+        Kind::End | Kind::Default | Kind::Views => Ok(Saying::Nothing),
+    }
 }

@@ -1,7 +1,15 @@
 //! Writing entries.
 
-ghost use Rattle.std.specs.Prelude.{◌≡◌, ◌++◌, List, ℕ, Some, OnOk, option_map};
+ghost use Rattle.std.specs.Prelude.{◌≡◌, ◌⊎◌, ◌^◌, ◌≤◌, ◌++◌, true, List, ℕ, Some, OnOk, IfErr, option_map};
+ghost use Rattle.dwarf_bytes.specs.declared.fault.DebugError.TheVariants.{Memory, Fault};
+ghost use Rattle.dwarf_bytes.specs.declared.fault.DebugFault.{DebugFault as AFault};
+ghost use Rattle.dwarf_bytes.specs.declared.fault.DebugFault.TheVariants.{DoesNotFit};
+ghost use Rattle.dwarf_bytes.specs.Numbers.{size_in_bytes};
+ghost use Rattle.dwarf_expressions.specs.Moving.{IsRefusedOfExpression};
 ghost use Rattle.dwarf_new_lists.specs.declared.kind.Lists.{Lists};
+ghost use Rattle.dwarf_new_lists.specs.declared.kind.Operand.TheVariants.{Address};
+ghost use Rattle.dwarf_new_lists.specs.Refusals.{address_operands, addresses_fit};
+ghost use Rattle.dwarf_new_lists.specs.WritingRefusals.{IsRefusedWriting};
 ghost use Rattle.dwarf_new_lists.specs.Entries.{AnEntry, an_expression, an_entry};
 ghost use Rattle.dwarf_new_lists.specs.Writing.{written_operand, FitsOperand, AppendsOfNewList, IsOf, IsMovedExpression, IsWrittenOf};
 
@@ -22,6 +30,8 @@ fn write_operand(
     ensures written { OnOk result (out.new.items
         ≡ out.old.items ++ written_operand size kind number.width number.value) }
     ensures fits { OnOk result (FitsOperand size kind number.value) }
+    ensures refused { IfErr result (λ e. (e ≡ Memory) ⊎ ((e ≡ Fault DoesNotFit) × (kind ≡ Address)
+        × (256 ^ size_in_bytes size ≤ number.value))) }
 {
     match kind {
         Operand::Nothing => Ok(()),
@@ -41,10 +51,12 @@ fn write_expression(
     encoding: Encoding,
     body: Option<&Body>,
 ) -> Result<(), DebugError>
-    ensures { OnOk result ((new : List ℕ)
+    ensures written { OnOk result ((new : List ℕ)
         × AppendsOfNewList an_expression out.old.items out.new.items (Some new)
         × IsMovedExpression encoding (option_map (λ b. b.now) body.entry)
         (Some expression.now.bytes.now) (Some new)) }
+    ensures refused { IfErr result (λ e. (e ≡ Memory) ⊎ ((fault : AFault) × (e ≡ Fault fault)
+        × IsRefusedOfExpression encoding (option_map (λ b. b.now) body.entry) expression.now.bytes.now fault)) }
 {
     let mut moved = Vec::new(alloc);
     moved_expression(expression.bytes, encoding, body, &mut moved)?;
@@ -65,9 +77,13 @@ pub(crate) fn write_entry(
     encoding: Encoding,
     body: Option<&Body>,
 ) -> Result<(), DebugError>
-    ensures { (lists : Lists) → IsOf lists entry.now → OnOk result ((new : AnEntry)
+    ensures written { (lists : Lists) → IsOf lists entry.now → OnOk result ((new : AnEntry)
         × AppendsOfNewList (an_entry lists encoding.address_size) out.old.items out.new.items new
         × IsWrittenOf encoding (option_map (λ b. b.now) body.entry) entry.now new) }
+    ensures fits { OnOk result (addresses_fit encoding.address_size
+        (address_operands entry.now.kind entry.now.one.value entry.now.two.value) ≡ true) }
+    ensures refused { IfErr result (λ e. (e ≡ Memory) ⊎ ((fault : AFault) × (e ≡ Fault fault)
+        × IsRefusedWriting encoding (option_map (λ b. b.now) body.entry) entry.now fault)) }
 {
     let (first, second) = entry.kind.operands();
     out.push(entry.code)?;

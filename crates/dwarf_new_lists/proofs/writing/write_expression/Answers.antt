@@ -4,8 +4,8 @@ use Rattle.dwarf_expressions.specs.Moving.{IsAppendedOfExpression}
 use Rattle.dwarf_new_lists.proofs.Texts.{expression_text}
 use Rattle.dwarf_new_lists.proofs.writing.write_expression.Goals as goal
 
-pub returns : goal.returns
-returns c =
+pub returns-clause-written : goal.returns-clause-written
+returns-clause-written c =
     let m = c.in_ok-moved_expression.ensures.moved in
     let added = c.moved_expression.new.out.items in
     let width = c.args.expression.now.width in

@@ -1,0 +1,29 @@
+use Rattle.std.proofs.Common.{◌≡◌, Err, inl}
+use Rattle.std.proofs.lemmas.Result.{err_from_is_err_and}
+use Rattle.dwarf_bytes.specs.Patches.{changes}
+use Rattle.dwarf.specs.Replacing.{section_with}
+use Rattle.dwarf.specs.declared.sections.SectionName.TheVariants as names
+use Rattle.dwarf.specs.Sections.{contents_by_name}
+use Rattle.dwarf.specs.MovedDebug.{section_followed}
+use Rattle.dwarf.proofs.Failures.{ok_of, err_of, failure_within, follows, not_follows}
+use Rattle.dwarf.proofs.moving.add_addresses.Goals as goal
+
+pub returns-clause-added : goal.returns-clause-added
+returns-clause-added c =
+    let ss = contents_by_name c.args.sections.now.sections.items in
+    let new = ok_of c.replaced.result c.in_ok-contents.contents _ c.in_ok-contents.ensures.moved c.replaced.ensures.replaced in
+    ((names.Addresses, c.in_ok-contents.contents.items), follows ss names.Addresses (section_with (changes c.args.addresses.now)) c.get.result.now c.in_ok-contents.contents.items c.get.ensures.named new, c.in_ok-add.ensures.added)
+
+pub returns-in_err-contents-clause-refused : goal.returns-in_err-contents-clause-refused
+returns-in_err-contents-clause-refused c =
+    let ss = contents_by_name c.args.sections.now.sections.items in
+    let r = c.in_err-contents.ensures.refused in
+    let p = err_from_is_err_and c.from_residual.result c.from_residual.ensures.1 in
+    rw (p.1, p.2)
+    (failure_within names.Addresses _ (λ section fault. section_followed ss (names.Addresses, section_with (changes c.args.addresses.now)) ≡ Err (section, fault)) _ r.0 (err_of c.replaced.result _ _ r.1 c.replaced.ensures.refused)
+    (λ fault h. not_follows ss names.Addresses (section_with (changes c.args.addresses.now)) c.get.result.now fault c.get.ensures.named h))
+
+pub returns-in_err-add-clause-refused : goal.returns-in_err-add-clause-refused
+returns-in_err-add-clause-refused c =
+    let p = err_from_is_err_and c.from_residual-in_err-add.result c.from_residual-in_err-add.ensures.1 in
+    rw (p.1, p.2) (inl c.in_err-add.ensures.memory)
