@@ -10,8 +10,11 @@ pub mod OperatorCopies
 -- items that operators name; what is gathered of an item
 pub mod NamedLemmas
 pub mod GatherLemmas
+-- functions that have to be declared
+pub mod DeclaringLemmas
 -- steps, one after the other
 pub mod SeveralStepsLemmas
+pub mod SectionStepLemmas
 -- what is gathered grows; of the items of a section, and of all sections
 pub mod GrowthLemmas
 pub mod GatherStepLemmas

@@ -14,12 +14,11 @@ use Rattle.wasm_sections.specs.Format.{name_part}
 use Rattle.wasm_sections.specs.Omissions.{names_debug, names_object}
 use Rattle.wasm_sections.specs.Sections.{preamble, section, rank, section_id, SectionAt, IsModule}
 use Rattle.module_removal.specs.declared.code.LeftCode.{LeftCode}
-use Rattle.module_removal.specs.declared.item.ItemCounts.{ItemCounts}
 use Rattle.module_removal.specs.declared.left.LeftItems.{LeftItems}
 use Rattle.module_removal.specs.declared.remainder.Remainder.{Remainder}
 use Rattle.module_removal.specs.declared.writing.Writer.{Writer}
 use Rattle.module_removal.specs.SeveralSteps.{SoManySteps}
-use Rattle.module_removal.specs.ItemNumbers.{counted_more}
+use Rattle.module_removal.specs.ItemNumbers.{counted_more, no_items_counted}
 use Rattle.module_removal.specs.LeftSpaces.{marks_of, index_of, index_written}
 use Rattle.module_removal.specs.CopiedParts.{Copied, item_at, copied_index}
 use Rattle.module_removal.specs.CopiedItems.{copied_defined}
@@ -179,10 +178,6 @@ abbrev pub WritesModule : (file : List ℕ) → (old new : Writer) → Type 0
 WritesModule file old new =
     (sections : List SectionAt) × IsModule file sections × (begun : Writer) × (begun.out.items ≡ old.out.items ++ preamble)
     × (begun ≡ record old { out = begun.out }) × WritesSections sections begun new
-
--- no items of any space
-abbrev pub no_items_counted : ItemCounts
-no_items_counted = record { types = 0; funcs = 0; tables = 0; memories = 0; globals = 0; tags = 0; elements = 0; «data» = 0 }
 
 -- Nothing is written yet, and no item was passed.
 pub record BeginsToWrite (remainder : Remainder) (code : LeftCode) (w : Writer) : Type 0 where

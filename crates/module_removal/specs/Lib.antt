@@ -9,11 +9,17 @@ pub mod LeftSpaces
 pub mod CopiedParts
 pub mod CopiedConstants
 pub mod CopiedItems
+-- how many items a module has
+pub mod Counting
+-- functions of which references are taken
+pub mod Declaring
 -- the items that an operator names
 pub mod NamedItems
 -- edges between items, and what is gathered of each item
 pub mod Edges
 pub mod Gathered
+-- what is left of a module
+pub mod Remaining
 -- what is claimed of what is left
 pub mod LeftLaws
 -- what is written for the items of a section
