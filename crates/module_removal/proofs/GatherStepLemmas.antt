@@ -1,5 +1,5 @@
 -- What is gathered of the items of a section, and of all sections, in loops.
-use Rattle.std.proofs.Common.{◌≡◌, ℕ, zero, suc, ◌+◌, ◌-◌, ◌<◌, ◌≤◌, ◌^◌, Bool, true, false, nat_lt, List, [], ◌++◌, length, Some, None, Result, Ok, Err, OnOk, refl, sym, ap, subst, ◌∙◌, arith}
+use Rattle.std.proofs.Common.{◌≡◌, ℕ, ◌+◌, ◌-◌, ◌<◌, ◌≤◌, ◌^◌, Bool, true, false, nat_lt, List, [], ◌++◌, length, Some, None, Result, Ok, Err, OnOk, refl, sym, ap, subst, ◌∙◌, arith}
 use Rattle.std.proofs.lemmas.Bool.{ltb-true}
 use Rattle.reaching.specs.Reaching.{edges_of}
 use Rattle.walrus_ir.specs.Types.{ModuleType}
@@ -10,7 +10,7 @@ use Rattle.wasm_sections.specs.declared.sections.Section.{Section}
 use Rattle.wasm_sections.specs.declared.sections.Sections.{Sections}
 use Rattle.wasm_sections.specs.Format.{members_part, types_part}
 use Rattle.wasm_sections.specs.Parts.{number as number_part, piece}
-use Rattle.wasm_sections.specs.Sections.{preamble, next_section, TakesSection}
+use Rattle.wasm_sections.specs.Sections.{preamble, TakesSection}
 use Rattle.wasm_sections.proofs.TypeReadingLemmas.{first_gives}
 use Rattle.module_removal.specs.declared.item.ItemCounts.{ItemCounts}
 use Rattle.module_removal.specs.declared.gathering.Gatherer.{Gatherer}
@@ -21,7 +21,7 @@ use Rattle.module_removal.specs.Counting.{AreCountsOf}
 use Rattle.module_removal.specs.CopiedParts.{item_at}
 use Rattle.module_removal.specs.Edges.{ItemRefersTo}
 use Rattle.module_removal.specs.Gathered.{GathersNext, GathersType, GathersGroup, GathersAlike, ReferToAlike, GathersTypes, GathersBody, GathersContents, AreReferencesOf}
-use Rattle.module_removal.specs.ModuleSteps.{PartStep, ThroughVector, OverBody, ThroughBodies, OverSection, ThroughSections}
+use Rattle.module_removal.specs.ModuleSteps.{PartStep, ThroughVector, OverBody, ThroughBodies, ThroughSections}
 use Rattle.module_removal.specs.ItemNumbers.{count_of, first_number, number_if, number_of_item}
 use Rattle.module_removal.specs.SeveralSteps.{SoManySteps}
 use Rattle.module_removal.proofs.GrowthLemmas.{Grows, contents_grow, sections_grow}

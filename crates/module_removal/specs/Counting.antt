@@ -2,7 +2,6 @@
 -- 3.0, binary format, modules).
 use Rattle.std.specs.Prelude.{◌≡◌, ℕ, List, Option, Some, None, Ok}
 use Rattle.wasm_operators.specs.declared.types.Space.{Space}
-use Rattle.wasm_sections.specs.declared.sections.SectionKind.{SectionKind}
 use Rattle.wasm_sections.specs.declared.sections.SectionKind.TheVariants as kind
 use Rattle.wasm_sections.specs.Parts.{number}
 use Rattle.wasm_sections.specs.TypeParts.{type_count}

@@ -18,7 +18,7 @@ use Rattle.module_removal.specs.declared.gathering.Gatherer.{Gatherer}
 use Rattle.module_removal.specs.declared.references.References.{References}
 use Rattle.module_removal.specs.LeftSpaces.{own_index}
 use Rattle.module_removal.specs.ItemNumbers.{count_of, all_numbers, number_of_item, with_more_items}
-use Rattle.module_removal.specs.CopiedParts.{Copied, NewIndices, item_at, copied_index}
+use Rattle.module_removal.specs.CopiedParts.{Copied, item_at, copied_index}
 use Rattle.module_removal.specs.CopiedItems.{copied_locals, copied_import, copied_export, copied_defined, copied_subtype}
 use Rattle.module_removal.specs.Counting.{AreCountsOf}
 use Rattle.module_removal.specs.Declaring.{taken_by, TakesMore, DeclaresMore, functions_if}
