@@ -20,7 +20,7 @@ use Rattle.module_removal.specs.LeftSpaces.{own_index, index_written}
 use Rattle.module_removal.specs.ItemNumbers.{count_of, all_numbers, number_of_item, with_more_items}
 use Rattle.module_removal.specs.CopiedParts.{Copied, CopiedPart, NewIndices, item_at, AppendsCopied, Copies}
 use Rattle.module_removal.specs.CopiedItems.{copied_locals}
-use Rattle.module_removal.specs.Declaring.{taken_by, TakesMore, DeclaresMore, functions_if}
+use Rattle.module_removal.specs.Declaring.{taken_in_body, TakesFunctions, NamesFunctions, functions_if}
 use Rattle.module_removal.specs.NamedItems.{named_by, FindsOperators}
 use Rattle.module_removal.specs.Edges.{RefersTo, AddsReferencesTo}
 use Rattle.module_removal.specs.Gathered.{Activates, item_of_active, defined_target, GathersNext, GathersOwn, GathersBody}
@@ -44,13 +44,13 @@ own_part part end text cleared r none e = ap (λ (l : Option (Bor LeftItems)). p
 
 declared_as :
     (declares : Bool) (by : ℕ) (xs ys : List Item) (old act base new : Taken) → xs ≡ ys → act ≡ old → new ≡ base →
-    DeclaresMore (functions_if declares by xs) act base → DeclaresMore (functions_if declares by ys) old new
+    NamesFunctions (functions_if declares by xs) act base → NamesFunctions (functions_if declares by ys) old new
 declared_as declares by xs ys old act base new e first last d =
-    subst (λ (l : List Item). DeclaresMore (functions_if declares by l) old new) e
-    (subst (λ (t : Taken). DeclaresMore (functions_if declares by xs) t new) first
-    (subst (λ (t : Taken). DeclaresMore (functions_if declares by xs) act t) (sym last) d))
+    subst (λ (l : List Item). NamesFunctions (functions_if declares by l) old new) e
+    (subst (λ (t : Taken). NamesFunctions (functions_if declares by xs) t new) first
+    (subst (λ (t : Taken). NamesFunctions (functions_if declares by xs) act t) (sym last) d))
 
-pub declares_none : (t : Taken) → DeclaresMore [] t t
+pub declares_none : (t : Taken) → NamesFunctions [] t t
 declares_none t = record { outside = sym (append-nil t.outside.items); in_bodies = refl }
 
 pub gathers_next :
@@ -58,7 +58,7 @@ pub gathers_next :
     (cleared mid : Copier) (act base : References) (number : ℕ) (r : Result (Unit {0}) ModuleError) → cleared.left ≡ None → cleared.found.items ≡ [] →
     Copies cleared mid following (Ok value) (part (index_written cleared.left) end text) →
     number_of_item old.references.counts (item_at space (count_of old.next space)) ≡ Some number → Activates number target old.references act →
-    base.counts ≡ act.counts → base.graph ≡ act.graph → DeclaresMore (functions_if declares number mid.found.items) act.taken base.taken → new.next ≡ with_more_items space 1 old.next → new.copier.left ≡ mid.left →
+    base.counts ≡ act.counts → base.graph ≡ act.graph → NamesFunctions (functions_if declares number mid.found.items) act.taken base.taken → new.next ≡ with_more_items space 1 old.next → new.copier.left ≡ mid.left →
     OnOk r (AddsReferencesTo number mid.found.items base new.references) →
     OnOk r (GathersNext space target declares value (part own_index end text) following old new)
 gathers_next space target declares value part end text following old new cleared mid act base number (Err e) left none copies is activates c g d next same adds = tt
@@ -92,7 +92,7 @@ pub gathers_own :
     (declares : Bool) (part : NewIndices → CopiedPart (Unit {0})) (end : ℕ) (text following : List ℕ) (old new : Gatherer) (cleared mid : Copier) (base : References)
     (r : Result (Unit {0}) ModuleError) → cleared.left ≡ None → cleared.found.items ≡ [] →
     Copies cleared mid following (Ok tt) (part (index_written cleared.left) end text) → base.counts ≡ old.references.counts → base.graph ≡ old.references.graph →
-    DeclaresMore (functions_if declares 0 mid.found.items) old.references.taken base.taken → new ≡ record old { copier = mid; references = new.references } →
+    NamesFunctions (functions_if declares 0 mid.found.items) old.references.taken base.taken → new ≡ record old { copier = mid; references = new.references } →
     OnOk r (AddsReferencesTo 0 mid.found.items base new.references) → OnOk r (GathersOwn declares (part own_index end text) following old new)
 gathers_own declares part end text following old new cleared mid base (Err e) left none copies counts graph d same adds = tt
 gathers_own declares part end text following old new cleared mid base (Ok u) left none copies counts graph d same adds = record {
@@ -137,7 +137,7 @@ gathers_body func end text rest old new cleared mid last base number (Ok u) left
           refers_as base.counts old.references.counts number last.found.items (copies.0.named ++ flat_map named_by found.0) (edges_of base.graph)
           (edges_of old.references.graph) (edges_of new.references.graph) counts named (ap edges_of graph)
           (adds.refers (subst (λ (c : ItemCounts). number < all_numbers c) (sym counts) within));
-      taken = subst (λ (t : Taken). TakesMore (flat_map (taken_by func) found.0) old.references.taken t) (sym adds.taken) found.3;
+      taken = subst (λ (t : Taken). TakesFunctions (flat_map (taken_in_body func) found.0) old.references.taken t) (sym adds.taken) found.3;
     }
 
 -- ---- results

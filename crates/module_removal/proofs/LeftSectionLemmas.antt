@@ -93,7 +93,7 @@ is_name name e = sym ((bytes_eq-Decides name (codes "name")).0 e)
 pub custom_becomes :
     (s : SectionAt) (old new : Writer) (name following : List ℕ) → name_part s.end s.contents ≡ Ok (name, following) → names_object name ≡ false →
     (is_debug is_followed : Bool) → names_debug name ≡ is_debug → follows_code name ≡ is_followed → (bytes : List ℕ) →
-    BecomesCustom is_debug is_followed name s.whole bytes → WritesBytes bytes old new → WritesCustom s old new
+    BecomesCustom is_debug is_followed old.remainder.now.left old.code.now s.end following name s.whole bytes → WritesBytes bytes old new → WritesCustom s old new
 custom_becomes s old new name following begins linked is_debug is_followed d f bytes becomes w = record {
   name = name;
   following = following;
@@ -101,8 +101,8 @@ custom_becomes s old new name following begins linked is_debug is_followed d f b
   is_linked = linked;
   bytes = bytes;
   becomes =
-      subst (λ (b : Bool). BecomesCustom b (follows_code name) name s.whole bytes) (sym d)
-      (subst (λ (b : Bool). BecomesCustom is_debug b name s.whole bytes) (sym f) becomes);
+      subst (λ (b : Bool). BecomesCustom b (follows_code name) old.remainder.now.left old.code.now s.end following name s.whole bytes) (sym d)
+      (subst (λ (b : Bool). BecomesCustom is_debug b old.remainder.now.left old.code.now s.end following name s.whole bytes) (sym f) becomes);
   writes = w;
 }
 

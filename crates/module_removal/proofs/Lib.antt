@@ -10,6 +10,10 @@ pub mod OperatorCopies
 -- items that operators name; what is gathered of an item
 pub mod NamedLemmas
 pub mod GatherLemmas
+-- parts of a vector, in a loop
+pub mod VectorLemmas
+-- parts of functions with new numbers
+pub mod FollowedLemmas
 -- functions that have to be declared
 pub mod DeclaringLemmas
 -- steps, one after the other

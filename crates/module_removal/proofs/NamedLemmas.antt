@@ -8,7 +8,7 @@ use Rattle.module_removal.specs.declared.declared.Named.{Named}
 use Rattle.module_removal.specs.declared.declared.Taken.{Taken}
 use Rattle.module_removal.specs.declared.item.Item.{Item}
 use Rattle.module_removal.specs.CopiedParts.{AppendsCopied}
-use Rattle.module_removal.specs.Declaring.{taken_by, TakesMore}
+use Rattle.module_removal.specs.Declaring.{taken_in_body, TakesFunctions}
 use Rattle.module_removal.specs.NamedItems.{finds, named_by_tag, named_by_clauses, named_by, OperatorsThen}
 use Rattle.module_removal.proofs.CopyLemmas.{appends_both}
 
@@ -52,7 +52,7 @@ flat_more : {A B : Type 0} (f : A → List B) (xs : List A) (x : A) → flat_map
 flat_more f [] x = append-nil (f x)
 flat_more {B = B} f (first ∷ xs) x = ap (λ (l : List B). f first ++ l) (flat_more f xs x) ∙ sym (append_assoc (f first) (flat_map f xs) (f x))
 
-takes_both : (a b : List Named) (old mid new : Taken) → TakesMore a old mid → TakesMore b mid new → TakesMore (a ++ b) old new
+takes_both : (a b : List Named) (old mid new : Taken) → TakesFunctions a old mid → TakesFunctions b mid new → TakesFunctions (a ++ b) old new
 takes_both a b old mid new p q = record {
   in_bodies = q.in_bodies ∙ ap (λ (l : List Named). l ++ b) p.in_bodies ∙ append_assoc old.in_bodies.items a b;
   outside = q.outside ∙ p.outside;
@@ -63,11 +63,11 @@ pub record SomeNamed (func end : ℕ) (text rest : List ℕ) (old now : Copier �
   pub operators : List RawOperation
   pub are : OperatorsThen end text operators rest
   pub appends : AppendsCopied old.0 (finds (flat_map named_by operators)) now.0
-  pub takes : TakesMore (flat_map (taken_by func) operators) old.1 now.1
+  pub takes : TakesFunctions (flat_map (taken_in_body func) operators) old.1 now.1
 
 pub one_more_named :
     (func end other : ℕ) (text rest next : List ℕ) (o : RawOperation) (old now new : Copier × Taken) → SomeNamed func end text rest old now → other ≡ end →
-    operator_part other rest ≡ Ok (o, next) → AppendsCopied now.0 (finds (named_by o)) new.0 → TakesMore (taken_by func o) now.1 new.1 →
+    operator_part other rest ≡ Ok (o, next) → AppendsCopied now.0 (finds (named_by o)) new.0 → TakesFunctions (taken_in_body func o) now.1 new.1 →
     SomeNamed func end text next old new
 one_more_named func end other text rest next o old now new p s e a t = record {
   operators = p.operators ++ o ∷ [];
@@ -76,6 +76,6 @@ one_more_named func end other text rest next o old now new p s e a t = record {
       subst (λ (l : List Item). AppendsCopied old.0 (finds l) new.0) (sym (flat_more named_by p.operators o))
       (finds_both old.0 now.0 new.0 (flat_map named_by p.operators) (named_by o) p.appends a);
   takes =
-      subst (λ (l : List Named). TakesMore l old.1 new.1) (sym (flat_more (taken_by func) p.operators o))
-      (takes_both (flat_map (taken_by func) p.operators) (taken_by func o) old.1 now.1 new.1 p.takes t);
+      subst (λ (l : List Named). TakesFunctions l old.1 new.1) (sym (flat_more (taken_in_body func) p.operators o))
+      (takes_both (flat_map (taken_in_body func) p.operators) (taken_in_body func o) old.1 now.1 new.1 p.takes t);
 }

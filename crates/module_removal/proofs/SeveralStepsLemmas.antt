@@ -25,7 +25,7 @@ one_more_step Step count i start now next left less s =
       after = λ new p. left.after new (subst (λ (n : ℕ). SoManySteps Step n now new) more (step_first Step (count - (i + 1)) now next new s p));
     }
 
-nowhere : {S : Type 0} (Step : S → S → Type 0) (now : S) → SoManySteps Step 0 now now
+pub nowhere : {S : Type 0} (Step : S → S → Type 0) (now : S) → SoManySteps Step 0 now now
 unfolding SoManySteps
 nowhere Step now = refl
 

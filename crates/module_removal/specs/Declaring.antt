@@ -4,11 +4,11 @@ use Rattle.std.specs.Prelude.{◌≡◌, ◌==◌, ℕ, ◌+◌, nat_lt, not, �
 use Rattle.std.specs.List.{fold, list_any}
 use Rattle.wasm_operators.specs.declared.immediates.Immediates.TheVariants as immediates
 use Rattle.wasm_operators.specs.declared.types.Opcode.{Opcode}
-use Rattle.wasm_operators.specs.declared.types.Opcode.TheVariants.{Byte, Prefixed}
 use Rattle.wasm_operators.specs.declared.types.Space.{Space}
 use Rattle.wasm_operators.specs.declared.types.Space.TheVariants.{Funcs}
 use Rattle.wasm_operators.specs.Operations.{RawOperation}
 use Rattle.wasm_operators.specs.Parts.{ListedImmediates, shape_of}
+use Rattle.wasm_sections.specs.References.{is_ref_func}
 use Rattle.item_sets.specs.ItemsLeft.{is_left}
 use Rattle.module_removal.specs.declared.item.Item.{Item}
 use Rattle.module_removal.specs.declared.item.ItemCounts.{ItemCounts}
@@ -23,19 +23,15 @@ named_if by (Some func) = record { by = by; func = func } ∷ []
 named_if by None = []
 
 -- the function, if the item is one
-abbrev pub function_of : Space → (index : ℕ) → Option ℕ
-function_of Funcs index = Some index
-function_of _ index = None
+abbrev pub function_indexed : Space → (index : ℕ) → Option ℕ
+function_indexed Funcs index = Some index
+function_indexed _ index = None
 
 -- the functions among items, in order, which are named by the item with this number
-abbrev pub functions_named : (by : ℕ) → List Item → List Named
-functions_named by items = flat_map (λ item. named_if by (function_of item.space item.index)) items
+abbrev pub functions_among : (by : ℕ) → List Item → List Named
+functions_among by items = flat_map (λ item. named_if by (function_indexed item.space item.index)) items
 
--- the function of which an operator takes a reference: `ref.func`, whose opcode is 0xd2 (binary format, reference instructions)
-abbrev pub is_ref_func : Opcode → Bool
-is_ref_func (Byte b) = b == 0xd2
-is_ref_func (Prefixed p n) = false
-
+-- the function of which an operator takes a reference, by `ref.func`
 abbrev pub index_named : ListedImmediates → Option ℕ
 index_named (immediates.Index space i) = Some i
 index_named _ = None
@@ -44,24 +40,24 @@ abbrev pub function_referred : Opcode → ListedImmediates → Option ℕ
 function_referred o is = if is_ref_func o then index_named is else None
 
 -- the same, taken in the body of the function with this index
-abbrev pub taken_by : (by : ℕ) → RawOperation → List Named
-taken_by by o = named_if by (function_referred o.opcode (shape_of o.immediates))
+abbrev pub taken_in_body : (by : ℕ) → RawOperation → List Named
+taken_in_body by o = named_if by (function_referred o.opcode (shape_of o.immediates))
 
 -- ---- what is gathered
 
 -- More functions are taken in a body, in order, after those that were taken.
-pub record TakesMore (more : List Named) (old new : Taken) : Type 0 where
+pub record TakesFunctions (more : List Named) (old new : Taken) : Type 0 where
   pub in_bodies : new.in_bodies.items ≡ old.in_bodies.items ++ more
   pub outside : new.outside.items ≡ old.outside.items
 
 -- More functions are named outside of bodies, in order, after those that were named.
-pub record DeclaresMore (more : List Named) (old new : Taken) : Type 0 where
+pub record NamesFunctions (more : List Named) (old new : Taken) : Type 0 where
   pub outside : new.outside.items ≡ old.outside.items ++ more
   pub in_bodies : new.in_bodies.items ≡ old.in_bodies.items
 
 -- what an item names, if it declares functions: imports, types and the start function don't
 abbrev pub functions_if : (declares : Bool) → (by : ℕ) → List Item → List Named
-functions_if true by items = functions_named by items
+functions_if true by items = functions_among by items
 functions_if false by items = []
 
 -- ---- what has to be declared, where the items are left that have a mark that is set, of one mark for each number

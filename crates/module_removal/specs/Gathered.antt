@@ -21,7 +21,7 @@ use Rattle.module_removal.specs.ItemNumbers.{count_of, all_numbers, number_of_it
 use Rattle.module_removal.specs.CopiedParts.{Copied, item_at, copied_index}
 use Rattle.module_removal.specs.CopiedItems.{copied_locals, copied_import, copied_export, copied_defined, copied_subtype}
 use Rattle.module_removal.specs.Counting.{AreCountsOf}
-use Rattle.module_removal.specs.Declaring.{taken_by, TakesMore, DeclaresMore, functions_if}
+use Rattle.module_removal.specs.Declaring.{taken_in_body, TakesFunctions, NamesFunctions, functions_if}
 use Rattle.module_removal.specs.NamedItems.{named_by, OperatorsThen}
 use Rattle.module_removal.specs.Edges.{RefersTo, ItemRefersTo, ReferToEachOther}
 use Rattle.module_removal.specs.SeveralSteps.{SoManySteps}
@@ -81,7 +81,7 @@ pub record GathersNext {A : Type 0} (space : Space) (target : Option Item) (decl
   pub is_active : IsActivated old.references.counts number target active
   pub refers :
       RefersTo old.references.counts number copied.named (edges_of old.references.graph ++ active) (edges_of new.references.graph)
-  pub declared : DeclaresMore (functions_if declares number copied.named) old.references.taken new.references.taken
+  pub declared : NamesFunctions (functions_if declares number copied.named) old.references.taken new.references.taken
 
 -- The part is read, and from the module itself there are edges to all that it names. It may declare functions.
 pub record GathersOwn (declares : Bool) (part : Result ((Unit {0} × Copied) × List ℕ) ModuleError) (following : List ℕ) (old new : Gatherer) : Type 0 where
@@ -92,7 +92,7 @@ pub record GathersOwn (declares : Bool) (part : Result ((Unit {0} × Copied) × 
   pub copied : Copied
   pub read : part ≡ Ok ((tt, copied), following)
   pub refers : RefersTo old.references.counts 0 copied.named (edges_of old.references.graph) (edges_of new.references.graph)
-  pub declared : DeclaresMore (functions_if declares 0 copied.named) old.references.taken new.references.taken
+  pub declared : NamesFunctions (functions_if declares 0 copied.named) old.references.taken new.references.taken
 
 -- The body of a function, whose text ends at this place, is read: from the function there are edges to all that the types of its locals
 -- and its operators name, and it takes the functions to which these refer.
@@ -111,7 +111,7 @@ pub record GathersBody (func end : ℕ) (text : List ℕ) (old new : Gatherer) :
   pub refers :
       RefersTo old.references.counts number (locals.named ++ flat_map named_by operators) (edges_of old.references.graph)
       (edges_of new.references.graph)
-  pub taken : TakesMore (flat_map (taken_by func) operators) old.references.taken new.references.taken
+  pub taken : TakesFunctions (flat_map (taken_in_body func) operators) old.references.taken new.references.taken
 
 -- ---- the items of a section: steps, each from what was gathered and the bytes that are left
 

@@ -22,6 +22,10 @@ pub mod Gathered
 pub mod Remaining
 -- what is claimed of what is left
 pub mod LeftLaws
+-- what is left of names, and of items of functions in custom sections
+pub mod Entries
+pub mod LeftParts
+pub mod LeftNames
 -- what is written for the items of a section
 pub mod Written
 -- what is written for sections, and for the whole module

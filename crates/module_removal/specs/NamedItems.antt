@@ -18,7 +18,7 @@ use Rattle.module_removal.specs.declared.item.Item.{Item}
 use Rattle.module_removal.specs.declared.copier.Copier.{Copier}
 use Rattle.module_removal.specs.declared.declared.Taken.{Taken}
 use Rattle.module_removal.specs.CopiedParts.{Copied, item_at, AppendsCopied}
-use Rattle.module_removal.specs.Declaring.{taken_by, TakesMore}
+use Rattle.module_removal.specs.Declaring.{taken_in_body, TakesFunctions}
 
 -- these items are named, and nothing is written
 abbrev pub finds : List Item → Copied
@@ -74,7 +74,7 @@ OperatorsThen end text (o ∷ os) following =
 abbrev pub FindsOperators : (func : ℕ) → (old new : Copier × Taken) → Result (Unit {0}) ModuleError → (end : ℕ) → (text : List ℕ) → Type 0
 FindsOperators func old new (Ok u) end text =
     (os : List RawOperation) × OperatorsThen end text os [] × AppendsCopied old.0 (finds (flat_map named_by os)) new.0
-    × TakesMore (flat_map (taken_by func) os) old.1 new.1
+    × TakesFunctions (flat_map (taken_in_body func) os) old.1 new.1
 FindsOperators func old new (Err e) end text =
     (e.fault ≡ fault.Memory)
     ⊎ ((os : List RawOperation) × (rest : List ℕ) × OperatorsThen end text os rest × (operator_part end rest ≡ Err e))

@@ -93,7 +93,7 @@ impl Taken {
     ghost use Rattle.std.specs.Prelude.{◌≡◌, ◌<◌, ◌∷◌, [], ℕ, length, OnOk, IfOk, IfErr};
     ghost use Rattle.item_sets.specs.ItemsLeft.{is_left};
     ghost use Rattle.wasm_sections.specs.declared.fault.ModuleFault.TheVariants.{Memory as NoMemory};
-    ghost use Rattle.module_removal.specs.Declaring.{named_if, function_of, functions_named, TakesMore, DeclaresMore, is_declared, undeclared_in};
+    ghost use Rattle.module_removal.specs.Declaring.{named_if, function_indexed, functions_among, TakesFunctions, NamesFunctions, is_declared, undeclared_in};
 
     /// None. This allocates nothing.
     pub fn new(alloc: Global) -> Taken
@@ -108,7 +108,7 @@ impl Taken {
 
     /// Adds a function of which a reference is taken in the body of another one.
     fn take(&mut self, by: u32, func: u32) -> Result<(), ModuleError>
-        ensures ok { OnOk result (TakesMore (record { by = by; func = func } ∷ []) self.old self.new) }
+        ensures ok { OnOk result (TakesFunctions (record { by = by; func = func } ∷ []) self.old self.new) }
         ensures err { IfErr result (λ error. error.fault ≡ NoMemory) }
     {
         self.in_bodies.push(Named { by, func })?;
@@ -117,7 +117,7 @@ impl Taken {
 
     /// The same, if there is one.
     pub fn take_if(&mut self, by: u32, func: Option<u32>) -> Result<(), ModuleError>
-        ensures ok { OnOk result (TakesMore (named_if by func) self.old self.new) }
+        ensures ok { OnOk result (TakesFunctions (named_if by func) self.old self.new) }
         ensures err { IfErr result (λ error. error.fault ≡ NoMemory) }
     {
         match func {
@@ -128,7 +128,7 @@ impl Taken {
 
     /// Adds what an item names, if that is a function.
     fn declare(&mut self, by: u32, item: Item) -> Result<(), ModuleError>
-        ensures ok { OnOk result (DeclaresMore (named_if by (function_of item.space item.index)) self.old self.new) }
+        ensures ok { OnOk result (NamesFunctions (named_if by (function_indexed item.space item.index)) self.old self.new) }
         ensures err { IfErr result (λ error. error.fault ≡ NoMemory) }
     {
         if item.space == Space::Funcs {
@@ -142,7 +142,7 @@ impl Taken {
 
     /// Adds the functions among what the item with this number names.
     pub fn declare_all(&mut self, by: u32, found: &[Item]) -> Result<(), ModuleError>
-        ensures ok { OnOk result (DeclaresMore (functions_named by found.now) self.old self.new) }
+        ensures ok { OnOk result (NamesFunctions (functions_among by found.now) self.old self.new) }
         ensures err { IfErr result (λ error. error.fault ≡ NoMemory) }
     {
         'items: for item in found {

@@ -40,7 +40,7 @@ impl Copier<'_> {
     ghost use Rattle.module_removal.specs.CopiedParts.{names_item, item_at, AppendsCopied};
     ghost use Rattle.module_removal.specs.NamedItems.{finds, named_by_heap, named_by_type, named_by_block, named_by_tag, named_by_clauses, named_by_parts, named_by, FindsOperators};
     ghost use Rattle.wasm_operators.specs.Meaning.{meaning};
-    ghost use Rattle.module_removal.specs.Declaring.{taken_by, TakesMore};
+    ghost use Rattle.module_removal.specs.Declaring.{taken_in_body, TakesFunctions};
 
     /// Finds the type that a heap type names, if it names one.
     fn find_heap(&mut self, ty: RawHeapType) -> Result<(), ModuleError>
@@ -187,7 +187,7 @@ impl Copier<'_> {
         func: u32,
     ) -> Result<(), ModuleError>
         ensures ok { OnOk result (AppendsCopied self.old (finds (named_by (meaning operator.now))) self.new) }
-        ensures taken { OnOk result (TakesMore (taken_by func (meaning operator.now)) taken.old taken.new) }
+        ensures taken { OnOk result (TakesFunctions (taken_in_body func (meaning operator.now)) taken.old taken.new) }
         ensures err { IfErr result (λ error. error.fault ≡ NoMemory) }
     {
         let (opcode, parts) = operator.parts();

@@ -55,7 +55,7 @@ impl References {
     ghost use Rattle.wasm_sections.specs.declared.fault.ModuleFault.TheVariants.{Memory as NoMemory};
     ghost use Rattle.wasm_operators.specs.declared.types.Space.TheVariants.{Types as OfTypes};
     ghost use Rattle.module_removal.specs.CopiedParts.{item_at};
-    ghost use Rattle.module_removal.specs.Declaring.{functions_named, DeclaresMore};
+    ghost use Rattle.module_removal.specs.Declaring.{functions_among, NamesFunctions};
     ghost use Rattle.module_removal.specs.Edges.{AddsReferencesTo, ItemRefersTo, IsNotThere, roots_of};
     ghost use Rattle.module_removal.specs.Gathered.{item_of_active, Activates, first_alike, TypeRefersTo, ReferToAlike};
 
@@ -116,7 +116,7 @@ impl References {
     pub(crate) fn declare_all(&mut self, number: u32, found: &[Item]) -> Result<(), ModuleError>
         ensures counts { self.new.counts ≡ self.old.counts }
         ensures graph { self.new.graph ≡ self.old.graph }
-        ensures taken { OnOk result (DeclaresMore (functions_named number found.now) self.old.taken self.new.taken) }
+        ensures taken { OnOk result (NamesFunctions (functions_among number found.now) self.old.taken self.new.taken) }
         ensures err { IfErr result (λ error. error.fault ≡ NoMemory) }
     {
         self.taken.declare_all(number, found)

@@ -1,6 +1,7 @@
 //! A module without the items that are removed.
 
-ghost use Rattle.std.specs.Prelude.{◌≡◌, ◌++◌, OnOk, IfOk};
+ghost use Rattle.std.specs.Prelude.{◌≡◌, ◌++◌, Ok, OnOk, IfOk};
+ghost use Rattle.wasm_sections.specs.Format.{name_part};
 ghost use Rattle.wasm_sections.specs.Sections.{section, section_id};
 ghost use Rattle.module_removal.specs.LeftSections.{HasNoItems, WritesModule, IsModuleOfLeft};
 
@@ -49,6 +50,18 @@ fn put_section(out: &mut Vec<u8>, kind: SectionKind, contents: &[u8]) -> Result<
     write_bytes(out, contents)
 }
 
+/// The name of a custom section, and the contents that follow it.
+fn named_contents<'a>(section: &Section<'a>) -> Result<(&'a str, Input<'a>), ModuleError>
+    ensures end { IfOk result (λ x. x.1.end ≡ section.now.contents.end) }
+    ensures is { IfOk result (λ x. name_part section.now.contents.end section.now.contents.rest.now ≡ Ok (x.0.now, x.1.rest.now)) }
+{
+    let mut contents = section.contents;
+    match contents.name() {
+        Ok(name) => Ok((name, contents)),
+        Err(error) => Err(error),
+    }
+}
+
 impl<'m> Writer<'m> {
     ghost use Rattle.std.specs.Prelude.{◌≡◌, ◌++◌, ℕ, List, Ok, OnOk, IfOk, codes};
     ghost use Rattle.item_sets.specs.ItemsLeft.{is_left, left_count};
@@ -58,8 +71,10 @@ impl<'m> Writer<'m> {
     ghost use Rattle.module_removal.specs.LeftSpaces.{marks_of, index_written};
     ghost use Rattle.module_removal.specs.CopiedParts.{Copied, copied_index};
     ghost use Rattle.module_removal.specs.CopiedItems.{copied_defined};
+    ghost use Rattle.wasm_sections.specs.CodeSections.{entry};
+    ghost use Rattle.module_removal.specs.LeftNames.{AreLeftNames};
     ghost use Rattle.module_removal.specs.Written.{data_count_section, group_mark, is_group_left, BeginsGroupIf, WritesNextItem, WritesImport, WritesExport, WritesType, WritesGroup};
-    ghost use Rattle.module_removal.specs.LeftSections.{counted_items, items_section, section_of, HasNoItems, WritesBytes, WritesItem, WritesItems, DeclaresFunctions, WritesSegments, WritesSegmentsUnless, WritesSegmentsBefore, WritesContents, WritesSection, IsCustomNamed, WritesCustom, WritesAnySection};
+    ghost use Rattle.module_removal.specs.LeftSections.{counted_items, items_section, section_of, HasNoItems, WritesBytes, WritesItem, WritesItems, DeclaresFunctions, WritesSegments, WritesSegmentsUnless, WritesSegmentsBefore, WritesContents, WritesSection, LeavesMetadata, WritesCustom, WritesAnySection};
     ghost use Rattle.module_removal.specs.SeveralSteps.{SoManySteps};
 
     /// Adds the item that was copied to those of the section.
@@ -344,7 +359,8 @@ impl<'m> Writer<'m> {
     /// Metadata of code.
     fn metadata(&mut self, name: &str, contents: Input<'_>) -> Result<(), ModuleError>
         ensures same { self.new ≡ record self.old { out = self.new.out } }
-        ensures is { OnOk result ((bytes : List ℕ) × (self.new.out.items ≡ self.old.out.items ++ bytes) × IsCustomNamed name.now bytes) }
+        ensures is { OnOk result ((new : List ℕ) × LeavesMetadata self.old.remainder.now.left self.old.code.now contents.entry.end contents.entry.rest.now new
+            × (self.new.out.items ≡ self.old.out.items ++ section 0 (entry name.now ++ new))) }
     {
         let left = &self.remainder.left;
         let mut made = Vec::new(self.alloc);
@@ -357,7 +373,8 @@ impl<'m> Writer<'m> {
     /// The section of names.
     fn names(&mut self, contents: Input<'_>) -> Result<(), ModuleError>
         ensures same { self.new ≡ record self.old { out = self.new.out } }
-        ensures is { OnOk result ((bytes : List ℕ) × (self.new.out.items ≡ self.old.out.items ++ bytes) × IsCustomNamed (codes "name") bytes) }
+        ensures is { OnOk result ((new : List ℕ) × AreLeftNames self.old.remainder.now.left self.old.code.now contents.entry.end contents.entry.rest.now new
+            × (self.new.out.items ≡ self.old.out.items ++ section 0 (entry (codes "name") ++ new))) }
     {
         let names = done!(left_names(self.alloc, &self.remainder.left, self.code, contents));
         put_section(&mut self.out, SectionKind::Custom, &names)
@@ -367,7 +384,7 @@ impl<'m> Writer<'m> {
     fn custom(&mut self, section: &Section<'_>) -> Result<(), ModuleError>
         ensures { HasNoItems self.old → OnOk result (WritesCustom (section_at section.now) self.old self.new) }
     {
-        let (name, contents) = done!(section.named_input());
+        let (name, contents) = done!(named_contents(section));
         if names_object(name) {
             return Err(ModuleError {
                 fault: ModuleFault::ObjectFile,

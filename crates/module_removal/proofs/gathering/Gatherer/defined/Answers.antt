@@ -5,7 +5,7 @@ use Rattle.module_removal.specs.declared.item.Item.{Item}
 use Rattle.module_removal.specs.LeftSpaces.{own_index}
 use Rattle.module_removal.specs.CopiedItems.{copied_defined}
 use Rattle.module_removal.specs.Edges.{AddsReferencesTo}
-use Rattle.module_removal.specs.Declaring.{functions_named, DeclaresMore}
+use Rattle.module_removal.specs.Declaring.{functions_among, NamesFunctions}
 use Rattle.module_removal.specs.Gathered.{item_of_active, defined_target, GathersNext}
 use Rattle.std.proofs.Common.{option_map}
 use Rattle.module_removal.specs.Gathered.{Activates}
@@ -31,8 +31,8 @@ returns-clause-is c = λ none.
     c.refer.result (ap (λ (g : Gatherer). g.copier.left) counted ∙ c.clear.ensures.left ∙ none)
     (ap (λ (g : Gatherer). g.copier.found.items) counted ∙ c.clear.ensures.found) c.in-Ok-defined.ensures.is c.in-Ok.ensures.ok
     (subst (λ (g : Gatherer). Activates number target g.references act) counted c.in-Ok-activate.ensures.ok) c.declare_all.ensures.counts c.declare_all.ensures.graph
-    (subst (λ (k : Copier). DeclaresMore (functions_named number k.found.items) act.taken base.taken) (ap (λ (g : Gatherer). g.copier) kept)
-    (subst (λ (l : List Item). DeclaresMore (functions_named number l) act.taken base.taken) c.deref.ensures.value c.in-Ok-declare_all.ensures.taken))
+    (subst (λ (k : Copier). NamesFunctions (functions_among number k.found.items) act.taken base.taken) (ap (λ (g : Gatherer). g.copier) kept)
+    (subst (λ (l : List Item). NamesFunctions (functions_among number l) act.taken base.taken) c.deref.ensures.value c.in-Ok-declare_all.ensures.taken))
     (ap (λ (g : Gatherer). g.next) c.refer.ensures.same ∙ ap (λ (g : Gatherer). g.next) kept ∙ ap (λ (g : Gatherer). g.next) counted)
     (ap (λ (g : Gatherer). g.copier.left) c.refer.ensures.same ∙ ap (λ (g : Gatherer). g.copier.left) kept)
     (subst (λ (k : Copier). OnOk c.refer.result (AddsReferencesTo number k.found.items base new.references)) (ap (λ (g : Gatherer). g.copier) kept)
