@@ -14,6 +14,7 @@ pub mod GatherLemmas
 pub mod VectorLemmas
 -- parts of functions with new numbers
 pub mod FollowedLemmas
+pub mod OrderLemmas
 -- functions that have to be declared
 pub mod DeclaringLemmas
 -- steps, one after the other

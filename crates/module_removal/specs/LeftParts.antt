@@ -30,6 +30,10 @@ IsAtMost p q = (p.func < q.func) ⊎ ((p.func ≡ q.func) × (p.old ≤ q.old))
 abbrev pub ArePartsInOrder : List FunctionPart → Type 0
 ArePartsInOrder parts = (i j : ℕ) (d : FunctionPart) → i ≤ j → j < length parts → IsAtMost (slice_index_or parts i d) (slice_index_or parts j d)
 
+-- the functions and numbers of the parts
+abbrev pub parts_numbered : List FunctionPart → List (ℕ × ℕ)
+parts_numbered parts = map (λ p. (p.func, p.old)) parts
+
 -- whether a part comes before those of this function with this number
 abbrev pub is_part_before : (func old : ℕ) → FunctionPart → Bool
 is_part_before func old p = nat_lt p.func func || ((p.func == func) && nat_lt p.old old)

@@ -112,7 +112,7 @@ impl Followed {
     ghost use Rattle.std.specs.Prelude.{◌≡◌, true, false, List, Ok, OnOk, IfOk};
     ghost use Rattle.std.specs.List.Sorted.{IsPermutation, IsNonDecreasingBy, IsPartitionPoint};
     ghost use Rattle.module_removal.specs.Entries.{entries_made};
-    ghost use Rattle.module_removal.specs.LeftParts.{ArePartsInOrder, is_part_before, new_number_in, FunctionItem, next_item, numbered_items, items_numbered, with_items_of, LeavesFunction, LeavesParts};
+    ghost use Rattle.module_removal.specs.LeftParts.{ArePartsInOrder, parts_numbered, is_part_before, new_number_in, FunctionItem, next_item, numbered_items, items_numbered, with_items_of, LeavesFunction, LeavesParts};
 
     /// None. This allocates nothing.
     pub fn new(alloc: Global) -> Followed {
@@ -142,7 +142,9 @@ impl Followed {
     }
 
     /// Puts them in order, after all are added.
-    pub fn sort(&mut self) {
+    pub fn sort(&mut self)
+        ensures { ArePartsInOrder self.new.parts.items }
+    {
         self.parts
             .sort_unstable_by_key(|part| (part.func, part.old));
     }
@@ -168,37 +170,52 @@ impl Followed {
         }
     }
 
+    /// Sets the new number of a part.
+    fn set_new(&mut self, index: usize, new: Option<u32>)
+        ensures { parts_numbered self.new.parts.items ≡ parts_numbered self.old.parts.items }
+    {
+        if index < self.parts.len() {
+            self.parts[index].new = new;
+        }
+    }
+
+    /// The number of the part at this index, if it is one of this function.
+    fn number_at(&self, index: usize, func: usize) -> Option<u32> {
+        match self.parts.get(index) {
+            Some(part) if part.func == func => Some(part.old),
+            _ => None,
+        }
+    }
+
     /// The operators of a function are written, with these location pairs. Takes time linear in their number.
-    pub fn pass_operators(&mut self, func: usize, start: usize, pairs: &[(InstrLocId, usize)]) {
+    pub fn pass_operators(&mut self, func: usize, start: usize, pairs: &[(InstrLocId, usize)])
+        ensures { parts_numbered self.new.parts.items ≡ parts_numbered self.old.parts.items }
+    {
         let mut left = pairs;
-        for index in self.first_of(func)..self.parts.len() {
-            let Some(part) = self.parts.get_mut(index) else {
+        'parts: for index in self.first_of(func)..self.parts.len() {
+            let Some(old) = self.number_at(index, func) else {
                 return;
             };
-            if part.func != func {
-                return;
-            }
-            if part.old == 0 {
+            if old == 0 {
                 // No operator begins there: it is the whole function.
-                part.new = Some(0);
+                self.set_new(index, Some(0));
                 continue;
             }
-            let place = start.saturating_add(part.old as usize);
+            let place = start.saturating_add(old as usize);
             left = pairs_from(left, place);
-            part.new = new_offset(left, place);
+            self.set_new(index, new_offset(left, place));
         }
     }
 
     /// The locals of a function are written, with these new indices.
-    pub fn pass_locals(&mut self, func: usize, numbers: &IdHashMap<LocalId, u32>) {
-        for index in self.first_of(func)..self.parts.len() {
-            let Some(part) = self.parts.get_mut(index) else {
+    pub fn pass_locals(&mut self, func: usize, numbers: &IdHashMap<LocalId, u32>)
+        ensures { parts_numbered self.new.parts.items ≡ parts_numbered self.old.parts.items }
+    {
+        'parts: for index in self.first_of(func)..self.parts.len() {
+            let Some(old) = self.number_at(index, func) else {
                 return;
             };
-            if part.func != func {
-                return;
-            }
-            part.new = numbers.get(&LocalId::new(part.old as usize)).copied();
+            self.set_new(index, numbers.get(&LocalId::new(old as usize)).copied());
         }
     }
 
