@@ -33,3 +33,5 @@ pub mod GatheredCopies
 pub mod WritingLemmas
 -- what is written for a section, and for a module
 pub mod LeftSectionLemmas
+-- why items aren't written
+pub mod RefusalLemmas

@@ -6,7 +6,7 @@ use Rattle.wasm_sections.specs.Parts.{number as number_part}
 use Rattle.wasm_sections.specs.Sections.{preamble, next_section, TakesSection}
 use Rattle.module_removal.specs.SeveralSteps.{SoManySteps}
 use Rattle.module_removal.specs.ModuleSteps.{PartStep, ThroughVector, ContentsStep, OverSection, ThroughSections}
-use Rattle.module_removal.proofs.SeveralStepsLemmas.{StepsLeft, no_step_made, one_more_step, all_steps_made}
+use Rattle.module_removal.proofs.SeveralStepsLemmas.{StepsLeft, no_step_made, one_more_step, all_steps_made, steps_then}
 
 -- ---- the items of a vector
 
@@ -37,13 +37,6 @@ all_items_passed Step end text count i old now so done =
     (count, so.rest, now.1, so.read, all_steps_made (Step end) count i (old, so.rest) now so.left done)
 
 -- ---- the sections of a module
-
--- one more step, after all
-pub steps_then :
-    {S : Type 0} (Step : S → S → Type 0) (n : ℕ) (a b d : S) → SoManySteps Step n a b → Step b d → SoManySteps Step (suc n) a d
-unfolding SoManySteps
-steps_then {S = S} Step zero a b d steps step = (d, subst (λ (x : S). Step x d) steps step, refl)
-steps_then Step (suc n) a b d steps step = (steps.0, steps.1, steps_then Step n steps.0 b d steps.2 step)
 
 no_steps : {S : Type 0} (Step : S → S → Type 0) (a b : S) → b ≡ a → SoManySteps Step 0 a b
 unfolding SoManySteps

@@ -30,3 +30,5 @@ pub mod LeftNames
 pub mod Written
 -- what is written for sections, and for the whole module
 pub mod LeftSections
+-- why the items of a section aren't written
+pub mod Refusals

@@ -63,18 +63,21 @@ fn named_contents<'a>(section: &Section<'a>) -> Result<(&'a str, Input<'a>), Mod
 }
 
 impl<'m> Writer<'m> {
-    ghost use Rattle.std.specs.Prelude.{◌≡◌, ◌++◌, ℕ, List, Ok, OnOk, IfOk, codes};
+    ghost use Rattle.std.specs.Prelude.{◌≡◌, ◌++◌, ℕ, List, Ok, OnOk, IfOk, IfErr, codes};
+    ghost use Rattle.wasm_sections.specs.declared.fault.ModuleFault.TheVariants.{Memory as NoMemory};
+    ghost use Rattle.wasm_sections.specs.Additions.{IsTooMuch};
     ghost use Rattle.item_sets.specs.ItemsLeft.{is_left, left_count};
     ghost use Rattle.wasm_operators.specs.declared.types.Space.TheVariants.{Types as OfTypes, Data as OfData, Funcs as OfFuncs};
     ghost use Rattle.wasm_sections.specs.Sections.{section, section_id, section_at};
     ghost use Rattle.module_removal.specs.ItemNumbers.{count_of, counted_more, with_more_items};
     ghost use Rattle.module_removal.specs.LeftSpaces.{marks_of, index_written};
     ghost use Rattle.module_removal.specs.CopiedParts.{Copied, copied_index};
-    ghost use Rattle.module_removal.specs.CopiedItems.{copied_defined};
+    ghost use Rattle.module_removal.specs.CopiedItems.{copied_export, copied_defined};
     ghost use Rattle.wasm_sections.specs.CodeSections.{entry};
     ghost use Rattle.module_removal.specs.LeftNames.{AreLeftNames};
     ghost use Rattle.module_removal.specs.Written.{data_count_section, group_mark, is_group_left, BeginsGroupIf, WritesNextItem, WritesImport, WritesExport, WritesType, WritesGroup};
     ghost use Rattle.module_removal.specs.LeftSections.{counted_items, items_section, section_of, HasNoItems, WritesBytes, WritesItem, WritesItems, DeclaresFunctions, WritesSegments, WritesSegmentsUnless, WritesSegmentsBefore, WritesContents, WritesSection, LeavesMetadata, WritesCustom, WritesAnySection};
+    ghost use Rattle.module_removal.specs.Refusals.{IsFaultOf, StopsAfter, StopsAtNext, StopsAtImport, StopsAtType, StopsAtGroup, StopsAtItem, StopsAtItems};
     ghost use Rattle.module_removal.specs.SeveralSteps.{SoManySteps};
 
     /// Adds the item that was copied to those of the section.
@@ -82,6 +85,7 @@ impl<'m> Writer<'m> {
         ensures items { OnOk result (self.new.items.items ≡ self.old.items.items ++ self.old.kept.out.items) }
         ensures count { OnOk result (self.new.count ≡ counted_more self.old.count 1) }
         ensures same { self.new ≡ record self.old { items = self.new.items; count = self.new.count } }
+        ensures err { IfErr result (λ error. error.fault ≡ NoMemory) }
     {
         self.items.extend_from_slice(&self.kept.out)?;
         self.count = self.count.saturating_add(1);
@@ -101,6 +105,7 @@ impl<'m> Writer<'m> {
     fn item(&mut self, space: Space, input: &mut Input<'_>) -> Result<(), ModuleError>
         ensures same_end { input.new.end ≡ input.old.end }
         ensures is { OnOk result (WritesNextItem space (λ w. copied_defined w space) input.old.end input.old.rest.now input.new.rest.now self.old self.new) }
+        ensures err { IfErr result (StopsAtNext space (λ w. copied_defined w space) input.old.end input.old.rest.now self.old) }
     {
         if self.is_next_left(space) {
             self.kept.clear();
@@ -115,6 +120,7 @@ impl<'m> Writer<'m> {
     fn import(&mut self, input: &mut Input<'_>) -> Result<(), ModuleError>
         ensures same_end { input.new.end ≡ input.old.end }
         ensures is { OnOk result (WritesImport input.old.end input.old.rest.now input.new.rest.now self.old self.new) }
+        ensures err { IfErr result (StopsAtImport input.old.end input.old.rest.now self.old) }
     {
         let mut after = *input;
         self.passed.clear();
@@ -132,6 +138,7 @@ impl<'m> Writer<'m> {
     fn export(&mut self, input: &mut Input<'_>) -> Result<(), ModuleError>
         ensures same_end { input.new.end ≡ input.old.end }
         ensures is { OnOk result (WritesExport input.old.end input.old.rest.now input.new.rest.now self.old self.new) }
+        ensures err { IfErr result (IsFaultOf (copied_export (index_written self.old.kept.left) input.old.end input.old.rest.now)) }
     {
         self.kept.clear();
         done!(self.kept.export(input));
@@ -143,6 +150,7 @@ impl<'m> Writer<'m> {
         ensures same_end { input.new.end ≡ input.old.end }
         ensures is { OnOk result
             (WritesType input.old.end (self.old, input.old.rest.now) (self.new, input.new.rest.now)) }
+        ensures err { IfErr result (StopsAtType input.old.end (self.old, input.old.rest.now)) }
     {
         if self.is_next_left(Space::Types) {
             self.kept.clear();
@@ -159,6 +167,7 @@ impl<'m> Writer<'m> {
         ensures same_end { input.new.end ≡ input.old.end }
         ensures is { OnOk result (SoManySteps (WritesType input.old.end) count
             (self.old, input.old.rest.now) (self.new, input.new.rest.now)) }
+        ensures err { IfErr result (StopsAfter (WritesType input.old.end) (StopsAtType input.old.end) count (self.old, input.old.rest.now)) }
     {
         'members: for _ in 0..count {
             done!(self.member(input));
@@ -171,6 +180,7 @@ impl<'m> Writer<'m> {
         ensures items { OnOk result (self.new.items.items ≡ self.old.items.items ++ group_mark is_group members) }
         ensures count { OnOk result (self.new.count ≡ counted_more self.old.count 1) }
         ensures same { self.new ≡ record self.old { items = self.new.items; count = self.new.count } }
+        ensures err { IfErr result IsTooMuch }
     {
         self.count = self.count.saturating_add(1);
         if !is_group {
@@ -182,9 +192,10 @@ impl<'m> Writer<'m> {
 
     /// Begins a recursive group with so many types if it is left: if its first type is. One without types isn't.
     fn begin_if_left(&mut self, members: u32, is_group: bool) -> Result<(), ModuleError>
-        ensures { OnOk result (BeginsGroupIf
+        ensures is { OnOk result (BeginsGroupIf
             (is_group_left members (is_left (marks_of self.old.remainder.now.left OfTypes) self.old.next.types))
             is_group members self.old self.new) }
+        ensures err { IfErr result IsTooMuch }
     {
         if members == 0 {
             return Ok(());
@@ -201,6 +212,7 @@ impl<'m> Writer<'m> {
         ensures same_end { input.new.end ≡ input.old.end }
         ensures is { OnOk result
             (WritesGroup input.old.end (self.old, input.old.rest.now) (self.new, input.new.rest.now)) }
+        ensures err { IfErr result (StopsAtGroup input.old.end (self.old, input.old.rest.now)) }
     {
         let (members, is_group) = done!(group_members(input));
         done!(self.begin_if_left(members, is_group));
@@ -211,6 +223,7 @@ impl<'m> Writer<'m> {
     fn one(&mut self, kind: SectionKind, input: &mut Input<'_>) -> Result<(), ModuleError>
         ensures same_end { input.new.end ≡ input.old.end }
         ensures is { OnOk result (WritesItem kind input.old.end (self.old, input.old.rest.now) (self.new, input.new.rest.now)) }
+        ensures err { IfErr result (StopsAtItem kind input.old.end (self.old, input.old.rest.now)) }
     {
         match kind {
             SectionKind::Type => self.group(input),
@@ -232,6 +245,7 @@ impl<'m> Writer<'m> {
     ) -> Result<(), ModuleError>
         ensures same_end { input.new.end ≡ input.old.end }
         ensures is { OnOk result (SoManySteps (WritesItem kind input.old.end) count (self.old, input.old.rest.now) (self.new, input.new.rest.now)) }
+        ensures err { IfErr result (StopsAfter (WritesItem kind input.old.end) (StopsAtItem kind input.old.end) count (self.old, input.old.rest.now)) }
     {
         'items: for _ in 0..count {
             done!(self.one(kind, input));
@@ -241,7 +255,8 @@ impl<'m> Writer<'m> {
 
     /// The items of a section that are left.
     fn items(&mut self, section: &Section<'_>) -> Result<(), ModuleError>
-        ensures { OnOk result (WritesItems section.now.kind section.now.contents.end section.now.contents.rest.now self.old self.new) }
+        ensures is { OnOk result (WritesItems section.now.kind section.now.contents.end section.now.contents.rest.now self.old self.new) }
+        ensures err { IfErr result (StopsAtItems section.now.kind section.now.contents.end section.now.contents.rest.now self.old) }
     {
         let mut input = section.contents;
         let count = done!(input.number());

@@ -2,8 +2,7 @@ use Rattle.std.proofs.Common.{◌≡◌, ◌++◌, ◌-◌, ℕ, suc, List, [], 
 use Rattle.std.proofs.lemmas.List.{append-nil}
 use Rattle.wasm_sections.specs.CodeSections.{entry}
 use Rattle.module_removal.specs.LeftNames.{LeavesNext, LeavesSubsection, subsection_part}
-use Rattle.module_removal.proofs.SectionStepLemmas.{steps_then}
-use Rattle.module_removal.proofs.SeveralStepsLemmas.{nowhere}
+use Rattle.module_removal.proofs.SeveralStepsLemmas.{nowhere, steps_then}
 use Rattle.module_removal.proofs.names.left_names.Goals as goal
 
 pub subsections-init : goal.subsections-init

@@ -12,7 +12,7 @@ returns-in-Ok c = λ none.
     let text = section.contents.rest.now in
     let old = c.args.self.now in
     let mid = c.items.new.self in
-    let items = subst (λ (k : SectionKind). WritesItems k end text old mid) c.in-Element.is c.in-Ok.ensures in
+    let items = subst (λ (k : SectionKind). WritesItems k end text old mid) c.in-Element.is c.in-Ok.ensures.is in
     contents_of_kind section.kind Element end text old c.put_elements.new.self c.put_elements.result c.in-Element.is
     (ok_then c.put_elements.result c.put_elements.ensures (λ w. (mid, items, w)))
 
@@ -23,4 +23,4 @@ returns-in-Ok-items c = λ none.
     ok_then c.finish.result c.finish.ensures
     (λ w.
     other_contents section.kind section.contents.end section.contents.rest.now c.args.self.now c.finish.new.self d.not-Start d.not-DataCount d.not-Code
-    d.not-Element c.items-in_default.new.self c.in-Ok-items.ensures w)
+    d.not-Element c.items-in_default.new.self c.in-Ok-items.ensures.is w)
