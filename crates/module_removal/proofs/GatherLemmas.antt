@@ -1,5 +1,5 @@
 -- What is gathered of an item: the part that is read, its number, and the edges from it.
-use Rattle.std.proofs.Common.{◌≡◌, ℕ, ◌<◌, List, [], ◌∷◌, ◌++◌, flat_map, option_map, Option, Some, None, Result, Ok, Err, OnOk, refl, sym, ap, subst, ◌∙◌, inl, inr, arith}
+use Rattle.std.proofs.Common.{◌≡◌, ℕ, ◌<◌, Bool, List, [], ◌∷◌, ◌++◌, flat_map, option_map, Option, Some, None, Result, Ok, Err, OnOk, refl, sym, ap, subst, ◌∙◌, inl, inr, arith}
 use Rattle.std.proofs.lemmas.List.{append-nil}
 use Rattle.wasm_operators.specs.declared.types.Space.{Space}
 use Rattle.wasm_operators.specs.declared.types.Space.TheVariants.{Funcs, Elements, Data}
@@ -10,18 +10,20 @@ use Rattle.wasm_sections.proofs.TypeReadingLemmas.{first_gives}
 use Rattle.module_removal.specs.declared.bounds.Active.{Active}
 use denote.Ref.{Bor}
 use Rattle.module_removal.specs.declared.copier.Copier.{Copier}
+use Rattle.module_removal.specs.declared.declared.Taken.{Taken}
 use Rattle.module_removal.specs.declared.item.Item.{Item}
 use Rattle.module_removal.specs.declared.item.ItemCounts.{ItemCounts}
 use Rattle.module_removal.specs.declared.left.LeftItems.{LeftItems}
 use Rattle.module_removal.specs.declared.gathering.Gatherer.{Gatherer}
 use Rattle.module_removal.specs.declared.references.References.{References}
-use Rattle.module_removal.specs.LeftSpaces.{index_written}
+use Rattle.module_removal.specs.LeftSpaces.{own_index, index_written}
 use Rattle.module_removal.specs.ItemNumbers.{count_of, all_numbers, number_of_item, with_more_items}
 use Rattle.module_removal.specs.CopiedParts.{Copied, CopiedPart, NewIndices, item_at, AppendsCopied, Copies}
 use Rattle.module_removal.specs.CopiedItems.{copied_locals}
+use Rattle.module_removal.specs.Declaring.{taken_in_body, TakesFunctions, NamesFunctions, functions_if}
 use Rattle.module_removal.specs.NamedItems.{named_by, FindsOperators}
 use Rattle.module_removal.specs.Edges.{RefersTo, AddsReferencesTo}
-use Rattle.module_removal.specs.Gathered.{own_index, Activates, item_of_active, defined_target, GathersNext, GathersOwn, GathersBody}
+use Rattle.module_removal.specs.Gathered.{Activates, item_of_active, defined_target, GathersNext, GathersOwn, GathersBody}
 use Rattle.module_removal.proofs.EdgeLemmas.{number_within}
 
 refers_as :
@@ -35,24 +37,36 @@ found_is : (cleared mid : Copier) (a : Copied) → cleared.found.items ≡ [] �
 found_is cleared mid a none p = p.found ∙ ap (λ (l : List Item). l ++ a.named) none
 
 -- a part whose items keep their indices
-own_part :
+pub own_part :
     {A : Type 0} (part : NewIndices → CopiedPart A) (end : ℕ) (text : List ℕ) (cleared : Copier) (r : Result ((A × Copied) × List ℕ) ModuleError) →
     cleared.left ≡ None → part (index_written cleared.left) end text ≡ r → part own_index end text ≡ r
 own_part part end text cleared r none e = ap (λ (l : Option (Bor LeftItems)). part (index_written l) end text) (sym none) ∙ e
 
+declared_as :
+    (declares : Bool) (by : ℕ) (xs ys : List Item) (old act base new : Taken) → xs ≡ ys → act ≡ old → new ≡ base →
+    NamesFunctions (functions_if declares by xs) act base → NamesFunctions (functions_if declares by ys) old new
+declared_as declares by xs ys old act base new e first last d =
+    subst (λ (l : List Item). NamesFunctions (functions_if declares by l) old new) e
+    (subst (λ (t : Taken). NamesFunctions (functions_if declares by xs) t new) first
+    (subst (λ (t : Taken). NamesFunctions (functions_if declares by xs) act t) (sym last) d))
+
+pub declares_none : (t : Taken) → NamesFunctions [] t t
+declares_none t = record { outside = sym (append-nil t.outside.items); in_bodies = refl }
+
 pub gathers_next :
-    {A : Type 0} (space : Space) (target : Option Item) (value : A) (part : NewIndices → CopiedPart A) (end : ℕ) (text following : List ℕ) (old new : Gatherer)
+    {A : Type 0} (space : Space) (target : Option Item) (declares : Bool) (value : A) (part : NewIndices → CopiedPart A) (end : ℕ) (text following : List ℕ) (old new : Gatherer)
     (cleared mid : Copier) (act base : References) (number : ℕ) (r : Result (Unit {0}) ModuleError) → cleared.left ≡ None → cleared.found.items ≡ [] →
     Copies cleared mid following (Ok value) (part (index_written cleared.left) end text) →
     number_of_item old.references.counts (item_at space (count_of old.next space)) ≡ Some number → Activates number target old.references act →
-    base.counts ≡ act.counts → base.graph ≡ act.graph → new.next ≡ with_more_items space 1 old.next → new.copier.left ≡ mid.left →
+    base.counts ≡ act.counts → base.graph ≡ act.graph → NamesFunctions (functions_if declares number mid.found.items) act.taken base.taken → new.next ≡ with_more_items space 1 old.next → new.copier.left ≡ mid.left →
     OnOk r (AddsReferencesTo number mid.found.items base new.references) →
-    OnOk r (GathersNext space target value (part own_index end text) following old new)
-gathers_next space target value part end text following old new cleared mid act base number (Err e) left none copies is activates c g next same adds = tt
-gathers_next space target value part end text following old new cleared mid act base number (Ok u) left none copies is activates c g next same adds =
+    OnOk r (GathersNext space target declares value (part own_index end text) following old new)
+gathers_next space target declares value part end text following old new cleared mid act base number (Err e) left none copies is activates c g d next same adds = tt
+gathers_next space target declares value part end text following old new cleared mid act base number (Ok u) left none copies is activates c g d next same adds =
     let within = number_within old.references.counts (item_at space (count_of old.next space)) number is in
     let active = activates.edges within in
     let counts : base.counts ≡ old.references.counts = c ∙ activates.counts in
+    let found = found_is cleared mid copies.0 none copies.2 in
     record {
       number = number;
       number_is = is;
@@ -65,22 +79,23 @@ gathers_next space target value part end text following old new cleared mid act 
       is_active = active.1;
       refers =
           refers_as base.counts old.references.counts number mid.found.items copies.0.named (edges_of base.graph) (edges_of old.references.graph ++ active.0)
-          (edges_of new.references.graph) counts (found_is cleared mid copies.0 none copies.2) (ap edges_of g ∙ active.2)
+          (edges_of new.references.graph) counts found (ap edges_of g ∙ active.2)
           (adds.refers (subst (λ (k : ItemCounts). number < all_numbers k) (sym counts) within));
+      declared = declared_as declares number mid.found.items copies.0.named old.references.taken act.taken base.taken new.references.taken found activates.taken adds.taken d;
     }
 
 -- no segment is activated
 pub activates_none : (number : ℕ) (old : References) → Activates number None old old
-activates_none number old = record { counts = refl; edges = λ within. ([], refl, sym (append-nil (edges_of old.graph))) }
+activates_none number old = record { counts = refl; taken = refl; edges = λ within. ([], refl, sym (append-nil (edges_of old.graph))) }
 
 pub gathers_own :
-    (part : NewIndices → CopiedPart (Unit {0})) (end : ℕ) (text following : List ℕ) (old new : Gatherer) (cleared mid : Copier) (base : References)
+    (declares : Bool) (part : NewIndices → CopiedPart (Unit {0})) (end : ℕ) (text following : List ℕ) (old new : Gatherer) (cleared mid : Copier) (base : References)
     (r : Result (Unit {0}) ModuleError) → cleared.left ≡ None → cleared.found.items ≡ [] →
     Copies cleared mid following (Ok tt) (part (index_written cleared.left) end text) → base.counts ≡ old.references.counts → base.graph ≡ old.references.graph →
-    new ≡ record old { copier = mid; references = new.references } → OnOk r (AddsReferencesTo 0 mid.found.items base new.references) →
-    OnOk r (GathersOwn (part own_index end text) following old new)
-gathers_own part end text following old new cleared mid base (Err e) left none copies counts graph same adds = tt
-gathers_own part end text following old new cleared mid base (Ok u) left none copies counts graph same adds = record {
+    NamesFunctions (functions_if declares 0 mid.found.items) old.references.taken base.taken → new ≡ record old { copier = mid; references = new.references } →
+    OnOk r (AddsReferencesTo 0 mid.found.items base new.references) → OnOk r (GathersOwn declares (part own_index end text) following old new)
+gathers_own declares part end text following old new cleared mid base (Err e) left none copies counts graph d same adds = tt
+gathers_own declares part end text following old new cleared mid base (Ok u) left none copies counts graph d same adds = record {
   next = ap (λ (g : Gatherer). g.next) same;
   imported = ap (λ (g : Gatherer). g.imported) same;
   counts = adds.counts ∙ counts;
@@ -90,12 +105,15 @@ gathers_own part end text following old new cleared mid base (Ok u) left none co
   refers =
       refers_as base.counts old.references.counts 0 mid.found.items copies.0.named (edges_of base.graph) (edges_of old.references.graph)
       (edges_of new.references.graph) counts (found_is cleared mid copies.0 none copies.2) (ap edges_of graph) (adds.refers (omega arith));
+  declared =
+      declared_as declares 0 mid.found.items copies.0.named old.references.taken old.references.taken base.taken new.references.taken
+      (found_is cleared mid copies.0 none copies.2) refl adds.taken d;
 }
 
 pub gathers_body :
     (func end : ℕ) (text rest : List ℕ) (old new : Gatherer) (cleared mid last : Copier) (base : References) (number : ℕ) (r : Result (Unit {0}) ModuleError) →
     cleared.left ≡ None → cleared.found.items ≡ [] →
-    Copies cleared mid rest (Ok tt) (copied_locals (index_written cleared.left) end text) → FindsOperators mid last (Ok tt) end rest →
+    Copies cleared mid rest (Ok tt) (copied_locals (index_written cleared.left) end text) → FindsOperators func (mid, old.references.taken) (last, base.taken) (Ok tt) end rest →
     number_of_item old.references.counts (item_at Funcs func) ≡ Some number → base.counts ≡ old.references.counts → base.graph ≡ old.references.graph →
     new ≡ record old { copier = last; references = new.references } → OnOk r (AddsReferencesTo number last.found.items base new.references) →
     OnOk r (GathersBody func end text old new)
@@ -119,6 +137,7 @@ gathers_body func end text rest old new cleared mid last base number (Ok u) left
           refers_as base.counts old.references.counts number last.found.items (copies.0.named ++ flat_map named_by found.0) (edges_of base.graph)
           (edges_of old.references.graph) (edges_of new.references.graph) counts named (ap edges_of graph)
           (adds.refers (subst (λ (c : ItemCounts). number < all_numbers c) (sym counts) within));
+      taken = subst (λ (t : Taken). TakesFunctions (flat_map (taken_in_body func) found.0) old.references.taken t) (sym adds.taken) found.3;
     }
 
 -- ---- results
@@ -150,21 +169,21 @@ pub activates_no : (number : ℕ) (active : Option Active) (old : References) �
 activates_no number active old e = subst (λ (o : Option Active). Activates number (option_map item_of_active o) old old) (sym e) (activates_none number old)
 
 pub activates_own :
-    (number : ℕ) (target : Item) (old new : References) (r : Result (Unit {0}) ModuleError) → new.counts ≡ old.counts →
+    (number : ℕ) (target : Item) (old new : References) (r : Result (Unit {0}) ModuleError) → new.counts ≡ old.counts → new.taken ≡ old.taken →
     OnOk r (0 < all_numbers old.counts → number < all_numbers old.counts → edges_of new.graph ≡ edges_of old.graph ++ (0, number) ∷ []) →
     OnOk r (Activates number (Some target) old new)
-activates_own number target old new (Ok u) counts p =
-    record { counts = counts; edges = λ within. ((0, number) ∷ [], inl refl, p (omega arith) within) }
-activates_own number target old new (Err e) counts p = tt
+activates_own number target old new (Ok u) counts taken p =
+    record { counts = counts; taken = taken; edges = λ within. ((0, number) ∷ [], inl refl, p (omega arith) within) }
+activates_own number target old new (Err e) counts taken p = tt
 
 pub activates_from :
-    (number t : ℕ) (target : Item) (old new : References) (r : Result (Unit {0}) ModuleError) → new.counts ≡ old.counts →
+    (number t : ℕ) (target : Item) (old new : References) (r : Result (Unit {0}) ModuleError) → new.counts ≡ old.counts → new.taken ≡ old.taken →
     number_of_item old.counts target ≡ Some t →
     OnOk r (t < all_numbers old.counts → number < all_numbers old.counts → edges_of new.graph ≡ edges_of old.graph ++ (t, number) ∷ []) →
     OnOk r (Activates number (Some target) old new)
-activates_from number t target old new (Ok u) counts is p =
-    record { counts = counts; edges = λ within. ((t, number) ∷ [], inr (t, is, refl), p (number_within old.counts target t is) within) }
-activates_from number t target old new (Err e) counts is p = tt
+activates_from number t target old new (Ok u) counts taken is p =
+    record { counts = counts; taken = taken; edges = λ within. ((t, number) ∷ [], inr (t, is, refl), p (number_within old.counts target t is) within) }
+activates_from number t target old new (Err e) counts taken is p = tt
 
 -- a number, and then what it says of the target
 pub target_read :

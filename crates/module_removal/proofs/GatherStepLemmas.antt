@@ -1,5 +1,5 @@
 -- What is gathered of the items of a section, and of all sections, in loops.
-use Rattle.std.proofs.Common.{◌≡◌, ℕ, zero, suc, ◌+◌, ◌-◌, ◌<◌, ◌≤◌, ◌^◌, Bool, true, false, nat_lt, List, [], ◌++◌, length, Some, None, Result, Ok, Err, OnOk, refl, sym, ap, subst, ◌∙◌, arith}
+use Rattle.std.proofs.Common.{◌≡◌, ℕ, ◌+◌, ◌-◌, ◌<◌, ◌≤◌, ◌^◌, Bool, true, false, nat_lt, List, [], ◌++◌, length, Some, None, Result, Ok, Err, OnOk, refl, sym, ap, subst, ◌∙◌, arith}
 use Rattle.std.proofs.lemmas.Bool.{ltb-true}
 use Rattle.reaching.specs.Reaching.{edges_of}
 use Rattle.walrus_ir.specs.Types.{ModuleType}
@@ -10,20 +10,23 @@ use Rattle.wasm_sections.specs.declared.sections.Section.{Section}
 use Rattle.wasm_sections.specs.declared.sections.Sections.{Sections}
 use Rattle.wasm_sections.specs.Format.{members_part, types_part}
 use Rattle.wasm_sections.specs.Parts.{number as number_part, piece}
-use Rattle.wasm_sections.specs.Sections.{preamble, next_section, TakesSection}
+use Rattle.wasm_sections.specs.Sections.{preamble, TakesSection}
 use Rattle.wasm_sections.proofs.TypeReadingLemmas.{first_gives}
 use Rattle.module_removal.specs.declared.item.ItemCounts.{ItemCounts}
 use Rattle.module_removal.specs.declared.gathering.Gatherer.{Gatherer}
 use Rattle.module_removal.specs.declared.references.References.{References}
+use Rattle.module_removal.specs.LeftSpaces.{own_index}
 use Rattle.module_removal.specs.CopiedItems.{copied_subtype}
+use Rattle.module_removal.specs.Counting.{AreCountsOf}
 use Rattle.module_removal.specs.CopiedParts.{item_at}
 use Rattle.module_removal.specs.Edges.{ItemRefersTo}
-use Rattle.module_removal.specs.Gathered.{own_index, GathersNext, GathersType, GathersGroup, GathersAlike, ReferToAlike, GathersTypes, GathersBody, GathersContents, AreReferencesOf}
-use Rattle.module_removal.specs.ModuleSteps.{PartStep, ThroughVector, OverBody, ThroughBodies, OverSection, ThroughSections}
+use Rattle.module_removal.specs.Gathered.{GathersNext, GathersType, GathersGroup, GathersAlike, ReferToAlike, GathersTypes, GathersBody, GathersContents, AreReferencesOf}
+use Rattle.module_removal.specs.ModuleSteps.{PartStep, ThroughVector, OverBody, ThroughBodies, ThroughSections}
 use Rattle.module_removal.specs.ItemNumbers.{count_of, first_number, number_if, number_of_item}
 use Rattle.module_removal.specs.SeveralSteps.{SoManySteps}
-use Rattle.module_removal.proofs.GrowthLemmas.{Grows, contents_grow}
+use Rattle.module_removal.proofs.GrowthLemmas.{Grows, contents_grow, sections_grow}
 use Rattle.module_removal.proofs.SeveralStepsLemmas.{StepsLeft, no_step_made, one_more_step, all_steps_made}
+use Rattle.module_removal.proofs.SectionStepLemmas.{ItemsPassed, no_item_passed, one_more_item, all_items_passed, SectionsPassed, no_section_passed, one_more_passed, all_sections_passed}
 
 -- ---- steps, while the copier finds what is named
 
@@ -50,24 +53,18 @@ pub all_gathered :
     SoManySteps Step count start now
 all_gathered Step count i start now so done = all_steps_made Step count i start now so.left done
 
--- one more step, after all
-pub steps_then :
-    {S : Type 0} (Step : S → S → Type 0) (n : ℕ) (a b d : S) → SoManySteps Step n a b → Step b d → SoManySteps Step (suc n) a d
-unfolding SoManySteps
-steps_then {S = S} Step zero a b d steps step = (d, subst (λ (x : S). Step x d) steps step, refl)
-steps_then Step (suc n) a b d steps step = (steps.0, steps.1, steps_then Step n steps.0 b d steps.2 step)
-
 -- ---- types
 
 pub gathers_type :
     (first end : ℕ) (text following : List ℕ) (old own new : Gatherer) (mid : References) (r : Result (Unit {0}) ModuleError) →
-    GathersNext Types None tt (copied_subtype own_index end text) following old own → own.imported ≡ old.imported →
+    GathersNext Types None false tt (copied_subtype own_index end text) following old own → own.imported ≡ old.imported →
     new ≡ record own { references = new.references } → mid.counts ≡ own.references.counts → new.references.counts ≡ mid.counts →
+    mid.taken ≡ own.references.taken → new.references.taken ≡ mid.taken →
     ItemRefersTo own.references.counts (item_at Types first) (item_at Types old.next.types) (edges_of own.references.graph) (edges_of mid.graph) →
     OnOk r (ItemRefersTo mid.counts (item_at Types old.next.types) (item_at Types first) (edges_of mid.graph) (edges_of new.references.graph)) →
     OnOk r (GathersType first end (old, text) (new, following))
-gathers_type first end text following old own new mid (Err e) g imported same mid_counts counts to from = tt
-gathers_type first end text following old own new mid (Ok u) g imported same mid_counts counts to from =
+gathers_type first end text following old own new mid (Err e) g imported same mid_counts counts mid_taken taken to from = tt
+gathers_type first end text following old own new mid (Ok u) g imported same mid_counts counts mid_taken taken to from =
     let a = item_at Types first in
     let b = item_at Types old.next.types in
     record {
@@ -76,6 +73,7 @@ gathers_type first end text following old own new mid (Ok u) g imported same mid
       imported = imported;
       same = same;
       counts = counts ∙ mid_counts ∙ g.counts;
+      taken = taken ∙ mid_taken;
       grouped = (
         edges_of mid.graph,
         subst (λ (c : ItemCounts). ItemRefersTo c a b (edges_of own.references.graph) (edges_of mid.graph)) g.counts to,
@@ -94,11 +92,11 @@ gathers_group end other text rest following members old new (Err x) e s steps = 
 pub gathers_alike :
     (end : ℕ) (text following : List ℕ) (types : List ModuleType) (old new : Gatherer) (r : Result (Unit {0}) ModuleError) →
     types_part old.references.counts.types end text ≡ Ok (types, following) → new ≡ record old { references = new.references } →
-    new.references.counts ≡ old.references.counts →
+    new.references.counts ≡ old.references.counts → new.references.taken ≡ old.references.taken →
     OnOk r (ReferToAlike types old.references.counts (edges_of old.references.graph) (edges_of new.references.graph)) → OnOk r (GathersAlike end text old new)
-gathers_alike end text following types old new (Ok u) read same counts refer =
-    record { same = same; counts = counts; types = types; following = following; read = read; refer = refer }
-gathers_alike end text following types old new (Err e) read same counts refer = tt
+gathers_alike end text following types old new (Ok u) read same counts taken refer =
+    record { same = same; counts = counts; taken = taken; types = types; following = following; read = read; refer = refer }
+gathers_alike end text following types old new (Err e) read same counts taken refer = tt
 
 pub gathers_types :
     (end : ℕ) (text : List ℕ) (old mid new : Gatherer) (r : Result (Unit {0}) ModuleError) → ThroughVector GathersGroup end text old mid →
@@ -108,35 +106,29 @@ gathers_types end text old mid new (Err e) groups alike = tt
 
 -- ---- the items of a section
 
--- The number of the items is read, and of these some are gathered.
+-- Of these some are gathered.
 pub record EachLeft (Step : PartStep Gatherer) (end : ℕ) (text : List ℕ) (count i : ℕ) (old : Gatherer) (now : Gatherer × List ℕ) : Type 0 where
-  pub rest : List ℕ
-  pub read : number_part end text ≡ Ok (count, rest)
-  pub gathers : GathersLeft (Step end) count i (old, rest) now
+  pub finds : Finds now
+  pub passed : ItemsPassed Step end text count i old now
 
 pub none_of_each :
     (Step : PartStep Gatherer) (end count : ℕ) (text rest : List ℕ) (old : Gatherer) → number_part end text ≡ Ok (count, rest) →
     old.copier.left ≡ None → EachLeft Step end text count 0 old (old, rest)
-none_of_each Step end count text rest old read finds =
-    record { rest = rest; read = read; gathers = none_gathered (Step end) count (old, rest) finds }
+none_of_each Step end count text rest old read finds = record { finds = finds; passed = no_item_passed Step end count text rest old read }
 
 pub one_of_each :
     (Step : PartStep Gatherer) (end other : ℕ) (text : List ℕ) (count i : ℕ) (old : Gatherer) (now next : Gatherer × List ℕ) →
     ((end : ℕ) (a b : Gatherer × List ℕ) → Step end a b → Grows a.0 b.0) → EachLeft Step end text count i old now → i < count → other ≡ end →
     (Finds now → Step other now next) → EachLeft Step end text count (i + 1) old next
-one_of_each Step end other text count i old now next grows so less same step =
-    let made = subst (λ (n : ℕ). Step n now next) same (step so.gathers.finds) in
-    record {
-      rest = so.rest;
-      read = so.read;
-      gathers = one_gathered (Step end) count i (old, so.rest) now next so.gathers less made ((grows end now next made).finds so.gathers.finds);
-    }
+one_of_each Step end other text count i old now next grows so less same step = record {
+  finds = (grows other now next (step so.finds)).finds so.finds;
+  passed = one_more_item Step end other text count i old now next so.passed less same (step so.finds);
+}
 
 pub all_of_each :
     (Step : PartStep Gatherer) (end : ℕ) (text : List ℕ) (count i : ℕ) (old : Gatherer) (now : Gatherer × List ℕ) →
     EachLeft Step end text count i old now → count ≤ i → ThroughVector Step end text old now.0
-all_of_each Step end text count i old now so done =
-    (count, so.rest, now.1, so.read, all_gathered (Step end) count i (old, so.rest) now so.gathers done)
+all_of_each Step end text count i old now so done = all_items_passed Step end text count i old now so.passed done
 
 -- ---- bodies
 
@@ -213,69 +205,36 @@ all_bodies end text count i old now func left so done = (
 
 -- Some of the sections are gathered.
 pub record SectionsLeft (bytes : List ℕ) (old now : Gatherer) (left : Sections) : Type 0 where
-  pub text : List ℕ
-  pub is : bytes ≡ preamble ++ text
-  pub end : left.left.end ≡ length bytes
   pub finds : now.copier.left ≡ None
-  pub count : ℕ
-  pub steps : SoManySteps (OverSection GathersContents (length bytes)) count (old, (0, text)) (now, (left.rank, left.left.rest.now))
-
-no_steps : {S : Type 0} (Step : S → S → Type 0) (a b : S) → b ≡ a → SoManySteps Step 0 a b
-unfolding SoManySteps
-no_steps Step a b e = e
+  pub passed : SectionsPassed GathersContents bytes old now left
 
 pub no_section :
     (bytes : List ℕ) (old : Gatherer) (first begun : Sections) → bytes ≡ preamble ++ first.left.rest.now → first.left.end ≡ length bytes → first.rank ≡ 0 →
     begun ≡ first → old.copier.left ≡ None → SectionsLeft bytes old old begun
 no_section bytes old first begun is end rank same finds =
-    subst (SectionsLeft bytes old old) (sym same)
-    (record {
-      text = first.left.rest.now;
-      is = is;
-      end = end;
-      finds = finds;
-      count = 0;
-      steps =
-          no_steps (OverSection GathersContents (length bytes)) (old, (0, first.left.rest.now)) (old, (first.rank, first.left.rest.now))
-          (ap (λ (n : ℕ). (let s : Gatherer × (ℕ × List ℕ) = (old, (n, first.left.rest.now)) in s)) rank);
-    })
+    record { finds = finds; passed = no_section_passed GathersContents bytes old first begun is end rank same }
 
 pub one_more_section :
     (bytes : List ℕ) (old now next : Gatherer) (left then : Sections) (section : Section) → SectionsLeft bytes old now left → TakesSection left (Some (Ok section)) then →
     (now.copier.left ≡ None → GathersContents section.kind section.contents.end section.contents.rest.now now next) → SectionsLeft bytes old next then
-one_more_section bytes old now next left then section so takes contents =
-    let made = contents so.finds in
-    let same : then.left.end ≡ length bytes = takes.1 ∙ so.end in
-    let place : section.contents.end ≡ length bytes - length then.left.rest.now =
-    takes.0.end_is ∙ ap (λ (n : ℕ). n - length then.left.rest.now) so.end in
-    record {
-      text = so.text;
-      is = so.is;
-      end = same;
-      finds = (contents_grow section.kind section.contents.end section.contents.rest.now now next made).finds so.finds;
-      count = suc so.count;
-      steps =
-          steps_then (OverSection GathersContents (length bytes)) so.count (old, (0, so.text)) (now, (left.rank, left.left.rest.now)) (next, (then.rank, then.left.rest.now))
-          so.steps (
-            section.kind,
-            section.contents.rest.now,
-            ap (λ (n : ℕ). next_section left.rank n left.left.rest.now) (sym so.end) ∙ takes.2,
-            subst (λ (n : ℕ). GathersContents section.kind n section.contents.rest.now now next) place made,
-          );
-    }
+one_more_section bytes old now next left then section so takes contents = record {
+  finds = (contents_grow section.kind section.contents.end section.contents.rest.now now next (contents so.finds)).finds so.finds;
+  passed = one_more_passed GathersContents bytes old now next left then section so.passed takes (contents so.finds);
+}
 
 pub all_sections :
     (bytes : List ℕ) (old now : Gatherer) (left then : Sections) → SectionsLeft bytes old now left → TakesSection left None then → ThroughSections GathersContents bytes old now
-all_sections bytes old now left then so takes = (
-  so.text,
-  so.count,
-  left.rank,
-  so.is,
-  subst (λ (l : List ℕ). SoManySteps (OverSection GathersContents (length bytes)) so.count (old, (0, so.text)) (now, (left.rank, l))) takes so.steps,
-)
+all_sections bytes old now left then so takes = all_sections_passed GathersContents bytes old now left then so.passed takes
 
 pub gathered :
     (bytes : List ℕ) (old new : Gatherer) → ThroughSections GathersContents bytes old new → ((space : Space) → count_of old.next space ≡ 0) → old.imported ≡ 0 →
-    old.copier.left ≡ None → edges_of old.references.graph ≡ [] → AreReferencesOf bytes new.references
-gathered bytes old new g next imported finds edges =
-    (old, new, record { next = next; imported = imported; finds = finds; edges = edges }, g, refl)
+    old.copier.left ≡ None → edges_of old.references.graph ≡ [] → old.references.taken.in_bodies.items ≡ [] →
+    old.references.taken.outside.items ≡ [] → AreCountsOf bytes old.references.counts → AreReferencesOf bytes new.references
+gathered bytes old new g next imported finds edges in_bodies outside counts = (
+  old,
+  new,
+  record { next = next; imported = imported; finds = finds; edges = edges; in_bodies = in_bodies; outside = outside },
+  g,
+  refl,
+  subst (λ (c : ItemCounts). AreCountsOf bytes c) (sym (sections_grow bytes old new g).counts) counts,
+)

@@ -1,5 +1,5 @@
 -- What is left of a module is copied: what each of its items names is left too.
-use Rattle.std.proofs.Common.{◌≡◌, ◌↔◌, ℕ, zero, suc, ◌+◌, ◌-◌, ◌^◌, min, Bool, true, nat_lt, List, [], ◌∷◌, ◌++◌, length, flat_map, Option, Some, None, refl, sym, ap, subst, ◌∙◌, arith}
+use Rattle.std.proofs.Common.{◌≡◌, ◌↔◌, ℕ, zero, suc, ◌+◌, ◌-◌, ◌^◌, min, Bool, true, false, nat_lt, List, [], ◌∷◌, ◌++◌, length, flat_map, Option, Some, None, refl, sym, ap, subst, ◌∙◌, arith}
 use Rattle.std.proofs.lemmas.Bool.{ltb-true}
 use Rattle.std.proofs.lemmas.List.Elements.{Contains-append_left}
 use Rattle.std.specs.List.{Contains}
@@ -18,10 +18,10 @@ use Rattle.module_removal.specs.declared.references.References.{References}
 use Rattle.module_removal.specs.CopiedItems.{copied_import, copied_export, copied_defined, copied_subtype}
 use Rattle.module_removal.specs.CopiedParts.{CopiedPart, NewIndices, item_at, copied_index}
 use Rattle.module_removal.specs.Edges.{RefersTo}
-use Rattle.module_removal.specs.Gathered.{own_index, GathersNext, GathersOwn, GathersBody, GathersDefinedIf, GathersItem, GathersType, GathersGroup, GathersContents}
+use Rattle.module_removal.specs.Gathered.{GathersNext, GathersOwn, GathersBody, GathersDefinedIf, GathersItem, GathersType, GathersGroup, GathersContents}
 use Rattle.module_removal.specs.ItemNumbers.{count_of, first_number, all_numbers, number_of_item}
 use Rattle.module_removal.specs.LeftLaws.{HaveIndices, IsCopied, Passed, CopiesIfLeft, CopiesDefinedIf, CopiesType, CopiesOwn, CopiesItem, NamesLeft, CopiesContents, LeftIsCopied}
-use Rattle.module_removal.specs.LeftSpaces.{marks_of, index_of, AreMarked}
+use Rattle.module_removal.specs.LeftSpaces.{own_index, marks_of, index_of, AreMarked}
 use Rattle.module_removal.specs.NamedItems.{named_by}
 use Rattle.module_removal.specs.ModuleSteps.{PartStep, ThroughVector, ThroughGroup, OverBody, ThroughBodies, OverSection, ThroughSections}
 use Rattle.module_removal.specs.SeveralSteps.{SoManySteps}
@@ -84,10 +84,10 @@ module _ (c : ItemCounts) (all : Edges) (roots : List ℕ) (marks : List Bool) (
   refers_in old from items before after e r = subst (λ (k : ItemCounts). RefersTo k from items before after) e r
 
   next_copied :
-      {A : Type 0} (space : Space) (target : Option Item) (value : A) (part : NewIndices → CopiedPart A) (end : ℕ) (text following : List ℕ) (old new : Gatherer) →
-      IsCopied part → GathersNext space target value (part own_index end text) following old new → Within c all new →
+      {A : Type 0} (space : Space) (target : Option Item) (declares : Bool) (value : A) (part : NewIndices → CopiedPart A) (end : ℕ) (text following : List ℕ) (old new : Gatherer) →
+      IsCopied part → GathersNext space target declares value (part own_index end text) following old new → Within c all new →
       CopiesIfLeft left space (count_of old.next space) part value end text following
-  next_copied space target value part end text following old new copied g w =
+  next_copied space target declares value part end text following old new copied g w =
       let same : old.references.counts ≡ c = sym g.counts ∙ w.counts in (
         (g.copied, g.read),
         λ is.
@@ -100,9 +100,9 @@ module _ (c : ItemCounts) (all : Edges) (roots : List ℕ) (marks : List Bool) (
       )
 
   own_copied :
-      (part : NewIndices → CopiedPart (Unit {0})) (end : ℕ) (text following : List ℕ) (old new : Gatherer) → IsCopied part →
-      GathersOwn (part own_index end text) following old new → Within c all new → CopiesOwn (part (index_of left)) end (passed old, text) (passed new, following)
-  own_copied part end text following old new copied g w =
+      (declares : Bool) (part : NewIndices → CopiedPart (Unit {0})) (end : ℕ) (text following : List ℕ) (old new : Gatherer) → IsCopied part →
+      GathersOwn declares (part own_index end text) following old new → Within c all new → CopiesOwn (part (index_of left)) end (passed old, text) (passed new, following)
+  own_copied declares part end text following old new copied g w =
       let same : old.references.counts ≡ c = sym g.counts ∙ w.counts in
       let has = named_left 0 g.copied.named (edges_in old) (edges_in new) (refers_in old 0 g.copied.named (edges_in old) (edges_in new) same g.refers) w.edges module_is_set in
       let made = copied (index_of left) end text following tt g.copied g.read has in
@@ -111,14 +111,14 @@ module _ (c : ItemCounts) (all : Edges) (roots : List ℕ) (marks : List Bool) (
   defined_if_copied : (space : Option Space) (end : ℕ) (old new : Gatherer × List ℕ) → GathersDefinedIf space end old new → Within c all new.0 →
       CopiesDefinedIf left space end (passed_with old) (passed_with new)
   defined_if_copied (Some space) end old new g w =
-      ((g.3.next, next_copied space g.0 tt (λ w. copied_defined w space) end old.1 new.1 old.0 new.0 (items_copied.defined space) g.3 w), g.4)
+      ((g.3.next, next_copied space g.0 true tt (λ w. copied_defined w space) end old.1 new.1 old.0 new.0 (items_copied.defined space) g.3 w), g.4)
   defined_if_copied None end old new g w = ap (λ (s : Gatherer × List ℕ). passed_with s) g
 
   item_copied : (k : SectionKind) (end : ℕ) (old new : Gatherer × List ℕ) → GathersItem k end old new → Within c all new.0 →
       CopiesItem left k end (passed_with old) (passed_with new)
   item_copied kind.Import end old new g w =
-      (g.0, (g.1.next, next_copied g.0 None g.0 copied_import end old.1 new.1 old.0 new.0 items_copied.imports g.1 w), g.2)
-  item_copied kind.Export end old new g w = own_copied copied_export end old.1 new.1 old.0 new.0 items_copied.exports g w
+      (g.0, (g.1.next, next_copied g.0 None false g.0 copied_import end old.1 new.1 old.0 new.0 items_copied.imports g.1 w), g.2)
+  item_copied kind.Export end old new g w = own_copied true copied_export end old.1 new.1 old.0 new.0 items_copied.exports g w
   item_copied kind.Custom end old new g w = defined_if_copied None end old new g w
   item_copied kind.Type end old new g w = defined_if_copied None end old new g w
   item_copied kind.Start end old new g w = defined_if_copied None end old new g w
@@ -146,7 +146,7 @@ module _ (c : ItemCounts) (all : Edges) (roots : List ℕ) (marks : List Bool) (
       let own = within_own first end old new g w in (
         (
           ap (λ (h : Gatherer). h.next) g.same ∙ g.gathers.next,
-          next_copied spaces.Types None tt copied_subtype end old.1 new.1 old.0 g.own items_copied.types g.gathers own,
+          next_copied spaces.Types None false tt copied_subtype end old.1 new.1 old.0 g.own items_copied.types g.gathers own,
         ),
         ap (λ (h : Gatherer). h.imported) g.same ∙ g.imported,
       )
@@ -210,7 +210,7 @@ module _ (c : ItemCounts) (all : Edges) (roots : List ℕ) (marks : List Bool) (
       subst (λ (p : Passed). ThroughVector (ThroughGroup (CopiesType left)) end text (passed old) p) (sym (ap (λ (h : Gatherer). passed h) g.2.same)) made
   contents_copied kind.Code end text old new g w = bodies_left old.imported end text old new g w
   contents_copied kind.Start end text old new g w =
-      (g.0, own_copied (λ w. copied_index w spaces.Funcs) end text g.0 old new items_copied.start g.1 w)
+      (g.0, own_copied false (λ w. copied_index w spaces.Funcs) end text g.0 old new items_copied.start g.1 w)
   contents_copied kind.Import end text old new g w = section_items kind.Import end text old new g w
   contents_copied kind.Export end text old new g w = section_items kind.Export end text old new g w
   contents_copied kind.Function end text old new g w = section_items kind.Function end text old new g w

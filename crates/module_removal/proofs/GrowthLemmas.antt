@@ -1,5 +1,5 @@
 -- What is gathered grows: the copier still finds what is named, the counts stay, and edges come after those that were there.
-use Rattle.std.proofs.Common.{◌≡◌, ℕ, zero, suc, ◌+◌, List, [], ◌∷◌, ◌++◌, Option, Some, None, Result, refl, sym, ap, subst, ◌∙◌, append_assoc}
+use Rattle.std.proofs.Common.{◌≡◌, ℕ, zero, suc, ◌+◌, Bool, true, false, List, [], ◌∷◌, ◌++◌, length, Option, Some, None, Result, refl, sym, ap, subst, ◌∙◌, append_assoc}
 use Rattle.std.proofs.lemmas.List.{append-nil}
 use Rattle.reaching.specs.Reaching.{edges_of}
 use Rattle.walrus_ir.specs.Types.{ModuleType}
@@ -14,7 +14,7 @@ use Rattle.module_removal.specs.declared.gathering.Gatherer.{Gatherer}
 use Rattle.module_removal.specs.CopiedParts.{Copied}
 use Rattle.module_removal.specs.Edges.{edges_from}
 use Rattle.module_removal.specs.Gathered.{GathersNext, GathersOwn, GathersBody, GathersDefinedIf, GathersItem, GathersType, GathersGroup, TypeRefersTo, RefersToAlike, GathersAlike, GathersTypes, GathersContents, first_alike}
-use Rattle.module_removal.specs.ModuleSteps.{PartStep, ThroughVector, OverBody, ThroughBodies}
+use Rattle.module_removal.specs.ModuleSteps.{PartStep, ThroughVector, OverBody, ThroughBodies, OverSection, ThroughSections}
 use Rattle.module_removal.specs.SeveralSteps.{SoManySteps}
 
 -- ---- steps
@@ -73,9 +73,9 @@ all_grow Step grows n old new steps =
 -- ---- items
 
 pub next_grows :
-    {A : Type 0} (space : Space) (target : Option Item) (value : A) (part : Result ((A × Copied) × List ℕ) ModuleError) (following : List ℕ) (old new : Gatherer) →
-    GathersNext space target value part following old new → Grows old new
-next_grows space target value part following old new g = record {
+    {A : Type 0} (space : Space) (target : Option Item) (declares : Bool) (value : A) (part : Result ((A × Copied) × List ℕ) ModuleError) (following : List ℕ) (old new : Gatherer) →
+    GathersNext space target declares value part following old new → Grows old new
+next_grows space target declares value part following old new g = record {
   finds = λ none. g.finds;
   counts = g.counts;
   edges =
@@ -83,8 +83,8 @@ next_grows space target value part following old new g = record {
 }
 
 pub own_grows :
-    (part : Result ((Unit {0} × Copied) × List ℕ) ModuleError) (following : List ℕ) (old new : Gatherer) → GathersOwn part following old new → Grows old new
-own_grows part following old new g =
+    (declares : Bool) (part : Result ((Unit {0} × Copied) × List ℕ) ModuleError) (following : List ℕ) (old new : Gatherer) → GathersOwn declares part following old new → Grows old new
+own_grows declares part following old new g =
     record { finds = λ none. g.finds; counts = g.counts; edges = (edges_from 0 g.refers.numbers, g.refers.edges) }
 
 pub body_grows : (func end : ℕ) (text : List ℕ) (old new : Gatherer) → GathersBody func end text old new → Grows old new
@@ -92,12 +92,12 @@ body_grows func end text old new g =
     record { finds = λ none. g.finds; counts = g.counts; edges = (edges_from g.number g.refers.numbers, g.refers.edges) }
 
 defined_if_grows : (space : Option Space) (end : ℕ) (old new : Gatherer × List ℕ) → GathersDefinedIf space end old new → Grows old.0 new.0
-defined_if_grows (Some space) end old new g = next_grows space g.0 tt _ new.1 old.0 new.0 g.3
+defined_if_grows (Some space) end old new g = next_grows space g.0 true tt _ new.1 old.0 new.0 g.3
 defined_if_grows None end old new g = grows_none old.0 new.0 (ap (λ (s : Gatherer × List ℕ). s.0) g)
 
 pub item_grows : (k : SectionKind) (end : ℕ) (old new : Gatherer × List ℕ) → GathersItem k end old new → Grows old.0 new.0
-item_grows kind.Import end old new g = next_grows g.0 None g.0 _ new.1 old.0 new.0 g.1
-item_grows kind.Export end old new g = own_grows _ new.1 old.0 new.0 g
+item_grows kind.Import end old new g = next_grows g.0 None false g.0 _ new.1 old.0 new.0 g.1
+item_grows kind.Export end old new g = own_grows true _ new.1 old.0 new.0 g
 item_grows kind.Custom end old new g = defined_if_grows None end old new g
 item_grows kind.Type end old new g = defined_if_grows None end old new g
 item_grows kind.Start end old new g = defined_if_grows None end old new g
@@ -122,7 +122,7 @@ pub type_grows : (first end : ℕ) (old new : Gatherer × List ℕ) → GathersT
 type_grows first end old new g =
     let to = g.grouped.1 in
     let from = g.grouped.2 in
-    let own = next_grows _ None tt _ new.1 old.0 g.own g.gathers in
+    let own = next_grows _ None false tt _ new.1 old.0 g.own g.gathers in
     record {
       finds = λ none. ap (λ (h : Gatherer). h.copier.left) g.same ∙ g.gathers.finds;
       counts = g.counts;
@@ -168,7 +168,7 @@ contents_grow kind.Custom end text old new g = grows_none old new g
 contents_grow kind.DataCount end text old new g = grows_none old new g
 contents_grow kind.Type end text old new g = types_grow end text old new g
 contents_grow kind.Code end text old new g = bodies_grow old.imported end text old new g
-contents_grow kind.Start end text old new g = own_grows _ g.0 old new g.1
+contents_grow kind.Start end text old new g = own_grows false _ g.0 old new g.1
 contents_grow kind.Import end text old new g = vector_grows (GathersItem kind.Import) (item_grows kind.Import) end text old new g
 contents_grow kind.Export end text old new g = vector_grows (GathersItem kind.Export) (item_grows kind.Export) end text old new g
 contents_grow kind.Function end text old new g = vector_grows (GathersItem kind.Function) (item_grows kind.Function) end text old new g
@@ -178,3 +178,8 @@ contents_grow kind.Tag end text old new g = vector_grows (GathersItem kind.Tag) 
 contents_grow kind.Global end text old new g = vector_grows (GathersItem kind.Global) (item_grows kind.Global) end text old new g
 contents_grow kind.Element end text old new g = vector_grows (GathersItem kind.Element) (item_grows kind.Element) end text old new g
 contents_grow kind.Data end text old new g = vector_grows (GathersItem kind.Data) (item_grows kind.Data) end text old new g
+
+pub sections_grow : (bytes : List ℕ) (old new : Gatherer) → ThroughSections GathersContents bytes old new → Grows old new
+sections_grow bytes old new g =
+    all_grow {A = ℕ × List ℕ} (OverSection GathersContents (length bytes)) (λ a b step. contents_grow step.0 _ step.1 a.0 b.0 step.3) g.1 (old, (0, g.0))
+    (new, (g.2, [])) g.4

@@ -25,10 +25,10 @@ use Rattle.wasm_sections.specs.declared.fault.ModuleFault.TheVariants as fault
 use Rattle.wasm_sections.specs.Format.{value_part, operator_part, is_end_opcode, after_table_mark, is_packed_byte, has_supertypes}
 use Rattle.wasm_sections.specs.Parts.{Part, checked, number, fault_here}
 use Rattle.module_removal.specs.declared.item.Item.{Item}
+use Rattle.module_removal.specs.LeftSpaces.{own_index}
 use Rattle.module_removal.specs.CopiedParts.{Copied, writes, names_item, copied_both, CopiedPart, nothing, puts, ◌>+>◌, with_other_value, times, copied_byte, copied_number, copied_bytes, copied_vector, NewIndices, item_at, named_item, copied_item, copied_index, new_heap, new_type, written_type, copied_value, copied_limits}
 use Rattle.module_removal.specs.CopiedConstants.{with_extent, after_bytes, before_bytes, copied_heap, copied_operation, copied_if_constant, copied_operator, copied_operators, copied_constant}
 use Rattle.module_removal.specs.CopiedItems.{passed_byte, copied_table_type, copied_initialized, copied_table_after, copied_table, copied_global_type, copied_global, copied_tag, copied_kind, copied_imported, copied_import, copied_export, copied_first, copied_target, copied_active, copied_place, copied_element_kind, copied_element_type, copied_elements, copied_typed_elements, copied_element, copied_data, copied_storage, copied_field, copied_function_type, copied_composite_kind, copied_composite_of, copied_composite_after, copied_composite, copied_supertypes, copied_derived, copied_subtype, copied_defined}
-use Rattle.module_removal.specs.Gathered.{own_index}
 use Rattle.module_removal.specs.LeftLaws.{HaveIndices, IsCopied, ItemsAreCopied}
 
 abbrev Read : Type 0 → Type 0

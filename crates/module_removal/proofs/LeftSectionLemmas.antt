@@ -13,6 +13,8 @@ use Rattle.wasm_sections.specs.Sections.{preamble, section_id, section_at, Secti
 use Rattle.module_removal.specs.declared.writing.Writer.{Writer}
 use Rattle.module_removal.specs.Written.{task_of}
 use Rattle.module_removal.specs.LeftSections.{section_of, HasNoItems, WritesBytes, WritesItems, WritesSegmentsUnless, WritesSegmentsIf, WritesContents, WritesSection, names_names, follows_code, BecomesCustom, WritesCustom, WritesAnySection, WritesSections}
+use Rattle.module_removal.specs.Refusals.{WritesWhole}
+use Rattle.module_removal.proofs.SectionStepLemmas.{SectionsPassed, no_section_passed, one_more_passed}
 
 pub ok_then : {X Y : Type 0} (r : Result (Unit {0}) ModuleError) → OnOk r X → (X → Y) → OnOk r Y
 ok_then (Ok u) x f = f x
@@ -93,7 +95,7 @@ is_name name e = sym ((bytes_eq-Decides name (codes "name")).0 e)
 pub custom_becomes :
     (s : SectionAt) (old new : Writer) (name following : List ℕ) → name_part s.end s.contents ≡ Ok (name, following) → names_object name ≡ false →
     (is_debug is_followed : Bool) → names_debug name ≡ is_debug → follows_code name ≡ is_followed → (bytes : List ℕ) →
-    BecomesCustom is_debug is_followed name s.whole bytes → WritesBytes bytes old new → WritesCustom s old new
+    BecomesCustom is_debug is_followed old.remainder.now.left old.code.now s.end following name s.whole bytes → WritesBytes bytes old new → WritesCustom s old new
 custom_becomes s old new name following begins linked is_debug is_followed d f bytes becomes w = record {
   name = name;
   following = following;
@@ -101,8 +103,8 @@ custom_becomes s old new name following begins linked is_debug is_followed d f b
   is_linked = linked;
   bytes = bytes;
   becomes =
-      subst (λ (b : Bool). BecomesCustom b (follows_code name) name s.whole bytes) (sym d)
-      (subst (λ (b : Bool). BecomesCustom is_debug b name s.whole bytes) (sym f) becomes);
+      subst (λ (b : Bool). BecomesCustom b (follows_code name) old.remainder.now.left old.code.now s.end following name s.whole bytes) (sym d)
+      (subst (λ (b : Bool). BecomesCustom is_debug b old.remainder.now.left old.code.now s.end following name s.whole bytes) (sym f) becomes);
   writes = w;
 }
 
@@ -114,12 +116,16 @@ pub record SectionsToWrite (file : List ℕ) (start : Writer) (s : Sections) (no
       (left : List SectionAt) (new : Writer) → AreSections s.left.end s.left.rest.now left → WritesSections left now new
       → (all : List SectionAt) × IsModule file all × WritesSections all start new
   pub none : HasNoItems now
+  pub passed : SectionsPassed WritesWhole file start now s
 
 pub no_section_written :
-    (file : List ℕ) (start : Writer) (s : Sections) → file ≡ preamble ++ s.left.rest.now → s.left.end ≡ length file → HasNoItems start →
-    SectionsToWrite file start s start
-no_section_written file start s e f none =
-    record { after = λ left new are w. (left, (s.left.rest.now, e, subst (λ (n : ℕ). AreSections n s.left.rest.now left) f are), w); none = none }
+    (file : List ℕ) (start : Writer) (s : Sections) → file ≡ preamble ++ s.left.rest.now → s.left.end ≡ length file → s.rank ≡ 0 →
+    HasNoItems start → SectionsToWrite file start s start
+no_section_written file start s e f rank none = record {
+  after = λ left new are w. (left, (s.left.rest.now, e, subst (λ (n : ℕ). AreSections n s.left.rest.now left) f are), w);
+  none = none;
+  passed = no_section_passed WritesWhole file start s s e f rank refl;
+}
 
 module _ (file : List ℕ) (start : Writer) (s t : Sections) (now : Writer) (left : SectionsToWrite file start s now) where
   pub one_more_written :
@@ -129,6 +135,7 @@ module _ (file : List ℕ) (start : Writer) (s t : Sections) (now : Writer) (lef
         left.after (section_at x ∷ rest) new (t.left.rest.now, takes.0, subst (λ (n : ℕ). AreSections n t.left.rest.now rest) takes.1 are)
         (next, x.kind, refl, w, ws);
     none = after_any_section x.kind (section_at x) now next w;
+    passed = one_more_passed WritesWhole file start now next s t x left.passed takes (x.whole.now, w);
   }
 
   pub all_written :

@@ -10,8 +10,16 @@ pub mod OperatorCopies
 -- items that operators name; what is gathered of an item
 pub mod NamedLemmas
 pub mod GatherLemmas
+-- parts of a vector, in a loop
+pub mod VectorLemmas
+-- parts of functions with new numbers
+pub mod FollowedLemmas
+pub mod OrderLemmas
+-- functions that have to be declared
+pub mod DeclaringLemmas
 -- steps, one after the other
 pub mod SeveralStepsLemmas
+pub mod SectionStepLemmas
 -- what is gathered grows; of the items of a section, and of all sections
 pub mod GrowthLemmas
 pub mod GatherStepLemmas
@@ -25,3 +33,5 @@ pub mod GatheredCopies
 pub mod WritingLemmas
 -- what is written for a section, and for a module
 pub mod LeftSectionLemmas
+-- why items aren't written
+pub mod RefusalLemmas

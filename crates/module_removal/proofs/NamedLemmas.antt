@@ -4,8 +4,11 @@ use Rattle.std.proofs.lemmas.List.{append-nil}
 use Rattle.wasm_operators.specs.Operations.{CatchClause, RawOperation}
 use Rattle.wasm_sections.specs.Format.{operator_part}
 use Rattle.module_removal.specs.declared.copier.Copier.{Copier}
+use Rattle.module_removal.specs.declared.declared.Named.{Named}
+use Rattle.module_removal.specs.declared.declared.Taken.{Taken}
 use Rattle.module_removal.specs.declared.item.Item.{Item}
 use Rattle.module_removal.specs.CopiedParts.{AppendsCopied}
+use Rattle.module_removal.specs.Declaring.{taken_in_body, TakesFunctions}
 use Rattle.module_removal.specs.NamedItems.{finds, named_by_tag, named_by_clauses, named_by, OperatorsThen}
 use Rattle.module_removal.proofs.CopyLemmas.{appends_both}
 
@@ -45,24 +48,34 @@ one_more_operator_then :
 one_more_operator_then end text rest next [] o p e = (next, ap (operator_part end) p ∙ e, refl)
 one_more_operator_then end text rest next (first ∷ os) o p e = (p.0, p.1, one_more_operator_then end p.0 rest next os o p.2 e)
 
-named_more : (os : List RawOperation) (o : RawOperation) → flat_map named_by (os ++ o ∷ []) ≡ flat_map named_by os ++ named_by o
-named_more [] o = append-nil (named_by o)
-named_more (first ∷ os) o =
-    ap (λ (l : List Item). named_by first ++ l) (named_more os o) ∙ sym (append_assoc (named_by first) (flat_map named_by os) (named_by o))
+flat_more : {A B : Type 0} (f : A → List B) (xs : List A) (x : A) → flat_map f (xs ++ x ∷ []) ≡ flat_map f xs ++ f x
+flat_more f [] x = append-nil (f x)
+flat_more {B = B} f (first ∷ xs) x = ap (λ (l : List B). f first ++ l) (flat_more f xs x) ∙ sym (append_assoc (f first) (flat_map f xs) (f x))
 
--- what some operators name was found
-pub record SomeNamed (end : ℕ) (text rest : List ℕ) (old now : Copier) : Type 0 where
+takes_both : (a b : List Named) (old mid new : Taken) → TakesFunctions a old mid → TakesFunctions b mid new → TakesFunctions (a ++ b) old new
+takes_both a b old mid new p q = record {
+  in_bodies = q.in_bodies ∙ ap (λ (l : List Named). l ++ b) p.in_bodies ∙ append_assoc old.in_bodies.items a b;
+  outside = q.outside ∙ p.outside;
+}
+
+-- what some operators name was found, and the functions to which they refer are taken
+pub record SomeNamed (func end : ℕ) (text rest : List ℕ) (old now : Copier × Taken) : Type 0 where
   pub operators : List RawOperation
   pub are : OperatorsThen end text operators rest
-  pub appends : AppendsCopied old (finds (flat_map named_by operators)) now
+  pub appends : AppendsCopied old.0 (finds (flat_map named_by operators)) now.0
+  pub takes : TakesFunctions (flat_map (taken_in_body func) operators) old.1 now.1
 
 pub one_more_named :
-    (end other : ℕ) (text rest next : List ℕ) (o : RawOperation) (old now new : Copier) → SomeNamed end text rest old now → other ≡ end →
-    operator_part other rest ≡ Ok (o, next) → AppendsCopied now (finds (named_by o)) new → SomeNamed end text next old new
-one_more_named end other text rest next o old now new p s e a = record {
+    (func end other : ℕ) (text rest next : List ℕ) (o : RawOperation) (old now new : Copier × Taken) → SomeNamed func end text rest old now → other ≡ end →
+    operator_part other rest ≡ Ok (o, next) → AppendsCopied now.0 (finds (named_by o)) new.0 → TakesFunctions (taken_in_body func o) now.1 new.1 →
+    SomeNamed func end text next old new
+one_more_named func end other text rest next o old now new p s e a t = record {
   operators = p.operators ++ o ∷ [];
   are = one_more_operator_then end text rest next p.operators o p.are (ap (λ (n : ℕ). operator_part n rest) (sym s) ∙ e);
   appends =
-      subst (λ (l : List Item). AppendsCopied old (finds l) new) (sym (named_more p.operators o))
-      (finds_both old now new (flat_map named_by p.operators) (named_by o) p.appends a);
+      subst (λ (l : List Item). AppendsCopied old.0 (finds l) new.0) (sym (flat_more named_by p.operators o))
+      (finds_both old.0 now.0 new.0 (flat_map named_by p.operators) (named_by o) p.appends a);
+  takes =
+      subst (λ (l : List Named). TakesFunctions l old.1 new.1) (sym (flat_more (taken_in_body func) p.operators o))
+      (takes_both (flat_map (taken_in_body func) p.operators) (taken_in_body func o) old.1 now.1 new.1 p.takes t);
 }

@@ -16,19 +16,17 @@ use Rattle.module_removal.specs.declared.item.Item.{Item}
 use Rattle.module_removal.specs.declared.item.ItemCounts.{ItemCounts}
 use Rattle.module_removal.specs.declared.gathering.Gatherer.{Gatherer}
 use Rattle.module_removal.specs.declared.references.References.{References}
-use Rattle.module_removal.specs.LeftSpaces.{index_written}
+use Rattle.module_removal.specs.LeftSpaces.{own_index}
 use Rattle.module_removal.specs.ItemNumbers.{count_of, all_numbers, number_of_item, with_more_items}
-use Rattle.module_removal.specs.CopiedParts.{Copied, NewIndices, item_at, copied_index}
+use Rattle.module_removal.specs.CopiedParts.{Copied, item_at, copied_index}
 use Rattle.module_removal.specs.CopiedItems.{copied_locals, copied_import, copied_export, copied_defined, copied_subtype}
+use Rattle.module_removal.specs.Counting.{AreCountsOf}
+use Rattle.module_removal.specs.Declaring.{taken_in_body, TakesFunctions, NamesFunctions, functions_if}
 use Rattle.module_removal.specs.NamedItems.{named_by, OperatorsThen}
 use Rattle.module_removal.specs.Edges.{RefersTo, ItemRefersTo, ReferToEachOther}
 use Rattle.module_removal.specs.SeveralSteps.{SoManySteps}
 use Rattle.module_removal.specs.ModuleSteps.{PartStep, ThroughVector, ThroughGroup, ThroughBodies, ContentsStep, ThroughSections}
 use Rattle.module_removal.specs.Written.{section_space}
-
--- each item has its own index
-abbrev pub own_index : NewIndices
-own_index = index_written None
 
 -- ---- active segments
 
@@ -62,14 +60,15 @@ IsActivated c segment (Some target) es =
 -- Such an edge is added.
 pub record Activates (segment : ℕ) (target : Option Item) (old new : References) : Type 0 where
   pub counts : new.counts ≡ old.counts
+  pub taken : new.taken ≡ old.taken
   pub edges : segment < all_numbers old.counts →
       (es : List (ℕ × ℕ)) × IsActivated old.counts segment target es × (edges_of new.graph ≡ edges_of old.graph ++ es)
 
 -- ---- items
 
 -- The part that is the next item of a space is read, with this value; from its number there are edges to all that it names, after the
--- edge of an active segment.
-pub record GathersNext {A : Type 0} (space : Space) (target : Option Item) (value : A) (part : Result ((A × Copied) × List ℕ) ModuleError)
+-- edge of an active segment. It may declare functions.
+pub record GathersNext {A : Type 0} (space : Space) (target : Option Item) (declares : Bool) (value : A) (part : Result ((A × Copied) × List ℕ) ModuleError)
     (following : List ℕ) (old new : Gatherer) : Type 0 where
   pub number : ℕ
   pub number_is : number_of_item old.references.counts (item_at space (count_of old.next space)) ≡ Some number
@@ -82,9 +81,10 @@ pub record GathersNext {A : Type 0} (space : Space) (target : Option Item) (valu
   pub is_active : IsActivated old.references.counts number target active
   pub refers :
       RefersTo old.references.counts number copied.named (edges_of old.references.graph ++ active) (edges_of new.references.graph)
+  pub declared : NamesFunctions (functions_if declares number copied.named) old.references.taken new.references.taken
 
--- The part is read, and from the module itself there are edges to all that it names.
-pub record GathersOwn (part : Result ((Unit {0} × Copied) × List ℕ) ModuleError) (following : List ℕ) (old new : Gatherer) : Type 0 where
+-- The part is read, and from the module itself there are edges to all that it names. It may declare functions.
+pub record GathersOwn (declares : Bool) (part : Result ((Unit {0} × Copied) × List ℕ) ModuleError) (following : List ℕ) (old new : Gatherer) : Type 0 where
   pub next : new.next ≡ old.next
   pub imported : new.imported ≡ old.imported
   pub counts : new.references.counts ≡ old.references.counts
@@ -92,9 +92,10 @@ pub record GathersOwn (part : Result ((Unit {0} × Copied) × List ℕ) ModuleEr
   pub copied : Copied
   pub read : part ≡ Ok ((tt, copied), following)
   pub refers : RefersTo old.references.counts 0 copied.named (edges_of old.references.graph) (edges_of new.references.graph)
+  pub declared : NamesFunctions (functions_if declares 0 copied.named) old.references.taken new.references.taken
 
 -- The body of a function, whose text ends at this place, is read: from the function there are edges to all that the types of its locals
--- and its operators name.
+-- and its operators name, and it takes the functions to which these refer.
 pub record GathersBody (func end : ℕ) (text : List ℕ) (old new : Gatherer) : Type 0 where
   pub next : new.next ≡ old.next
   pub imported : new.imported ≡ old.imported
@@ -110,19 +111,20 @@ pub record GathersBody (func end : ℕ) (text : List ℕ) (old new : Gatherer) :
   pub refers :
       RefersTo old.references.counts number (locals.named ++ flat_map named_by operators) (edges_of old.references.graph)
       (edges_of new.references.graph)
+  pub taken : TakesFunctions (flat_map (taken_in_body func) operators) old.references.taken new.references.taken
 
 -- ---- the items of a section: steps, each from what was gathered and the bytes that are left
 
 -- An import is the next item of its space. The number of imported functions is that of the functions so far.
 abbrev pub GathersImport : PartStep Gatherer
 GathersImport end old new =
-    (space : Space) × GathersNext space None space (copied_import own_index end old.1) new.1 old.0 new.0 × (new.0.imported ≡ new.0.next.funcs)
+    (space : Space) × GathersNext space None false space (copied_import own_index end old.1) new.1 old.0 new.0 × (new.0.imported ≡ new.0.next.funcs)
 
 -- an item of this space that the module defines
 abbrev pub GathersDefined : Space → PartStep Gatherer
 GathersDefined space end old new =
     (target : Option Item) × (following : List ℕ) × (defined_target space end old.1 ≡ Ok (target, following))
-    × GathersNext space target tt (copied_defined own_index space end old.1) new.1 old.0 new.0 × (new.0.imported ≡ old.0.imported)
+    × GathersNext space target true tt (copied_defined own_index space end old.1) new.1 old.0 new.0 × (new.0.imported ≡ old.0.imported)
 
 -- nothing of a section that has no items
 abbrev pub GathersDefinedIf : Option Space → PartStep Gatherer
@@ -132,7 +134,7 @@ GathersDefinedIf None end old new = new ≡ old
 -- an item of a section of this kind
 abbrev pub GathersItem : SectionKind → PartStep Gatherer
 GathersItem kind.Import end old new = GathersImport end old new
-GathersItem kind.Export end old new = GathersOwn (copied_export own_index end old.1) new.1 old.0 new.0
+GathersItem kind.Export end old new = GathersOwn true (copied_export own_index end old.1) new.1 old.0 new.0
 GathersItem k end old new = GathersDefinedIf (section_space k) end old new
 
 -- ---- types
@@ -140,10 +142,11 @@ GathersItem k end old new = GathersDefinedIf (section_space k) end old new
 -- The next type is one of a recursive group with this first type: the two refer to each other.
 pub record GathersType (first end : ℕ) (old new : Gatherer × List ℕ) : Type 0 where
   pub own : Gatherer
-  pub gathers : GathersNext Types None tt (copied_subtype own_index end old.1) new.1 old.0 own
+  pub gathers : GathersNext Types None false tt (copied_subtype own_index end old.1) new.1 old.0 own
   pub imported : own.imported ≡ old.0.imported
   pub same : new.0 ≡ record own { references = new.0.references }
   pub counts : new.0.references.counts ≡ old.0.references.counts
+  pub taken : new.0.references.taken ≡ own.references.taken
   pub grouped :
       ReferToEachOther old.0.references.counts (item_at Types first) (item_at Types old.0.next.types) (edges_of own.references.graph)
       (edges_of new.0.references.graph)
@@ -171,6 +174,7 @@ ReferToAlike types c old new = SoManySteps (RefersToAlike types c) c.types (0, o
 pub record GathersAlike (end : ℕ) (text : List ℕ) (old new : Gatherer) : Type 0 where
   pub same : new ≡ record old { references = new.references }
   pub counts : new.references.counts ≡ old.references.counts
+  pub taken : new.references.taken ≡ old.references.taken
   pub types : List ModuleType
   pub following : List ℕ
   pub read : types_part old.references.counts.types end text ≡ Ok (types, following)
@@ -183,7 +187,7 @@ GathersTypes end text old new = (mid : Gatherer) × ThroughVector GathersGroup e
 
 -- the module itself refers to the start function
 abbrev pub GathersStart : (end : ℕ) → (text : List ℕ) → (old new : Gatherer) → Type 0
-GathersStart end text old new = (following : List ℕ) × GathersOwn (copied_index own_index Funcs end text) following old new
+GathersStart end text old new = (following : List ℕ) × GathersOwn false (copied_index own_index Funcs end text) following old new
 
 -- the contents of a section of this kind; the first body is that of the first function that isn't imported
 abbrev pub GathersContents : ContentsStep Gatherer
@@ -200,7 +204,11 @@ pub record BeginsGathering (g : Gatherer) : Type 0 where
   pub imported : g.imported ≡ 0
   pub finds : g.copier.left ≡ None
   pub edges : edges_of g.references.graph ≡ []
+  pub in_bodies : g.references.taken.in_bodies.items ≡ []
+  pub outside : g.references.taken.outside.items ≡ []
 
--- The references are those of the items of a module with these bytes.
+-- The references are those of the items of a module with these bytes, and so are the counts.
 abbrev pub AreReferencesOf : (bytes : List ℕ) → References → Type 0
-AreReferencesOf bytes r = (old : Gatherer) × (new : Gatherer) × BeginsGathering old × ThroughSections GathersContents bytes old new × (r ≡ new.references)
+AreReferencesOf bytes r =
+    (old : Gatherer) × (new : Gatherer) × BeginsGathering old × ThroughSections GathersContents bytes old new × (r ≡ new.references)
+    × AreCountsOf bytes r.counts

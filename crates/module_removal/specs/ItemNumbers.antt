@@ -56,6 +56,10 @@ with_more_items Tags n c = record c { tags = counted_more c.tags n }
 with_more_items Elements n c = record c { elements = counted_more c.elements n }
 with_more_items Data n c = record c { «data» = counted_more c.«data» n }
 
+-- no items of any space
+abbrev pub no_items_counted : ItemCounts
+no_items_counted = record { types = 0; funcs = 0; tables = 0; memories = 0; globals = 0; tags = 0; elements = 0; «data» = 0 }
+
 -- These marks of the items of a space, in order, are those among the marks of all numbers; a number without a mark has none that is set.
 pub record AreMarksOf (c : ItemCounts) (marks : List Bool) (space : Space) (own : List Bool) : Type 0 where
   pub count : length own ≡ count_of c space

@@ -14,12 +14,12 @@ use Rattle.module_removal.specs.declared.item.ItemCounts.{ItemCounts}
 use Rattle.module_removal.specs.declared.left.LeftItems.{LeftItems}
 use Rattle.module_removal.specs.declared.references.References.{References}
 use Rattle.module_removal.specs.ItemNumbers.{count_of, all_numbers, with_more_items}
-use Rattle.module_removal.specs.LeftSpaces.{marks_of, index_of, AreMarked}
+use Rattle.module_removal.specs.LeftSpaces.{own_index, marks_of, index_of, AreMarked}
 use Rattle.module_removal.specs.CopiedParts.{Copied, CopiedPart, NewIndices, copied_index}
 use Rattle.module_removal.specs.CopiedItems.{copied_import, copied_export, copied_defined, copied_subtype, copied_locals}
 use Rattle.module_removal.specs.NamedItems.{named_by, OperatorsThen}
 use Rattle.module_removal.specs.Edges.{RefersTo}
-use Rattle.module_removal.specs.Gathered.{own_index, AreReferencesOf}
+use Rattle.module_removal.specs.Gathered.{AreReferencesOf}
 use Rattle.module_removal.specs.ModuleSteps.{PartStep, ThroughVector, ThroughGroup, BodyStep, ThroughBodies, ContentsStep, ThroughSections}
 use Rattle.module_removal.specs.Written.{section_space}
 

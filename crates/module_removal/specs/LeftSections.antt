@@ -14,15 +14,16 @@ use Rattle.wasm_sections.specs.Format.{name_part}
 use Rattle.wasm_sections.specs.Omissions.{names_debug, names_object}
 use Rattle.wasm_sections.specs.Sections.{preamble, section, rank, section_id, SectionAt, IsModule}
 use Rattle.module_removal.specs.declared.code.LeftCode.{LeftCode}
-use Rattle.module_removal.specs.declared.item.ItemCounts.{ItemCounts}
 use Rattle.module_removal.specs.declared.left.LeftItems.{LeftItems}
 use Rattle.module_removal.specs.declared.remainder.Remainder.{Remainder}
 use Rattle.module_removal.specs.declared.writing.Writer.{Writer}
 use Rattle.module_removal.specs.SeveralSteps.{SoManySteps}
-use Rattle.module_removal.specs.ItemNumbers.{counted_more}
+use Rattle.module_removal.specs.ItemNumbers.{counted_more, no_items_counted}
 use Rattle.module_removal.specs.LeftSpaces.{marks_of, index_of, index_written}
 use Rattle.module_removal.specs.CopiedParts.{Copied, item_at, copied_index}
 use Rattle.module_removal.specs.CopiedItems.{copied_defined}
+use Rattle.module_removal.specs.LeftNames.{AreLeftNames}
+use Rattle.module_removal.specs.LeftParts.{ArePartsInOrder, LeavesParts}
 use Rattle.module_removal.specs.Written.{task_of, section_space, data_count_section, WritesNextItem, WritesImport, WritesExport, WritesGroup}
 
 -- ---- the bytes of a section
@@ -141,16 +142,25 @@ names_names name = bytes_eq name (codes "name")
 abbrev pub follows_code : (name : List ℕ) → Bool
 follows_code name = names_names name || names_metadata name
 
--- The bytes are a custom section with this name.
-abbrev pub IsCustomNamed : (name bytes : List ℕ) → Type 0
-IsCustomNamed name bytes = (contents : List ℕ) × (bytes ≡ section 0 (entry name ++ contents))
+-- What is left of metadata of operators, while the parts of functions are in order, as `LeftCode` has them.
+abbrev pub LeavesMetadata : LeftItems → LeftCode → (end : ℕ) → (text new : List ℕ) → Type 0
+LeavesMetadata left code end text new = ArePartsInOrder code.operators.parts.items → LeavesParts left code.operators.parts.items end text new
 
--- What becomes of a custom section with this name: nothing of debug information; one with the same name, if it follows the code; or the
--- same bytes.
-abbrev pub BecomesCustom : (is_debug is_followed : Bool) → (name whole bytes : List ℕ) → Type 0
-BecomesCustom true is_followed name whole bytes = bytes ≡ []
-BecomesCustom false true name whole bytes = IsCustomNamed name bytes
-BecomesCustom false false name whole bytes = bytes ≡ whole
+-- What is left of the text, after its name, of a section that follows the code: of names, or of metadata.
+abbrev pub LeavesFollowed : (are_names : Bool) → LeftItems → LeftCode → (end : ℕ) → (text new : List ℕ) → Type 0
+LeavesFollowed true left code end text new = AreLeftNames left code end text new
+LeavesFollowed false left code end text new = LeavesMetadata left code end text new
+
+-- The bytes are a custom section with this name, and with what is left.
+abbrev pub IsLeftCustom : LeftItems → LeftCode → (end : ℕ) → (text name bytes : List ℕ) → Type 0
+IsLeftCustom left code end text name bytes =
+    (new : List ℕ) × LeavesFollowed (names_names name) left code end text new × (bytes ≡ section 0 (entry name ++ new))
+
+-- What becomes of a custom section with this name: nothing of debug information; what is left, if it follows the code; or the same bytes.
+abbrev pub BecomesCustom : (is_debug is_followed : Bool) → LeftItems → LeftCode → (end : ℕ) → (text name whole bytes : List ℕ) → Type 0
+BecomesCustom true is_followed left code end text name whole bytes = bytes ≡ []
+BecomesCustom false true left code end text name whole bytes = IsLeftCustom left code end text name bytes
+BecomesCustom false false left code end text name whole bytes = bytes ≡ whole
 
 -- A linked module has no custom section that only an object file has.
 pub record WritesCustom (s : SectionAt) (old new : Writer) : Type 0 where
@@ -159,7 +169,7 @@ pub record WritesCustom (s : SectionAt) (old new : Writer) : Type 0 where
   pub begins : name_part s.end s.contents ≡ Ok (name, following)
   pub is_linked : names_object name ≡ false
   pub bytes : List ℕ
-  pub becomes : BecomesCustom (names_debug name) (follows_code name) name s.whole bytes
+  pub becomes : BecomesCustom (names_debug name) (follows_code name) old.remainder.now.left old.code.now s.end following name s.whole bytes
   pub writes : WritesBytes bytes old new
 
 -- ---- modules
@@ -179,10 +189,6 @@ abbrev pub WritesModule : (file : List ℕ) → (old new : Writer) → Type 0
 WritesModule file old new =
     (sections : List SectionAt) × IsModule file sections × (begun : Writer) × (begun.out.items ≡ old.out.items ++ preamble)
     × (begun ≡ record old { out = begun.out }) × WritesSections sections begun new
-
--- no items of any space
-abbrev pub no_items_counted : ItemCounts
-no_items_counted = record { types = 0; funcs = 0; tables = 0; memories = 0; globals = 0; tags = 0; elements = 0; «data» = 0 }
 
 -- Nothing is written yet, and no item was passed.
 pub record BeginsToWrite (remainder : Remainder) (code : LeftCode) (w : Writer) : Type 0 where

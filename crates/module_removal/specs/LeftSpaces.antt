@@ -29,6 +29,10 @@ abbrev pub index_written : Option (Bor LeftItems) → Item → Option ℕ
 index_written None item = Some item.index
 index_written (Some l) item = index_of l.now item
 
+-- each item has its own index
+abbrev pub own_index : Item → Option ℕ
+own_index = index_written None
+
 -- the marks of each space after those of one were set
 abbrev pub marks_set : Space → List Bool → (Space → List Bool) → Space → List Bool
 marks_set Types own marks Types = own

@@ -16,7 +16,9 @@ use Rattle.wasm_sections.specs.declared.fault.ModuleFault.TheVariants as fault
 use Rattle.wasm_sections.specs.Format.{operator_part}
 use Rattle.module_removal.specs.declared.item.Item.{Item}
 use Rattle.module_removal.specs.declared.copier.Copier.{Copier}
+use Rattle.module_removal.specs.declared.declared.Taken.{Taken}
 use Rattle.module_removal.specs.CopiedParts.{Copied, item_at, AppendsCopied}
+use Rattle.module_removal.specs.Declaring.{taken_in_body, TakesFunctions}
 
 -- these items are named, and nothing is written
 abbrev pub finds : List Item → Copied
@@ -67,10 +69,12 @@ OperatorsThen end text [] following = text ≡ following
 OperatorsThen end text (o ∷ os) following =
     (rest : List ℕ) × (operator_part end text ≡ Ok (o, rest)) × OperatorsThen end rest os following
 
--- The text is operators, and what they name is found, in order; or, after some, this is the fault of the next one, unless memory ran out.
-abbrev pub FindsOperators : (old new : Copier) → Result (Unit {0}) ModuleError → (end : ℕ) → (text : List ℕ) → Type 0
-FindsOperators old new (Ok u) end text =
-    (os : List RawOperation) × OperatorsThen end text os [] × AppendsCopied old (finds (flat_map named_by os)) new
-FindsOperators old new (Err e) end text =
+-- The text is operators; what they name is found, in order, and the functions of which they take references are taken in the body of this
+-- one. Or, after some, this is the fault of the next one, unless memory ran out.
+abbrev pub FindsOperators : (func : ℕ) → (old new : Copier × Taken) → Result (Unit {0}) ModuleError → (end : ℕ) → (text : List ℕ) → Type 0
+FindsOperators func old new (Ok u) end text =
+    (os : List RawOperation) × OperatorsThen end text os [] × AppendsCopied old.0 (finds (flat_map named_by os)) new.0
+    × TakesFunctions (flat_map (taken_in_body func) os) old.1 new.1
+FindsOperators func old new (Err e) end text =
     (e.fault ≡ fault.Memory)
     ⊎ ((os : List RawOperation) × (rest : List ℕ) × OperatorsThen end text os rest × (operator_part end rest ≡ Err e))

@@ -1,6 +1,7 @@
 //! The code of what is left.
 
-ghost use Rattle.std.specs.Prelude.{◌≡◌};
+ghost use Rattle.std.specs.Prelude.{◌≡◌, OnOk};
+ghost use Rattle.module_removal.specs.LeftParts.{ArePartsInOrder};
 
 use crate::followed::{Followed, is_metadata};
 use crate::names::local_names;
@@ -24,7 +25,9 @@ pub struct LeftCode {
 
 /// Reads which operators have metadata, and which locals have names.
 fn read_followed(code: &mut LeftCode, bytes: &[u8]) -> Result<(), ModuleError>
-    ensures { code.new ≡ record code.old { operators = code.new.operators; locals = code.new.locals } }
+    ensures same { code.new ≡ record code.old { operators = code.new.operators; locals = code.new.locals } }
+    ensures operators { OnOk result (ArePartsInOrder code.new.operators.parts.items) }
+    ensures locals { OnOk result (ArePartsInOrder code.new.locals.parts.items) }
 {
     'sections: for section in done!(Sections::new(bytes)) {
         let section = done!(section);
@@ -49,6 +52,7 @@ impl LeftCode {
     ghost use Rattle.std.specs.Prelude.{◌≡◌, ◌++◌, [], OnOk, IfOk};
     ghost use Rattle.wasm_sections.specs.CodeSections.{entry};
     ghost use Rattle.module_removal.specs.ItemNumbers.{counted_more};
+    ghost use Rattle.module_removal.specs.LeftParts.{ArePartsInOrder};
 
     /// The code of a module with these bytes, of which no body is written.
     ///
@@ -58,6 +62,8 @@ impl LeftCode {
     pub fn new(alloc: Global, bytes: &[u8]) -> Result<LeftCode, ModuleError>
         ensures bodies { IfOk result (λ code. code.bodies.items ≡ []) }
         ensures count { IfOk result (λ code. code.count ≡ 0) }
+        ensures operators { IfOk result (λ code. ArePartsInOrder code.operators.parts.items) }
+        ensures locals { IfOk result (λ code. ArePartsInOrder code.locals.parts.items) }
     {
         let mut code = LeftCode {
             bodies: Vec::new(alloc),
@@ -83,7 +89,8 @@ impl LeftCode {
 
     /// Sets the new indices of the locals of a body, by their old ones.
     pub fn set_locals(&mut self, body: &Body<'_>, numbers: &IdHashMap<LocalId, u32>)
-        ensures { self.new ≡ record self.old { locals = self.new.locals } }
+        ensures same { self.new ≡ record self.old { locals = self.new.locals } }
+        ensures order { ArePartsInOrder self.old.locals.parts.items → ArePartsInOrder self.new.locals.parts.items }
     {
         self.locals.pass_locals(body.func, numbers);
     }
@@ -102,6 +109,8 @@ impl LeftCode {
     ) -> Result<(), ModuleError>
         ensures bodies { OnOk result (self.new.bodies.items ≡ self.old.bodies.items ++ entry raw.now) }
         ensures count { OnOk result (self.new.count ≡ counted_more self.old.count 1) }
+        ensures locals { self.new.locals ≡ self.old.locals }
+        ensures order { ArePartsInOrder self.old.operators.parts.items → ArePartsInOrder self.new.operators.parts.items }
     {
         self.operators
             .pass_operators(body.func, body.start(), pairs);

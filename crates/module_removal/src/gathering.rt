@@ -31,13 +31,14 @@ struct Gatherer<'m> {
 }
 
 impl<'m> Gatherer<'m> {
-    ghost use Rattle.std.specs.Prelude.{◌+◌, option_map, OnOk};
+    ghost use Rattle.std.specs.Prelude.{◌+◌, true, option_map, OnOk};
     ghost use Rattle.module_removal.specs.ItemNumbers.{count_of, with_more_items};
+    ghost use Rattle.module_removal.specs.LeftSpaces.{own_index};
     ghost use Rattle.module_removal.specs.CopiedParts.{item_at};
     ghost use Rattle.module_removal.specs.CopiedItems.{copied_export};
     ghost use Rattle.module_removal.specs.Edges.{AddsReferencesTo, IsNotThere};
     ghost use Rattle.module_removal.specs.SeveralSteps.{SoManySteps};
-    ghost use Rattle.module_removal.specs.Gathered.{own_index, item_of_active, Activates, GathersOwn, GathersImport, GathersDefined, GathersItem, GathersType, GathersGroup, GathersAlike, GathersTypes, GathersBody, GathersStart, GathersContents};
+    ghost use Rattle.module_removal.specs.Gathered.{item_of_active, Activates, GathersOwn, GathersImport, GathersDefined, GathersItem, GathersType, GathersGroup, GathersAlike, GathersTypes, GathersBody, GathersStart, GathersContents};
     ghost use Rattle.module_removal.specs.ModuleSteps.{ThroughVector, OverBody, ThroughBodies, ThroughSections};
 
     /// Adds references to what was found in an item, which begins at this place.
@@ -196,7 +197,7 @@ impl<'m> Gatherer<'m> {
     fn export(&mut self, input: &mut Input<'_>) -> Result<(), ModuleError>
         ensures same_end { input.new.end ≡ input.old.end }
         ensures is { self.old.copier.left ≡ None → OnOk result
-            (GathersOwn (copied_export own_index input.old.end input.old.rest.now) input.new.rest.now self.old self.new) }
+            (GathersOwn true (copied_export own_index input.old.end input.old.rest.now) input.new.rest.now self.old self.new) }
     {
         let at = input.at();
         self.copier.clear();
@@ -343,7 +344,7 @@ pub fn references_of(alloc: Global, bytes: &[u8]) -> Result<References, ModuleEr
             graph,
             taken: Taken::new(alloc),
         },
-        next: ItemCounts::default(),
+        next: ItemCounts::none(),
         imported: 0,
         sizes: LeastSizes::new(alloc),
         copier: Copier::finding(alloc),

@@ -50,8 +50,7 @@ pub const MODULE: u32 = 0;
 
 impl ItemCounts {
     ghost use Rattle.std.specs.Prelude.{◌≡◌, ◌-◌, ◌^◌, min};
-    ghost use Rattle.module_removal.specs.ItemNumbers.{count_of, first_number, all_numbers, number_of_item, with_more_items};
-    ghost use Rattle.module_removal.specs.LeftSections.{no_items_counted};
+    ghost use Rattle.module_removal.specs.ItemNumbers.{count_of, first_number, all_numbers, number_of_item, with_more_items, no_items_counted};
 
     /// No items.
     pub fn none() -> ItemCounts

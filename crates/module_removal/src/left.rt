@@ -29,7 +29,7 @@ pub struct LeftItems {
 }
 
 /// Whether this number has a mark that is set.
-fn is_set(marks: &[bool], number: usize) -> bool
+pub(crate) fn is_set(marks: &[bool], number: usize) -> bool
     ensures { result ≡ is_left marks.now number }
 {
     marks.get(number).copied().unwrap_or(false)

@@ -10,6 +10,7 @@ mod constants;
 mod copier;
 mod counting;
 mod declared;
+mod entries;
 mod followed;
 mod gathering;
 mod item;

@@ -1,5 +1,8 @@
 //! Operators of bodies, and the items that they name.
 
+ghost use Rattle.std.specs.Prelude.{◌≡◌};
+ghost use Rattle.module_removal.specs.Declaring.{function_referred};
+
 use crate::constants::read_operator;
 use crate::copier::Copier;
 use crate::declared::Taken;
@@ -18,7 +21,9 @@ const REF_FUNC: u8 = 0xd2;
 pub(crate) type Parts<'a> = Immediates<BrTable<'a>, CatchList<'a>>;
 
 /// The function that `ref.func` names; None of another operator.
-fn referred(opcode: Opcode, parts: &Parts<'_>) -> Option<u32> {
+fn referred(opcode: Opcode, parts: &Parts<'_>) -> Option<u32>
+    ensures { result ≡ function_referred opcode parts.now }
+{
     if opcode != Opcode::Byte(REF_FUNC) {
         return None;
     }
@@ -35,6 +40,7 @@ impl Copier<'_> {
     ghost use Rattle.module_removal.specs.CopiedParts.{names_item, item_at, AppendsCopied};
     ghost use Rattle.module_removal.specs.NamedItems.{finds, named_by_heap, named_by_type, named_by_block, named_by_tag, named_by_clauses, named_by_parts, named_by, FindsOperators};
     ghost use Rattle.wasm_operators.specs.Meaning.{meaning};
+    ghost use Rattle.module_removal.specs.Declaring.{taken_in_body, TakesFunctions};
 
     /// Finds the type that a heap type names, if it names one.
     fn find_heap(&mut self, ty: RawHeapType) -> Result<(), ModuleError>
@@ -181,16 +187,14 @@ impl Copier<'_> {
         func: u32,
     ) -> Result<(), ModuleError>
         ensures ok { OnOk result (AppendsCopied self.old (finds (named_by (meaning operator.now))) self.new) }
+        ensures taken { OnOk result (TakesFunctions (taken_in_body func (meaning operator.now)) taken.old taken.new) }
         ensures err { IfErr result (λ error. error.fault ≡ NoMemory) }
     {
         let (opcode, parts) = operator.parts();
-        if let Some(index) = referred(opcode, &parts) {
-            match taken.take(func, index) {
-                Ok(()) => {}
-                Err(error) => return Err(error),
-            }
+        match taken.take_if(func, referred(opcode, &parts)) {
+            Ok(()) => self.find_parts(&parts),
+            Err(error) => Err(error),
         }
-        self.find_parts(&parts)
     }
 
     /// Finds the items that the operators of the body of this function name, up to the end of the bytes.
@@ -200,7 +204,7 @@ impl Copier<'_> {
         taken: &mut Taken,
         func: u32,
     ) -> Result<(), ModuleError>
-        ensures { FindsOperators self.old self.new result input.entry.end input.entry.rest.now }
+        ensures { FindsOperators func (self.old, taken.old) (self.new, taken.new) result input.entry.end input.entry.rest.now }
     {
         'operators: while !input.is_empty() {
             let operator = match read_operator(&mut input) {

@@ -1,6 +1,6 @@
 //! The items of sections, copied.
 
-ghost use Rattle.std.specs.Prelude.{◌≡◌, option_map, Ok, IfOk, IfSome};
+ghost use Rattle.std.specs.Prelude.{◌≡◌, option_map, Ok, Err, IfOk, IfErr, IfSome};
 ghost use Rattle.wasm_operators.specs.Types.{row_at};
 ghost use Rattle.wasm_sections.specs.Format.{after_table_mark, export_rows, members_part};
 ghost use Rattle.module_removal.specs.CopiedItems.{begins_group};
@@ -488,6 +488,7 @@ pub(crate) fn group_members(input: &mut Input<'_>) -> Result<(u32, bool), Module
     ensures count { IfOk result
         (λ x. members_part input.old.end input.old.rest.now ≡ Ok (x.0, input.new.rest.now)) }
     ensures mark { IfOk result (λ x. x.1 ≡ begins_group input.old.rest.now) }
+    ensures err { IfErr result (λ error. members_part input.old.end input.old.rest.now ≡ Err error) }
 {
     if !matches!(input.rest(), [0x4e, ..]) {
         return Ok((1, false));

@@ -55,6 +55,7 @@ impl References {
     ghost use Rattle.wasm_sections.specs.declared.fault.ModuleFault.TheVariants.{Memory as NoMemory};
     ghost use Rattle.wasm_operators.specs.declared.types.Space.TheVariants.{Types as OfTypes};
     ghost use Rattle.module_removal.specs.CopiedParts.{item_at};
+    ghost use Rattle.module_removal.specs.Declaring.{functions_among, NamesFunctions};
     ghost use Rattle.module_removal.specs.Edges.{AddsReferencesTo, ItemRefersTo, IsNotThere, roots_of};
     ghost use Rattle.module_removal.specs.Gathered.{item_of_active, Activates, first_alike, TypeRefersTo, ReferToAlike};
 
@@ -115,6 +116,8 @@ impl References {
     pub(crate) fn declare_all(&mut self, number: u32, found: &[Item]) -> Result<(), ModuleError>
         ensures counts { self.new.counts ≡ self.old.counts }
         ensures graph { self.new.graph ≡ self.old.graph }
+        ensures taken { OnOk result (NamesFunctions (functions_among number found.now) self.old.taken self.new.taken) }
+        ensures err { IfErr result (λ error. error.fault ≡ NoMemory) }
     {
         self.taken.declare_all(number, found)
     }
@@ -160,6 +163,7 @@ impl References {
         at: usize,
     ) -> Result<(), ModuleError>
         ensures counts { self.new.counts ≡ self.old.counts }
+        ensures taken { self.new.taken ≡ self.old.taken }
         ensures edges { OnOk result (ItemRefersTo self.old.counts (item_at OfTypes from) (item_at OfTypes to)
             (edges_of self.old.graph) (edges_of self.new.graph)) }
     {
@@ -180,6 +184,7 @@ impl References {
         at: usize,
     ) -> Result<(), ModuleError>
         ensures counts { self.new.counts ≡ self.old.counts }
+        ensures taken { self.new.taken ≡ self.old.taken }
         ensures edges { OnOk result (TypeRefersTo self.old.counts index (first_alike alike.now.types index)
             (edges_of self.old.graph) (edges_of self.new.graph)) }
     {
@@ -193,6 +198,7 @@ impl References {
     /// type is written with that.
     pub(crate) fn refer_alike(&mut self, alike: &AlikeTypes, at: usize) -> Result<(), ModuleError>
         ensures counts { self.new.counts ≡ self.old.counts }
+        ensures taken { self.new.taken ≡ self.old.taken }
         ensures edges { OnOk result (ReferToAlike alike.now.types self.old.counts
             (edges_of self.old.graph) (edges_of self.new.graph)) }
     {

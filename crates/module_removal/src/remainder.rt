@@ -17,12 +17,19 @@ pub struct Remainder {
 }
 
 impl References {
+    ghost use Rattle.std.specs.Prelude.{◌≡◌, IfOk, IfErr};
+    ghost use Rattle.wasm_sections.specs.declared.fault.ModuleFault.TheVariants.{Memory as NoMemory};
+    ghost use Rattle.module_removal.specs.Remaining.{IsRemainder, IsReachedPart};
+
     /// What is left of the module if it consists of the items with a mark that is set, of one mark for each number.
     ///
     /// # Errors
     ///
     /// `Memory`.
-    pub fn remainder(&self, alloc: Global, marks: &[bool]) -> Result<Remainder, ModuleError> {
+    pub fn remainder(&self, alloc: Global, marks: &[bool]) -> Result<Remainder, ModuleError>
+        ensures ok { IfOk result (IsRemainder self.now marks.now) }
+        ensures err { IfErr result (λ error. error.fault ≡ NoMemory) }
+    {
         let undeclared = done!(self.taken.undeclared(alloc, &self.counts, marks));
         match LeftItems::of_marks(alloc, &self.counts, marks) {
             Ok(left) => Ok(Remainder { left, undeclared }),
@@ -36,7 +43,10 @@ impl References {
     /// # Errors
     ///
     /// `Memory`.
-    pub fn reached(&self, alloc: Global, roots: &[Item]) -> Result<Remainder, ModuleError> {
+    pub fn reached(&self, alloc: Global, roots: &[Item]) -> Result<Remainder, ModuleError>
+        ensures ok { IfOk result (IsReachedPart self.now roots.now) }
+        ensures err { IfErr result (λ error. error.fault ≡ NoMemory) }
+    {
         let marks = done!(self.reachable(alloc, roots));
         self.remainder(alloc, &marks)
     }

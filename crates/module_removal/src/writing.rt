@@ -1,6 +1,9 @@
 //! A module without the items that are removed.
 
-ghost use Rattle.std.specs.Prelude.{◌≡◌, ◌++◌, OnOk, IfOk};
+ghost use Rattle.std.specs.Prelude.{◌≡◌, ◌++◌, Ok, Err, OnOk, IfOk, IfErr};
+ghost use Rattle.wasm_sections.specs.Additions.{IsTooMuch};
+ghost use Rattle.module_removal.specs.Refusals.{StopsAtModule, IsRefused};
+ghost use Rattle.wasm_sections.specs.Format.{name_part};
 ghost use Rattle.wasm_sections.specs.Sections.{section, section_id};
 ghost use Rattle.module_removal.specs.LeftSections.{HasNoItems, WritesModule, IsModuleOfLeft};
 
@@ -43,23 +46,43 @@ struct Writer<'m> {
 /// Appends a section with these contents.
 #[tactic(auto, using(wasm_encode::proofs::Appending::appending))]
 fn put_section(out: &mut Vec<u8>, kind: SectionKind, contents: &[u8]) -> Result<(), ModuleError>
-    ensures { OnOk result (out.new.items ≡ out.old.items ++ section (section_id kind) contents.now) }
+    ensures written { OnOk result (out.new.items ≡ out.old.items ++ section (section_id kind) contents.now) }
+    ensures err { IfErr result IsTooMuch }
 {
     out.push(kind.id())?;
     write_bytes(out, contents)
 }
 
+/// The name of a custom section, and the contents that follow it.
+fn named_contents<'a>(section: &Section<'a>) -> Result<(&'a str, Input<'a>), ModuleError>
+    ensures end { IfOk result (λ x. x.1.end ≡ section.now.contents.end) }
+    ensures is { IfOk result (λ x. name_part section.now.contents.end section.now.contents.rest.now ≡ Ok (x.0.now, x.1.rest.now)) }
+    ensures err { IfErr result (λ error. name_part section.now.contents.end section.now.contents.rest.now ≡ Err error) }
+{
+    let mut contents = section.contents;
+    match contents.name() {
+        Ok(name) => Ok((name, contents)),
+        Err(error) => Err(error),
+    }
+}
+
 impl<'m> Writer<'m> {
-    ghost use Rattle.std.specs.Prelude.{◌≡◌, ◌++◌, ℕ, List, Ok, OnOk, IfOk, codes};
+    ghost use Rattle.std.specs.Prelude.{◌≡◌, ◌++◌, ℕ, List, Ok, OnOk, IfOk, IfErr, codes};
+    ghost use Rattle.wasm_sections.specs.declared.fault.ModuleFault.TheVariants.{Memory as NoMemory};
+    ghost use Rattle.wasm_sections.specs.declared.sections.SectionKind.TheVariants.{Start as OfStart};
+    ghost use Rattle.wasm_sections.specs.Additions.{IsTooMuch};
     ghost use Rattle.item_sets.specs.ItemsLeft.{is_left, left_count};
     ghost use Rattle.wasm_operators.specs.declared.types.Space.TheVariants.{Types as OfTypes, Data as OfData, Funcs as OfFuncs};
     ghost use Rattle.wasm_sections.specs.Sections.{section, section_id, section_at};
     ghost use Rattle.module_removal.specs.ItemNumbers.{count_of, counted_more, with_more_items};
     ghost use Rattle.module_removal.specs.LeftSpaces.{marks_of, index_written};
     ghost use Rattle.module_removal.specs.CopiedParts.{Copied, copied_index};
-    ghost use Rattle.module_removal.specs.CopiedItems.{copied_defined};
+    ghost use Rattle.module_removal.specs.CopiedItems.{copied_export, copied_defined};
+    ghost use Rattle.wasm_sections.specs.CodeSections.{entry};
+    ghost use Rattle.module_removal.specs.LeftNames.{AreLeftNames};
     ghost use Rattle.module_removal.specs.Written.{data_count_section, group_mark, is_group_left, BeginsGroupIf, WritesNextItem, WritesImport, WritesExport, WritesType, WritesGroup};
-    ghost use Rattle.module_removal.specs.LeftSections.{counted_items, items_section, section_of, HasNoItems, WritesBytes, WritesItem, WritesItems, DeclaresFunctions, WritesSegments, WritesSegmentsUnless, WritesSegmentsBefore, WritesContents, WritesSection, IsCustomNamed, WritesCustom, WritesAnySection};
+    ghost use Rattle.module_removal.specs.LeftSections.{counted_items, items_section, section_of, HasNoItems, WritesBytes, WritesItem, WritesItems, DeclaresFunctions, WritesSegments, WritesSegmentsUnless, WritesSegmentsBefore, WritesContents, WritesSection, LeavesMetadata, WritesCustom, WritesAnySection};
+    ghost use Rattle.module_removal.specs.Refusals.{IsFaultOfPart, StopsAfter, StopsAtNext, StopsAtImport, StopsAtType, StopsAtGroup, StopsAtItem, StopsAtItems, StopsAtContents, StopsAtSection, StopsAtCustom, StopsAtAnySection};
     ghost use Rattle.module_removal.specs.SeveralSteps.{SoManySteps};
 
     /// Adds the item that was copied to those of the section.
@@ -67,6 +90,7 @@ impl<'m> Writer<'m> {
         ensures items { OnOk result (self.new.items.items ≡ self.old.items.items ++ self.old.kept.out.items) }
         ensures count { OnOk result (self.new.count ≡ counted_more self.old.count 1) }
         ensures same { self.new ≡ record self.old { items = self.new.items; count = self.new.count } }
+        ensures err { IfErr result (λ error. error.fault ≡ NoMemory) }
     {
         self.items.extend_from_slice(&self.kept.out)?;
         self.count = self.count.saturating_add(1);
@@ -86,6 +110,7 @@ impl<'m> Writer<'m> {
     fn item(&mut self, space: Space, input: &mut Input<'_>) -> Result<(), ModuleError>
         ensures same_end { input.new.end ≡ input.old.end }
         ensures is { OnOk result (WritesNextItem space (λ w. copied_defined w space) input.old.end input.old.rest.now input.new.rest.now self.old self.new) }
+        ensures err { IfErr result (StopsAtNext space (λ w. copied_defined w space) input.old.end input.old.rest.now self.old) }
     {
         if self.is_next_left(space) {
             self.kept.clear();
@@ -100,6 +125,7 @@ impl<'m> Writer<'m> {
     fn import(&mut self, input: &mut Input<'_>) -> Result<(), ModuleError>
         ensures same_end { input.new.end ≡ input.old.end }
         ensures is { OnOk result (WritesImport input.old.end input.old.rest.now input.new.rest.now self.old self.new) }
+        ensures err { IfErr result (StopsAtImport input.old.end input.old.rest.now self.old) }
     {
         let mut after = *input;
         self.passed.clear();
@@ -117,6 +143,7 @@ impl<'m> Writer<'m> {
     fn export(&mut self, input: &mut Input<'_>) -> Result<(), ModuleError>
         ensures same_end { input.new.end ≡ input.old.end }
         ensures is { OnOk result (WritesExport input.old.end input.old.rest.now input.new.rest.now self.old self.new) }
+        ensures err { IfErr result (IsFaultOfPart (copied_export (index_written self.old.kept.left) input.old.end input.old.rest.now)) }
     {
         self.kept.clear();
         done!(self.kept.export(input));
@@ -128,6 +155,7 @@ impl<'m> Writer<'m> {
         ensures same_end { input.new.end ≡ input.old.end }
         ensures is { OnOk result
             (WritesType input.old.end (self.old, input.old.rest.now) (self.new, input.new.rest.now)) }
+        ensures err { IfErr result (StopsAtType input.old.end (self.old, input.old.rest.now)) }
     {
         if self.is_next_left(Space::Types) {
             self.kept.clear();
@@ -144,6 +172,7 @@ impl<'m> Writer<'m> {
         ensures same_end { input.new.end ≡ input.old.end }
         ensures is { OnOk result (SoManySteps (WritesType input.old.end) count
             (self.old, input.old.rest.now) (self.new, input.new.rest.now)) }
+        ensures err { IfErr result (StopsAfter (WritesType input.old.end) (StopsAtType input.old.end) count (self.old, input.old.rest.now)) }
     {
         'members: for _ in 0..count {
             done!(self.member(input));
@@ -156,6 +185,7 @@ impl<'m> Writer<'m> {
         ensures items { OnOk result (self.new.items.items ≡ self.old.items.items ++ group_mark is_group members) }
         ensures count { OnOk result (self.new.count ≡ counted_more self.old.count 1) }
         ensures same { self.new ≡ record self.old { items = self.new.items; count = self.new.count } }
+        ensures err { IfErr result IsTooMuch }
     {
         self.count = self.count.saturating_add(1);
         if !is_group {
@@ -167,9 +197,10 @@ impl<'m> Writer<'m> {
 
     /// Begins a recursive group with so many types if it is left: if its first type is. One without types isn't.
     fn begin_if_left(&mut self, members: u32, is_group: bool) -> Result<(), ModuleError>
-        ensures { OnOk result (BeginsGroupIf
+        ensures is { OnOk result (BeginsGroupIf
             (is_group_left members (is_left (marks_of self.old.remainder.now.left OfTypes) self.old.next.types))
             is_group members self.old self.new) }
+        ensures err { IfErr result IsTooMuch }
     {
         if members == 0 {
             return Ok(());
@@ -186,6 +217,7 @@ impl<'m> Writer<'m> {
         ensures same_end { input.new.end ≡ input.old.end }
         ensures is { OnOk result
             (WritesGroup input.old.end (self.old, input.old.rest.now) (self.new, input.new.rest.now)) }
+        ensures err { IfErr result (StopsAtGroup input.old.end (self.old, input.old.rest.now)) }
     {
         let (members, is_group) = done!(group_members(input));
         done!(self.begin_if_left(members, is_group));
@@ -196,6 +228,7 @@ impl<'m> Writer<'m> {
     fn one(&mut self, kind: SectionKind, input: &mut Input<'_>) -> Result<(), ModuleError>
         ensures same_end { input.new.end ≡ input.old.end }
         ensures is { OnOk result (WritesItem kind input.old.end (self.old, input.old.rest.now) (self.new, input.new.rest.now)) }
+        ensures err { IfErr result (StopsAtItem kind input.old.end (self.old, input.old.rest.now)) }
     {
         match kind {
             SectionKind::Type => self.group(input),
@@ -217,6 +250,7 @@ impl<'m> Writer<'m> {
     ) -> Result<(), ModuleError>
         ensures same_end { input.new.end ≡ input.old.end }
         ensures is { OnOk result (SoManySteps (WritesItem kind input.old.end) count (self.old, input.old.rest.now) (self.new, input.new.rest.now)) }
+        ensures err { IfErr result (StopsAfter (WritesItem kind input.old.end) (StopsAtItem kind input.old.end) count (self.old, input.old.rest.now)) }
     {
         'items: for _ in 0..count {
             done!(self.one(kind, input));
@@ -226,7 +260,8 @@ impl<'m> Writer<'m> {
 
     /// The items of a section that are left.
     fn items(&mut self, section: &Section<'_>) -> Result<(), ModuleError>
-        ensures { OnOk result (WritesItems section.now.kind section.now.contents.end section.now.contents.rest.now self.old self.new) }
+        ensures is { OnOk result (WritesItems section.now.kind section.now.contents.end section.now.contents.rest.now self.old self.new) }
+        ensures err { IfErr result (StopsAtItems section.now.kind section.now.contents.end section.now.contents.rest.now self.old) }
     {
         let mut input = section.contents;
         let count = done!(input.number());
@@ -237,6 +272,7 @@ impl<'m> Writer<'m> {
     fn take_contents(&mut self) -> Result<Vec<u8>, ModuleError>
         ensures contents { IfOk result (λ contents. contents.items ≡ counted_items self.old.count self.old.items.items) }
         ensures none { OnOk result (HasNoItems self.new) }
+        ensures err { IfErr result IsTooMuch }
         ensures same { self.new ≡ record self.old { items = self.new.items; count = self.new.count } }
     {
         let mut contents = Vec::new(self.alloc);
@@ -251,7 +287,8 @@ impl<'m> Writer<'m> {
 
     /// Writes the section with the items that were added, unless there are none.
     fn finish(&mut self, kind: SectionKind) -> Result<(), ModuleError>
-        ensures { OnOk result (WritesBytes (section_of (section_id kind) self.old) self.old self.new) }
+        ensures is { OnOk result (WritesBytes (section_of (section_id kind) self.old) self.old self.new) }
+        ensures err { IfErr result IsTooMuch }
     {
         let count = self.count;
         let contents = done!(self.take_contents());
@@ -263,7 +300,8 @@ impl<'m> Writer<'m> {
 
     /// Writes the code section, unless no function with a body is left.
     fn put_code(&mut self) -> Result<(), ModuleError>
-        ensures { HasNoItems self.old → OnOk result (WritesBytes (items_section 10 self.old.code.now.count self.old.code.now.bodies.items) self.old self.new) }
+        ensures is { HasNoItems self.old → OnOk result (WritesBytes (items_section 10 self.old.code.now.count self.old.code.now.bodies.items) self.old self.new) }
+        ensures err { IfErr result IsTooMuch }
     {
         let code = self.code;
         self.items.extend_from_slice(&code.bodies)?;
@@ -273,7 +311,8 @@ impl<'m> Writer<'m> {
 
     /// Adds a segment that declares functions, if there are some to declare.
     fn declare(&mut self) -> Result<(), ModuleError>
-        ensures { OnOk result (DeclaresFunctions self.old self.new) }
+        ensures is { OnOk result (DeclaresFunctions self.old self.new) }
+        ensures err { IfErr result IsTooMuch }
     {
         let remainder = self.remainder;
         if remainder.undeclared.is_empty() {
@@ -286,7 +325,8 @@ impl<'m> Writer<'m> {
 
     /// Writes the element segments, with one more where functions have to be declared.
     fn put_elements(&mut self) -> Result<(), ModuleError>
-        ensures { OnOk result (WritesSegments self.old self.new) }
+        ensures is { OnOk result (WritesSegments self.old self.new) }
+        ensures err { IfErr result IsTooMuch }
     {
         self.has_elements = true;
         done!(self.declare());
@@ -295,7 +335,8 @@ impl<'m> Writer<'m> {
 
     /// The same, if they weren't written yet.
     fn elements(&mut self) -> Result<(), ModuleError>
-        ensures { OnOk result (WritesSegmentsUnless self.old.has_elements self.old self.new) }
+        ensures is { OnOk result (WritesSegmentsUnless self.old.has_elements self.old self.new) }
+        ensures err { IfErr result IsTooMuch }
     {
         if self.has_elements {
             return Ok(());
@@ -305,7 +346,8 @@ impl<'m> Writer<'m> {
 
     /// The same before a section of this kind, if it comes after that of element segments.
     fn elements_before(&mut self, kind: SectionKind) -> Result<(), ModuleError>
-        ensures { OnOk result (WritesSegmentsBefore kind self.old self.new) }
+        ensures is { OnOk result (WritesSegmentsBefore kind self.old self.new) }
+        ensures err { IfErr result IsTooMuch }
     {
         if kind.rank() <= SectionKind::Element.rank() {
             return Ok(());
@@ -320,6 +362,7 @@ impl<'m> Writer<'m> {
         ensures is { OnOk result ((copied : Copied) × (following : List ℕ)
             × (copied_index (index_written self.old.kept.left) OfFuncs input.entry.end input.entry.rest.now ≡ Ok ((tt, copied), following))
             × (self.new.out.items ≡ self.old.out.items ++ section 8 copied.written)) }
+        ensures err { IfErr result (StopsAtContents OfStart input.entry.end input.entry.rest.now self.old) }
     {
         self.kept.clear();
         done!(self.kept.index(&mut input, Space::Funcs));
@@ -331,6 +374,7 @@ impl<'m> Writer<'m> {
         ensures same { self.new ≡ record self.old { out = self.new.out } }
         ensures is { OnOk result (self.new.out.items
             ≡ self.old.out.items ++ data_count_section (left_count (marks_of self.old.remainder.now.left OfData))) }
+        ensures err { IfErr result IsTooMuch }
     {
         let count = self.remainder.left.space(Space::Data).count();
         if count == 0 {
@@ -344,7 +388,8 @@ impl<'m> Writer<'m> {
     /// Metadata of code.
     fn metadata(&mut self, name: &str, contents: Input<'_>) -> Result<(), ModuleError>
         ensures same { self.new ≡ record self.old { out = self.new.out } }
-        ensures is { OnOk result ((bytes : List ℕ) × (self.new.out.items ≡ self.old.out.items ++ bytes) × IsCustomNamed name.now bytes) }
+        ensures is { OnOk result ((new : List ℕ) × LeavesMetadata self.old.remainder.now.left self.old.code.now contents.entry.end contents.entry.rest.now new
+            × (self.new.out.items ≡ self.old.out.items ++ section 0 (entry name.now ++ new))) }
     {
         let left = &self.remainder.left;
         let mut made = Vec::new(self.alloc);
@@ -357,7 +402,8 @@ impl<'m> Writer<'m> {
     /// The section of names.
     fn names(&mut self, contents: Input<'_>) -> Result<(), ModuleError>
         ensures same { self.new ≡ record self.old { out = self.new.out } }
-        ensures is { OnOk result ((bytes : List ℕ) × (self.new.out.items ≡ self.old.out.items ++ bytes) × IsCustomNamed (codes "name") bytes) }
+        ensures is { OnOk result ((new : List ℕ) × AreLeftNames self.old.remainder.now.left self.old.code.now contents.entry.end contents.entry.rest.now new
+            × (self.new.out.items ≡ self.old.out.items ++ section 0 (entry (codes "name") ++ new))) }
     {
         let names = done!(left_names(self.alloc, &self.remainder.left, self.code, contents));
         put_section(&mut self.out, SectionKind::Custom, &names)
@@ -365,9 +411,10 @@ impl<'m> Writer<'m> {
 
     /// A custom section: names and metadata of code follow; debug information is left out, since its places don't.
     fn custom(&mut self, section: &Section<'_>) -> Result<(), ModuleError>
-        ensures { HasNoItems self.old → OnOk result (WritesCustom (section_at section.now) self.old self.new) }
+        ensures is { HasNoItems self.old → OnOk result (WritesCustom (section_at section.now) self.old self.new) }
+        ensures err { IfErr result (StopsAtCustom section.now.contents.end section.now.contents.rest.now) }
     {
-        let (name, contents) = done!(section.named_input());
+        let (name, contents) = done!(named_contents(section));
         if names_object(name) {
             return Err(ModuleError {
                 fault: ModuleFault::ObjectFile,
@@ -389,7 +436,8 @@ impl<'m> Writer<'m> {
 
     /// A section that isn't custom, in its place.
     fn contents(&mut self, section: &Section<'_>) -> Result<(), ModuleError>
-        ensures { HasNoItems self.old → OnOk result (WritesContents section.now.kind section.now.contents.end section.now.contents.rest.now self.old self.new) }
+        ensures is { HasNoItems self.old → OnOk result (WritesContents section.now.kind section.now.contents.end section.now.contents.rest.now self.old self.new) }
+        ensures err { IfErr result (StopsAtContents section.now.kind section.now.contents.end section.now.contents.rest.now self.old) }
     {
         match section.kind {
             SectionKind::Start => self.start(section.contents),
@@ -408,7 +456,8 @@ impl<'m> Writer<'m> {
 
     /// A section that isn't custom, after that of element segments if it comes before this one.
     fn section(&mut self, section: &Section<'_>) -> Result<(), ModuleError>
-        ensures { HasNoItems self.old → OnOk result (WritesSection section.now.kind section.now.contents.end section.now.contents.rest.now self.old self.new) }
+        ensures is { HasNoItems self.old → OnOk result (WritesSection section.now.kind section.now.contents.end section.now.contents.rest.now self.old self.new) }
+        ensures err { IfErr result (StopsAtSection section.now.kind section.now.contents.end section.now.contents.rest.now self.old) }
     {
         done!(self.elements_before(section.kind));
         self.contents(section)
@@ -416,7 +465,8 @@ impl<'m> Writer<'m> {
 
     /// A section.
     fn any_section(&mut self, section: &Section<'_>) -> Result<(), ModuleError>
-        ensures { HasNoItems self.old → OnOk result (WritesAnySection section.now.kind (section_at section.now) self.old self.new) }
+        ensures is { HasNoItems self.old → OnOk result (WritesAnySection section.now.kind (section_at section.now) self.old self.new) }
+        ensures err { IfErr result (StopsAtAnySection section.now.kind section.now.contents.end section.now.contents.rest.now self.old) }
     {
         match section.kind {
             SectionKind::Custom => self.custom(section),
@@ -427,7 +477,8 @@ impl<'m> Writer<'m> {
 
 /// Writes all sections.
 fn write_all(bytes: &[u8], writer: &mut Writer<'_>) -> Result<(), ModuleError>
-    ensures { HasNoItems writer.old → OnOk result (WritesModule bytes.now writer.old writer.new) }
+    ensures is { HasNoItems writer.old → OnOk result (WritesModule bytes.now writer.old writer.new) }
+    ensures err { HasNoItems writer.old → IfErr result (StopsAtModule bytes.now writer.old) }
 {
     writer.out.extend_from_slice(&PREAMBLE)?;
     let sections = done!(Sections::new(bytes));
@@ -450,7 +501,8 @@ pub fn remove(
     remainder: &Remainder,
     code: &LeftCode,
 ) -> Result<Vec<u8>, ModuleError>
-    ensures { IfOk result (λ new. IsModuleOfLeft remainder.now code.now bytes.now new.items) }
+    ensures ok { IfOk result (λ new. IsModuleOfLeft remainder.now code.now bytes.now new.items) }
+    ensures err { IfErr result (IsRefused remainder.now code.now bytes.now) }
 {
     let mut writer = Writer {
         alloc,

@@ -1,26 +1,23 @@
-use Rattle.std.proofs.Common.{◌≡◌, refl}
+use Rattle.std.proofs.Common.{◌≡◌, refl, ap, ◌∙◌}
 use Rattle.wasm_operators.specs.declared.types.Space.{Space}
 use Rattle.wasm_operators.specs.declared.types.Space.TheVariants.{Tables, Types, Funcs, Globals, Memories, Elements, Data, Tags}
 use Rattle.module_removal.specs.declared.item.ItemCounts.{ItemCounts}
-use Rattle.module_removal.specs.ItemNumbers.{count_of}
+use Rattle.module_removal.specs.ItemNumbers.{count_of, no_items_counted}
 use Rattle.module_removal.proofs.GatherStepLemmas.{gathered}
 use Rattle.module_removal.proofs.gathering.references_of.Goals as goal
 
-none_counted :
-    (c : ItemCounts) → c.types ≡ 0 → c.funcs ≡ 0 → c.tables ≡ 0 → c.memories ≡ 0 → c.globals ≡ 0 → c.tags ≡ 0 → c.elements ≡ 0 → c.«data» ≡ 0 →
-    (space : Space) → count_of c space ≡ 0
-none_counted c types funcs tables memories globals tags elements datas Types = types
-none_counted c types funcs tables memories globals tags elements datas Funcs = funcs
-none_counted c types funcs tables memories globals tags elements datas Tables = tables
-none_counted c types funcs tables memories globals tags elements datas Memories = memories
-none_counted c types funcs tables memories globals tags elements datas Globals = globals
-none_counted c types funcs tables memories globals tags elements datas Tags = tags
-none_counted c types funcs tables memories globals tags elements datas Elements = elements
-none_counted c types funcs tables memories globals tags elements datas Data = datas
+none_of_space : (space : Space) → count_of no_items_counted space ≡ 0
+none_of_space Types = refl
+none_of_space Funcs = refl
+none_of_space Tables = refl
+none_of_space Memories = refl
+none_of_space Globals = refl
+none_of_space Tags = refl
+none_of_space Elements = refl
+none_of_space Data = refl
 
 pub returns-in-Ok-sections : goal.returns-in-Ok-sections
 returns-in-Ok-sections c =
-    let e = c.default.ensures in
-    let f = e.1.1.1.1 in
     gathered c.args.bytes.now _ c.sections.new.self (c.in-Ok-sections.ensures c.finding.ensures.left)
-    (none_counted c.default.result e.0 e.1.0 e.1.1.0 e.1.1.1.0 f.0 f.1.0 f.1.1.0 f.1.1.1) refl c.finding.ensures.left c.in-Ok-new.ensures.edges
+    (λ space. ap (λ (n : ItemCounts). count_of n space) c.none.ensures ∙ none_of_space space) refl c.finding.ensures.left c.in-Ok-new.ensures.edges
+    c.new-2.ensures.in_bodies c.new-2.ensures.outside c.in-Ok.ensures

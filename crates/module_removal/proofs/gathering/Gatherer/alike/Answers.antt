@@ -9,4 +9,4 @@ returns-in-Ok c =
     let new : Gatherer = record old { references = c.refer_alike.new.self } in
     let section = c.args.section.now in
     gathers_alike section.contents.end section.contents.rest.now c.in-Ok.ensures.0 c.in-Ok.alike.types old new c.refer_alike.result c.in-Ok.ensures.1 refl
-    c.refer_alike.ensures.counts c.refer_alike.ensures.edges
+    c.refer_alike.ensures.counts c.refer_alike.ensures.taken c.refer_alike.ensures.edges

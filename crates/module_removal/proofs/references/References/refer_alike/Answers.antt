@@ -9,7 +9,7 @@ use Rattle.module_removal.proofs.references.References.refer_alike.Goals as goal
 pub types-init : goal.types-init
 types-init c =
     let old = c.args.self.now in
-    record { counts = refl; left = no_step_made (RefersToAlike c.args.alike.now.types old.counts) old.counts.types (0, edges_of old.graph) }
+    record { counts = refl; taken = refl; left = no_step_made (RefersToAlike c.args.alike.now.types old.counts) old.counts.types (0, edges_of old.graph) }
 
 pub types-preserved : goal.types-preserved
 types-preserved c =
@@ -19,6 +19,7 @@ types-preserved c =
     let types = c.args.alike.now.types in
     record {
       counts = c.refer_to_first.ensures.counts ∙ at.invariant.counts;
+      taken = c.refer_to_first.ensures.taken ∙ at.invariant.taken;
       left =
           one_more_step (RefersToAlike types old.counts) old.counts.types at.index (0, edges_of old.graph) (at.index, edges_of at.self.graph)
           (at.index + 1, edges_of new.graph) at.invariant.left c.types-test.true (

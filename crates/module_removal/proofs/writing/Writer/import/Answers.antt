@@ -1,5 +1,7 @@
-use Rattle.std.proofs.Common.{Ok, sym, ◌∙◌}
+use Rattle.std.proofs.Common.{Ok, sym, ap, ◌∙◌, inl, inr}
 use Rattle.module_removal.specs.CopiedItems.{copied_import}
+use Rattle.module_removal.specs.declared.writing.Writer.{Writer}
+use Rattle.module_removal.proofs.RefusalLemmas.{fault_under, stops_left}
 use Rattle.module_removal.proofs.WritingLemmas.{part_as, writes_left_item, writes_no_item, writes_import}
 use Rattle.module_removal.proofs.writing.Writer.import.Goals as goal
 
@@ -29,4 +31,26 @@ returns-clause-is c =
       part_as copied_import end text old.passed.left c.clear.new.self.left (Ok ((space, copies.0), c.import.new.input.rest.now)) c.clear.ensures.left copies.1,
       writes_no_item space copied_import end text c.import.new.input.rest.now old c.is_next_left.new.self c.clear.new.self c.import.new.self space
           c.clear.ensures.left c.is_next_left.ensures.same (sym c.if-is_next_left.false ∙ c.is_next_left.ensures.is) copies,
+    )
+
+pub returns-in-Err-clause-err : goal.returns-in-Err-clause-err
+returns-in-Err-clause-err c =
+    inl (fault_under copied_import c.args.input.now.end c.args.input.now.rest.now c.clear.new.self.left c.args.self.now.passed.left c.in-Err.error c.clear.ensures.left
+    c.in-Err.ensures.is)
+
+pub returns-in-Err-import-clause-err : goal.returns-in-Err-import-clause-err
+returns-in-Err-import-clause-err c =
+    let old = c.args.self.now in
+    let end = c.args.input.now.end in
+    let text = c.args.input.now.rest.now in
+    let space = c.in-Ok.value in
+    let copies = c.in-Ok.ensures.is in
+    inr (
+      space,
+      copies.0,
+      c.import.new.input.rest.now,
+      part_as copied_import end text old.passed.left c.clear.new.self.left (Ok ((space, copies.0), c.import.new.input.rest.now)) c.clear.ensures.left copies.1,
+      stops_left space copied_import end text old c.clear-then-is_next_left.new.self.left c.in-Err-import.error
+          (sym c.if-is_next_left.true ∙ c.is_next_left.ensures.is)
+          (c.clear-then-is_next_left.ensures.left ∙ ap (λ (w : Writer). w.kept.left) c.is_next_left.ensures.same) c.in-Err-import.ensures.is,
     )

@@ -1,6 +1,8 @@
 use Rattle.std.proofs.Common.{ℕ, List, refl, subst, ◌∙◌}
 use Rattle.module_removal.specs.declared.writing.Writer.{Writer}
 use Rattle.module_removal.specs.Written.{WritesType}
+use Rattle.module_removal.specs.Refusals.{StopsAtType}
+use Rattle.module_removal.proofs.RefusalLemmas.{stops_now}
 use Rattle.module_removal.proofs.SeveralStepsLemmas.{no_step_made, one_more_step, all_steps_made}
 use Rattle.module_removal.proofs.writing.Writer.members.Goals as goal
 
@@ -26,3 +28,11 @@ returns-clause-is c =
     let at = c.members in
     all_steps_made (WritesType c.args.input.now.end) c.args.count at.counter (c.args.self.now, c.args.input.now.rest.now) (at.self, at.input.rest.now)
     at.invariant.steps c.members-test.false
+
+pub returns-in-Err-clause-err : goal.returns-in-Err-clause-err
+returns-in-Err-clause-err c =
+    let at = c.members in
+    let end = c.args.input.now.end in
+    let now : Writer × List ℕ = (at.self, at.input.rest.now) in
+    stops_now (WritesType end) (StopsAtType end) c.args.count at.counter (c.args.self.now, c.args.input.now.rest.now) now c.in-Err.error at.invariant.steps c.members-test.true
+    (subst (λ (n : ℕ). StopsAtType n now c.in-Err.error) at.invariant.same_end c.in-Err.ensures.err)
