@@ -145,7 +145,7 @@ abbrev pub StopsAtModule : (file : List ℕ) → Writer → ModuleError → Type
 StopsAtModule file w e = IsTooMuch e ⊎ (preamble_part (length file) file ≡ Err e) ⊎ StopsAmongSections file w e
 
 -- The new module isn't written for this reason.
-pub record IsRefusedRemoval (remainder : Remainder) (code : LeftCode) (file : List ℕ) (e : ModuleError) : Type 0 where
+pub record IsRefusedModule (remainder : Remainder) (code : LeftCode) (file : List ℕ) (e : ModuleError) : Type 0 where
   pub first : Writer
   pub begins : BeginsToWrite remainder code first
   pub stops : StopsAtModule file first e

@@ -2,7 +2,7 @@
 
 ghost use Rattle.std.specs.Prelude.{◌≡◌, ◌++◌, Ok, Err, OnOk, IfOk, IfErr};
 ghost use Rattle.wasm_sections.specs.Additions.{IsTooMuch};
-ghost use Rattle.module_removal.specs.Refusals.{StopsAtModule, IsRefusedRemoval};
+ghost use Rattle.module_removal.specs.Refusals.{StopsAtModule, IsRefusedModule};
 ghost use Rattle.wasm_sections.specs.Format.{name_part};
 ghost use Rattle.wasm_sections.specs.Sections.{section, section_id};
 ghost use Rattle.module_removal.specs.LeftSections.{HasNoItems, WritesModule, IsModuleOfLeft};
@@ -502,7 +502,7 @@ pub fn remove(
     code: &LeftCode,
 ) -> Result<Vec<u8>, ModuleError>
     ensures ok { IfOk result (λ new. IsModuleOfLeft remainder.now code.now bytes.now new.items) }
-    ensures err { IfErr result (IsRefusedRemoval remainder.now code.now bytes.now) }
+    ensures err { IfErr result (IsRefusedModule remainder.now code.now bytes.now) }
 {
     let mut writer = Writer {
         alloc,
