@@ -17,7 +17,7 @@ use walrus_ir::{
     dfs_in_order,
 };
 use wasm_body::Space;
-use wasm_module::{ChangeFunction, Changes, ModuleError, ParsedModule};
+use wasm_module::{ChangeFunction, Changes, ModuleError, ModuleFault, ParsedModule};
 
 /// The sequences inside of loops, in the order of the `loop` operators.
 #[derive(Drop)]
@@ -88,6 +88,29 @@ impl ChangeFunction for CountTurns {
     }
 }
 
+/// The exports of globals with indices from the first one on, under these names.
+fn counter_exports(
+    alloc: Global,
+    names: &[String],
+    first: usize,
+) -> Result<Vec<NewExport<'_>>, ModuleError> {
+    let mut exports = Vec::new(alloc);
+    for (number, name) in names.iter().enumerate() {
+        let Ok(index) = u32::try_from(first.saturating_add(number)) else {
+            return Err(ModuleError {
+                fault: ModuleFault::TooGreat,
+                at: 0,
+            });
+        };
+        exports.push(NewExport {
+            name: name.as_str(),
+            space: Space::Globals,
+            index,
+        })?;
+    }
+    Ok(exports)
+}
+
 /// Counts the turns of loops.
 #[derive(Clone, Copy)]
 pub(crate) struct Counting;
@@ -114,14 +137,7 @@ impl Tool for Counting {
             first = global.index().saturating_sub(number);
             names.push(format!(in alloc; "loop_{number}")?)?;
         }
-        let mut exports = Vec::new(alloc);
-        for (number, name) in names.iter().enumerate() {
-            exports.push(NewExport {
-                name: name.as_str(),
-                space: Space::Globals,
-                index: first.saturating_add(number) as u32,
-            })?;
-        }
+        let exports = counter_exports(alloc, &names, first)?;
         export_all(parsed, &mut changes, &exports)?;
         Ok((Some(CountTurns(first)), changes))
     }
