@@ -13,6 +13,8 @@ use Rattle.wasm_sections.specs.Sections.{preamble, section_id, section_at, Secti
 use Rattle.module_removal.specs.declared.writing.Writer.{Writer}
 use Rattle.module_removal.specs.Written.{task_of}
 use Rattle.module_removal.specs.LeftSections.{section_of, HasNoItems, WritesBytes, WritesItems, WritesSegmentsUnless, WritesSegmentsIf, WritesContents, WritesSection, names_names, follows_code, BecomesCustom, WritesCustom, WritesAnySection, WritesSections}
+use Rattle.module_removal.specs.Refusals.{WritesWhole}
+use Rattle.module_removal.proofs.SectionStepLemmas.{SectionsPassed, no_section_passed, one_more_passed}
 
 pub ok_then : {X Y : Type 0} (r : Result (Unit {0}) ModuleError) → OnOk r X → (X → Y) → OnOk r Y
 ok_then (Ok u) x f = f x
@@ -114,12 +116,16 @@ pub record SectionsToWrite (file : List ℕ) (start : Writer) (s : Sections) (no
       (left : List SectionAt) (new : Writer) → AreSections s.left.end s.left.rest.now left → WritesSections left now new
       → (all : List SectionAt) × IsModule file all × WritesSections all start new
   pub none : HasNoItems now
+  pub passed : SectionsPassed WritesWhole file start now s
 
 pub no_section_written :
-    (file : List ℕ) (start : Writer) (s : Sections) → file ≡ preamble ++ s.left.rest.now → s.left.end ≡ length file → HasNoItems start →
-    SectionsToWrite file start s start
-no_section_written file start s e f none =
-    record { after = λ left new are w. (left, (s.left.rest.now, e, subst (λ (n : ℕ). AreSections n s.left.rest.now left) f are), w); none = none }
+    (file : List ℕ) (start : Writer) (s : Sections) → file ≡ preamble ++ s.left.rest.now → s.left.end ≡ length file → s.rank ≡ 0 →
+    HasNoItems start → SectionsToWrite file start s start
+no_section_written file start s e f rank none = record {
+  after = λ left new are w. (left, (s.left.rest.now, e, subst (λ (n : ℕ). AreSections n s.left.rest.now left) f are), w);
+  none = none;
+  passed = no_section_passed WritesWhole file start s s e f rank refl;
+}
 
 module _ (file : List ℕ) (start : Writer) (s t : Sections) (now : Writer) (left : SectionsToWrite file start s now) where
   pub one_more_written :
@@ -129,6 +135,7 @@ module _ (file : List ℕ) (start : Writer) (s t : Sections) (now : Writer) (lef
         left.after (section_at x ∷ rest) new (t.left.rest.now, takes.0, subst (λ (n : ℕ). AreSections n t.left.rest.now rest) takes.1 are)
         (next, x.kind, refl, w, ws);
     none = after_any_section x.kind (section_at x) now next w;
+    passed = one_more_passed WritesWhole file start now next s t x left.passed takes (x.whole.now, w);
   }
 
   pub all_written :

@@ -4,6 +4,7 @@
 ghost use Rattle.std.specs.Prelude.{◌≡◌, ◌++◌, ◌∷◌, [], ◌&&◌, if◌then◌else◌, true, nat_lt, not, length, slice_set, OnOk, IfErr};
 ghost use Rattle.wasm_sections.specs.declared.fault.ModuleFault.TheVariants.{Memory as NoMemory};
 ghost use Rattle.item_sets.specs.ItemsLeft.{is_left as is_left_by};
+ghost use Rattle.wasm_sections.specs.Additions.{IsTooMuch};
 ghost use Rattle.module_removal.specs.LeftSections.{declaring_segment};
 
 use crate::item::{Item, ItemCounts};
@@ -212,7 +213,8 @@ pub(crate) fn put_declarations(
     left: &LeftItems,
     out: &mut Vec<u8>,
 ) -> Result<(), ModuleError>
-    ensures { OnOk result (out.new.items ≡ out.old.items ++ declaring_segment left.now functions.now) }
+    ensures written { OnOk result (out.new.items ≡ out.old.items ++ declaring_segment left.now functions.now) }
+    ensures err { IfErr result IsTooMuch }
 {
     // The flags of a declarative segment, and the kind of functions.
     out.extend_from_slice(&[0x03, 0x00])?;

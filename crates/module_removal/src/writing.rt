@@ -1,6 +1,8 @@
 //! A module without the items that are removed.
 
-ghost use Rattle.std.specs.Prelude.{◌≡◌, ◌++◌, Ok, OnOk, IfOk};
+ghost use Rattle.std.specs.Prelude.{◌≡◌, ◌++◌, Ok, Err, OnOk, IfOk, IfErr};
+ghost use Rattle.wasm_sections.specs.Additions.{IsTooMuch};
+ghost use Rattle.module_removal.specs.Refusals.{StopsAtModule, IsRefusedModule};
 ghost use Rattle.wasm_sections.specs.Format.{name_part};
 ghost use Rattle.wasm_sections.specs.Sections.{section, section_id};
 ghost use Rattle.module_removal.specs.LeftSections.{HasNoItems, WritesModule, IsModuleOfLeft};
@@ -44,7 +46,8 @@ struct Writer<'m> {
 /// Appends a section with these contents.
 #[tactic(auto, using(wasm_encode::proofs::Appending::appending))]
 fn put_section(out: &mut Vec<u8>, kind: SectionKind, contents: &[u8]) -> Result<(), ModuleError>
-    ensures { OnOk result (out.new.items ≡ out.old.items ++ section (section_id kind) contents.now) }
+    ensures written { OnOk result (out.new.items ≡ out.old.items ++ section (section_id kind) contents.now) }
+    ensures err { IfErr result IsTooMuch }
 {
     out.push(kind.id())?;
     write_bytes(out, contents)
@@ -54,6 +57,7 @@ fn put_section(out: &mut Vec<u8>, kind: SectionKind, contents: &[u8]) -> Result<
 fn named_contents<'a>(section: &Section<'a>) -> Result<(&'a str, Input<'a>), ModuleError>
     ensures end { IfOk result (λ x. x.1.end ≡ section.now.contents.end) }
     ensures is { IfOk result (λ x. name_part section.now.contents.end section.now.contents.rest.now ≡ Ok (x.0.now, x.1.rest.now)) }
+    ensures err { IfErr result (λ error. name_part section.now.contents.end section.now.contents.rest.now ≡ Err error) }
 {
     let mut contents = section.contents;
     match contents.name() {
@@ -65,6 +69,7 @@ fn named_contents<'a>(section: &Section<'a>) -> Result<(&'a str, Input<'a>), Mod
 impl<'m> Writer<'m> {
     ghost use Rattle.std.specs.Prelude.{◌≡◌, ◌++◌, ℕ, List, Ok, OnOk, IfOk, IfErr, codes};
     ghost use Rattle.wasm_sections.specs.declared.fault.ModuleFault.TheVariants.{Memory as NoMemory};
+    ghost use Rattle.wasm_sections.specs.declared.sections.SectionKind.TheVariants.{Start as OfStart};
     ghost use Rattle.wasm_sections.specs.Additions.{IsTooMuch};
     ghost use Rattle.item_sets.specs.ItemsLeft.{is_left, left_count};
     ghost use Rattle.wasm_operators.specs.declared.types.Space.TheVariants.{Types as OfTypes, Data as OfData, Funcs as OfFuncs};
@@ -77,7 +82,7 @@ impl<'m> Writer<'m> {
     ghost use Rattle.module_removal.specs.LeftNames.{AreLeftNames};
     ghost use Rattle.module_removal.specs.Written.{data_count_section, group_mark, is_group_left, BeginsGroupIf, WritesNextItem, WritesImport, WritesExport, WritesType, WritesGroup};
     ghost use Rattle.module_removal.specs.LeftSections.{counted_items, items_section, section_of, HasNoItems, WritesBytes, WritesItem, WritesItems, DeclaresFunctions, WritesSegments, WritesSegmentsUnless, WritesSegmentsBefore, WritesContents, WritesSection, LeavesMetadata, WritesCustom, WritesAnySection};
-    ghost use Rattle.module_removal.specs.Refusals.{IsFaultOf, StopsAfter, StopsAtNext, StopsAtImport, StopsAtType, StopsAtGroup, StopsAtItem, StopsAtItems};
+    ghost use Rattle.module_removal.specs.Refusals.{IsFaultOfPart, StopsAfter, StopsAtNext, StopsAtImport, StopsAtType, StopsAtGroup, StopsAtItem, StopsAtItems, StopsAtContents, StopsAtSection, StopsAtCustom, StopsAtAnySection};
     ghost use Rattle.module_removal.specs.SeveralSteps.{SoManySteps};
 
     /// Adds the item that was copied to those of the section.
@@ -138,7 +143,7 @@ impl<'m> Writer<'m> {
     fn export(&mut self, input: &mut Input<'_>) -> Result<(), ModuleError>
         ensures same_end { input.new.end ≡ input.old.end }
         ensures is { OnOk result (WritesExport input.old.end input.old.rest.now input.new.rest.now self.old self.new) }
-        ensures err { IfErr result (IsFaultOf (copied_export (index_written self.old.kept.left) input.old.end input.old.rest.now)) }
+        ensures err { IfErr result (IsFaultOfPart (copied_export (index_written self.old.kept.left) input.old.end input.old.rest.now)) }
     {
         self.kept.clear();
         done!(self.kept.export(input));
@@ -267,6 +272,7 @@ impl<'m> Writer<'m> {
     fn take_contents(&mut self) -> Result<Vec<u8>, ModuleError>
         ensures contents { IfOk result (λ contents. contents.items ≡ counted_items self.old.count self.old.items.items) }
         ensures none { OnOk result (HasNoItems self.new) }
+        ensures err { IfErr result IsTooMuch }
         ensures same { self.new ≡ record self.old { items = self.new.items; count = self.new.count } }
     {
         let mut contents = Vec::new(self.alloc);
@@ -281,7 +287,8 @@ impl<'m> Writer<'m> {
 
     /// Writes the section with the items that were added, unless there are none.
     fn finish(&mut self, kind: SectionKind) -> Result<(), ModuleError>
-        ensures { OnOk result (WritesBytes (section_of (section_id kind) self.old) self.old self.new) }
+        ensures is { OnOk result (WritesBytes (section_of (section_id kind) self.old) self.old self.new) }
+        ensures err { IfErr result IsTooMuch }
     {
         let count = self.count;
         let contents = done!(self.take_contents());
@@ -293,7 +300,8 @@ impl<'m> Writer<'m> {
 
     /// Writes the code section, unless no function with a body is left.
     fn put_code(&mut self) -> Result<(), ModuleError>
-        ensures { HasNoItems self.old → OnOk result (WritesBytes (items_section 10 self.old.code.now.count self.old.code.now.bodies.items) self.old self.new) }
+        ensures is { HasNoItems self.old → OnOk result (WritesBytes (items_section 10 self.old.code.now.count self.old.code.now.bodies.items) self.old self.new) }
+        ensures err { IfErr result IsTooMuch }
     {
         let code = self.code;
         self.items.extend_from_slice(&code.bodies)?;
@@ -303,7 +311,8 @@ impl<'m> Writer<'m> {
 
     /// Adds a segment that declares functions, if there are some to declare.
     fn declare(&mut self) -> Result<(), ModuleError>
-        ensures { OnOk result (DeclaresFunctions self.old self.new) }
+        ensures is { OnOk result (DeclaresFunctions self.old self.new) }
+        ensures err { IfErr result IsTooMuch }
     {
         let remainder = self.remainder;
         if remainder.undeclared.is_empty() {
@@ -316,7 +325,8 @@ impl<'m> Writer<'m> {
 
     /// Writes the element segments, with one more where functions have to be declared.
     fn put_elements(&mut self) -> Result<(), ModuleError>
-        ensures { OnOk result (WritesSegments self.old self.new) }
+        ensures is { OnOk result (WritesSegments self.old self.new) }
+        ensures err { IfErr result IsTooMuch }
     {
         self.has_elements = true;
         done!(self.declare());
@@ -325,7 +335,8 @@ impl<'m> Writer<'m> {
 
     /// The same, if they weren't written yet.
     fn elements(&mut self) -> Result<(), ModuleError>
-        ensures { OnOk result (WritesSegmentsUnless self.old.has_elements self.old self.new) }
+        ensures is { OnOk result (WritesSegmentsUnless self.old.has_elements self.old self.new) }
+        ensures err { IfErr result IsTooMuch }
     {
         if self.has_elements {
             return Ok(());
@@ -335,7 +346,8 @@ impl<'m> Writer<'m> {
 
     /// The same before a section of this kind, if it comes after that of element segments.
     fn elements_before(&mut self, kind: SectionKind) -> Result<(), ModuleError>
-        ensures { OnOk result (WritesSegmentsBefore kind self.old self.new) }
+        ensures is { OnOk result (WritesSegmentsBefore kind self.old self.new) }
+        ensures err { IfErr result IsTooMuch }
     {
         if kind.rank() <= SectionKind::Element.rank() {
             return Ok(());
@@ -350,6 +362,7 @@ impl<'m> Writer<'m> {
         ensures is { OnOk result ((copied : Copied) × (following : List ℕ)
             × (copied_index (index_written self.old.kept.left) OfFuncs input.entry.end input.entry.rest.now ≡ Ok ((tt, copied), following))
             × (self.new.out.items ≡ self.old.out.items ++ section 8 copied.written)) }
+        ensures err { IfErr result (StopsAtContents OfStart input.entry.end input.entry.rest.now self.old) }
     {
         self.kept.clear();
         done!(self.kept.index(&mut input, Space::Funcs));
@@ -361,6 +374,7 @@ impl<'m> Writer<'m> {
         ensures same { self.new ≡ record self.old { out = self.new.out } }
         ensures is { OnOk result (self.new.out.items
             ≡ self.old.out.items ++ data_count_section (left_count (marks_of self.old.remainder.now.left OfData))) }
+        ensures err { IfErr result IsTooMuch }
     {
         let count = self.remainder.left.space(Space::Data).count();
         if count == 0 {
@@ -397,7 +411,8 @@ impl<'m> Writer<'m> {
 
     /// A custom section: names and metadata of code follow; debug information is left out, since its places don't.
     fn custom(&mut self, section: &Section<'_>) -> Result<(), ModuleError>
-        ensures { HasNoItems self.old → OnOk result (WritesCustom (section_at section.now) self.old self.new) }
+        ensures is { HasNoItems self.old → OnOk result (WritesCustom (section_at section.now) self.old self.new) }
+        ensures err { IfErr result (StopsAtCustom section.now.contents.end section.now.contents.rest.now) }
     {
         let (name, contents) = done!(named_contents(section));
         if names_object(name) {
@@ -421,7 +436,8 @@ impl<'m> Writer<'m> {
 
     /// A section that isn't custom, in its place.
     fn contents(&mut self, section: &Section<'_>) -> Result<(), ModuleError>
-        ensures { HasNoItems self.old → OnOk result (WritesContents section.now.kind section.now.contents.end section.now.contents.rest.now self.old self.new) }
+        ensures is { HasNoItems self.old → OnOk result (WritesContents section.now.kind section.now.contents.end section.now.contents.rest.now self.old self.new) }
+        ensures err { IfErr result (StopsAtContents section.now.kind section.now.contents.end section.now.contents.rest.now self.old) }
     {
         match section.kind {
             SectionKind::Start => self.start(section.contents),
@@ -440,7 +456,8 @@ impl<'m> Writer<'m> {
 
     /// A section that isn't custom, after that of element segments if it comes before this one.
     fn section(&mut self, section: &Section<'_>) -> Result<(), ModuleError>
-        ensures { HasNoItems self.old → OnOk result (WritesSection section.now.kind section.now.contents.end section.now.contents.rest.now self.old self.new) }
+        ensures is { HasNoItems self.old → OnOk result (WritesSection section.now.kind section.now.contents.end section.now.contents.rest.now self.old self.new) }
+        ensures err { IfErr result (StopsAtSection section.now.kind section.now.contents.end section.now.contents.rest.now self.old) }
     {
         done!(self.elements_before(section.kind));
         self.contents(section)
@@ -448,7 +465,8 @@ impl<'m> Writer<'m> {
 
     /// A section.
     fn any_section(&mut self, section: &Section<'_>) -> Result<(), ModuleError>
-        ensures { HasNoItems self.old → OnOk result (WritesAnySection section.now.kind (section_at section.now) self.old self.new) }
+        ensures is { HasNoItems self.old → OnOk result (WritesAnySection section.now.kind (section_at section.now) self.old self.new) }
+        ensures err { IfErr result (StopsAtAnySection section.now.kind section.now.contents.end section.now.contents.rest.now self.old) }
     {
         match section.kind {
             SectionKind::Custom => self.custom(section),
@@ -459,7 +477,8 @@ impl<'m> Writer<'m> {
 
 /// Writes all sections.
 fn write_all(bytes: &[u8], writer: &mut Writer<'_>) -> Result<(), ModuleError>
-    ensures { HasNoItems writer.old → OnOk result (WritesModule bytes.now writer.old writer.new) }
+    ensures is { HasNoItems writer.old → OnOk result (WritesModule bytes.now writer.old writer.new) }
+    ensures err { HasNoItems writer.old → IfErr result (StopsAtModule bytes.now writer.old) }
 {
     writer.out.extend_from_slice(&PREAMBLE)?;
     let sections = done!(Sections::new(bytes));
@@ -482,7 +501,8 @@ pub fn remove(
     remainder: &Remainder,
     code: &LeftCode,
 ) -> Result<Vec<u8>, ModuleError>
-    ensures { IfOk result (λ new. IsModuleOfLeft remainder.now code.now bytes.now new.items) }
+    ensures ok { IfOk result (λ new. IsModuleOfLeft remainder.now code.now bytes.now new.items) }
+    ensures err { IfErr result (IsRefusedModule remainder.now code.now bytes.now) }
 {
     let mut writer = Writer {
         alloc,

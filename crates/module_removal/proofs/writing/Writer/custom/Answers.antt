@@ -7,15 +7,15 @@ use Rattle.module_removal.specs.LeftSections.{names_names, names_metadata, follo
 use Rattle.module_removal.proofs.LeftSectionLemmas.{ok_then, writes_bytes, writes_nothing, or_first, or_second, is_name, custom_becomes}
 use Rattle.module_removal.proofs.writing.Writer.custom.Goals as goal
 
-pub returns-then-names_debug : goal.returns-then-names_debug
-returns-then-names_debug c = λ none.
+pub returns-then-names_debug-clause-is : goal.returns-then-names_debug-clause-is
+returns-then-names_debug-clause-is c = λ none.
     let name = c.in-Ok.value.0.now in
     custom_becomes (section_at c.args.section.now) c.args.self.now c.args.self.now name c.in-Ok.value.1.rest.now c.in-Ok.ensures.is
     (sym c.names_object.ensures ∙ c.if-names_object.false) true (follows_code name) (sym c.names_debug.ensures ∙ c.if-names_debug.true) refl [] refl
     (writes_nothing c.args.self.now none)
 
-pub returns-then-is_names : goal.returns-then-is_names
-returns-then-is_names c = λ none.
+pub returns-then-is_names-clause-is : goal.returns-then-is_names-clause-is
+returns-then-is_names-clause-is c = λ none.
     let name = c.in-Ok.value.0.now in
     let text = c.in-Ok.value.1.rest.now in
     let left = c.args.self.now.remainder.now.left in
@@ -35,8 +35,8 @@ returns-then-is_names c = λ none.
     (sym c.names_object.ensures ∙ c.if-names_object.false) false true (sym c.names_debug.ensures ∙ c.if-names_debug.false)
     (or_first (names_names name) (names_metadata name) names) bytes becomes (writes_bytes bytes c.args.self.now c.names.new.self none w.2 c.names.ensures.same)))
 
-pub returns-then-is_metadata : goal.returns-then-is_metadata
-returns-then-is_metadata c = λ none.
+pub returns-then-is_metadata-clause-is : goal.returns-then-is_metadata-clause-is
+returns-then-is_metadata-clause-is c = λ none.
     let name = c.in-Ok.value.0.now in
     let text = c.in-Ok.value.1.rest.now in
     let left = c.args.self.now.remainder.now.left in
@@ -57,8 +57,8 @@ returns-then-is_metadata c = λ none.
     (or_second (names_names name) (names_metadata name) no_names ∙ sym c.is_metadata.ensures ∙ c.if-is_metadata.true) bytes becomes
     (writes_bytes bytes c.args.self.now c.metadata.new.self none w.2 c.metadata.ensures.same)))
 
-pub returns : goal.returns
-returns c = λ none.
+pub returns-clause-is : goal.returns-clause-is
+returns-clause-is c = λ none.
     let name = c.in-Ok.value.0.now in
     let whole = c.args.section.now.whole.now in
     let new : Writer = record c.args.self.now { out = c.extend_from_slice.new.self } in

@@ -1,5 +1,4 @@
-use Rattle.std.proofs.Common.{ℕ, Bool, List, inl, inr, subst}
-use Rattle.module_removal.specs.declared.writing.Writer.{Writer}
+use Rattle.std.proofs.Common.{ℕ, Bool, inl, inr, subst}
 use Rattle.wasm_operators.specs.declared.types.Space.TheVariants.{Types}
 use Rattle.wasm_sections.specs.declared.fault.ModuleError.{ModuleError}
 use Rattle.item_sets.specs.ItemsLeft.{is_left}
