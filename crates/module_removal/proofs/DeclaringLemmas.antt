@@ -1,18 +1,19 @@
 -- The functions that have to be declared, in loops.
-use Rattle.std.proofs.Common.{◌≡◌, ℕ, ◌+◌, ◌-◌, ◌^◌, ◌<◌, ◌≤◌, min, Bool, true, false, not, ◌&&◌, ◌||◌, nat_lt, eqb, if◌then◌else◌, List, [], ◌∷◌, ◌++◌, length, take, get_or, slice_set, refl, sym, ap, subst, ◌∙◌, ⊎_elim, arith}
+use Rattle.std.proofs.Common.{◌≡◌, ◌⊎◌, ℕ, zero, suc, ◌+◌, ◌-◌, ◌^◌, ◌<◌, ◌≤◌, min, Bool, true, false, not, ◌&&◌, ◌||◌, nat_lt, eqb, if◌then◌else◌, List, [], ◌∷◌, ◌++◌, length, take, get_or, slice_set, refl, sym, ap, subst, ◌∙◌, ⊎_elim, inl, inr, arith}
 use Rattle.std.proofs.Math.Bool.{or-false, or-true}
 use Rattle.std.proofs.lemmas.Bool.{cases_lt, ltb-true, lt-ltb, eqb-true, eq-eqb, false≢true}
 use Rattle.std.proofs.lemmas.Grind.{get_or-set_at}
 use Rattle.std.proofs.lemmas.List.{get_or-set_other, get_or_past, length-set}
 use Rattle.std.proofs.lemmas.List.Folds.{list_any-append}
 use Rattle.std.proofs.lemmas.List.Sums.{fold_more}
-use Rattle.std.specs.List.{list_any}
+use Rattle.std.specs.List.{Contains, fold, list_any}
 use Rattle.item_sets.specs.ItemsLeft.{is_left}
 use Rattle.wasm_operators.specs.declared.types.Space.TheVariants.{Funcs}
 use Rattle.module_removal.specs.declared.declared.Named.{Named}
 use Rattle.module_removal.specs.declared.item.ItemCounts.{ItemCounts}
-use Rattle.module_removal.specs.Declaring.{is_declared, is_undeclared, with_function, undeclared_of}
+use Rattle.module_removal.specs.Declaring.{is_declared, is_undeclared, with_function, undeclared_of, undeclared_in}
 use Rattle.module_removal.specs.ItemNumbers.{first_number}
+use Rattle.module_removal.specs.LeftLaws.{TakenAreDeclared}
 
 -- ---- one more mark is set
 
@@ -163,3 +164,70 @@ one_more_undeclared c i in_bodies outside marks declared new undeclared more n n
 
     tests : (left && less && not (is_left declared n.func)) ≡ ((left && less && not d) && not (there n.func))
     tests = same_test left less (is_left declared n.func) d (there n.func) (λ e. so.each n.func (ltb-true n.func c.funcs e))
+
+-- ---- what is taken is declared
+
+abbrev has : (funcs : List ℕ) → (func : ℕ) → Bool
+has funcs func = list_any (λ f. eqb f func) funcs
+
+-- those that have to be declared, after some
+module _ (c : ItemCounts) (outside : List Named) (marks : List Bool) where
+  abbrev after_some : List ℕ → List Named → List ℕ
+  after_some funcs in_bodies = fold (λ l n. with_function l (is_undeclared c outside marks n) n.func) funcs in_bodies
+
+  kept_with : (funcs : List ℕ) (wanted : Bool) (f g : ℕ) → has funcs g ≡ true → has (with_function funcs wanted f) g ≡ true
+  kept_with funcs wanted f g h =
+      ap (λ (l : List ℕ). has l g) (if_added (wanted && not (has funcs f)) funcs f) ∙ any_added (wanted && not (has funcs f)) funcs f g
+      ∙ ap (λ (b : Bool). b || ((wanted && not (has funcs f)) && eqb f g)) h
+
+  kept_after : (in_bodies : List Named) (funcs : List ℕ) (g : ℕ) → has funcs g ≡ true → has (after_some funcs in_bodies) g ≡ true
+  kept_after [] funcs g h = h
+  kept_after (n ∷ ns) funcs g h =
+      kept_after ns (with_function funcs (is_undeclared c outside marks n) n.func) g (kept_with funcs (is_undeclared c outside marks n) n.func g h)
+
+  there_with : (funcs : List ℕ) (f : ℕ) → has (with_function funcs true f) f ≡ true
+  there_with funcs f = by_test (has funcs f) refl
+    where
+      same : eqb f f ≡ true
+      same = eq-eqb f f refl
+
+      by_test : (b : Bool) → has funcs f ≡ b → has (with_function funcs true f) f ≡ true
+      by_test true e = kept_with funcs true f f e
+      by_test false e =
+          ap (λ (l : List ℕ). has l f) (if_added (not (has funcs f)) funcs f) ∙ any_added (not (has funcs f)) funcs f f
+          ∙ ap (λ (b : Bool). has funcs f || (not b && eqb f f)) e ∙ ap (λ (b : Bool). has funcs f || b) same ∙ or-true (has funcs f)
+
+  there_after :
+      (in_bodies : List Named) (funcs : List ℕ) (i : ℕ) (n : Named) → i < length in_bodies → get_or in_bodies i n ≡ n → is_undeclared c outside marks n ≡ true →
+      has (after_some funcs in_bodies) n.func ≡ true
+  there_after [] funcs i n less at u = absurd (omega arith)
+  there_after (m ∷ ms) funcs zero n less at u =
+      kept_after ms (with_function funcs (is_undeclared c outside marks m) m.func) n.func
+      (subst (λ (k : Named). has (with_function funcs (is_undeclared c outside marks k) k.func) n.func ≡ true) (sym at)
+      (ap (λ (b : Bool). has (with_function funcs b n.func) n.func) u ∙ there_with funcs n.func))
+  there_after (m ∷ ms) funcs (suc i) n less at u =
+      there_after ms (with_function funcs (is_undeclared c outside marks m) m.func) i n (omega arith) at u
+
+-- an element that a test finds
+found_in : (funcs : List ℕ) (g : ℕ) → has funcs g ≡ true → Contains funcs g
+found_in [] g h = absurd (false≢true h)
+found_in (f ∷ fs) g h = by_test (eqb f g) refl (λ later. found_in fs g later)
+  where
+    by_test : (b : Bool) → eqb f g ≡ b → (has fs g ≡ true → Contains fs g) → Contains (f ∷ fs) g
+    by_test true e rest = (0, omega arith, eqb-true f g e)
+    by_test false e rest =
+        let later = rest (ap (λ (b : Bool). b || has fs g) (sym e) ∙ h) in
+        (suc later.0, omega (arith, later.1), later.2)
+
+pub taken_declared : TakenAreDeclared
+taken_declared t c marks n has_it left small = by_test (is_declared t.outside.items marks n.func) refl
+  where
+    by_test : (b : Bool) → is_declared t.outside.items marks n.func ≡ b → (is_declared t.outside.items marks n.func ≡ true) ⊎ Contains (undeclared_in t c marks) n.func
+    by_test true e = inl e
+    by_test false e =
+        let less = lt-ltb n.func c.funcs small in
+        let wanted : is_undeclared c t.outside.items marks n ≡ true =
+        ap (λ (b : Bool). b && nat_lt n.func c.funcs && not (is_declared t.outside.items marks n.func)) left
+        ∙ ap (λ (b : Bool). b && not (is_declared t.outside.items marks n.func)) less ∙ ap not e in
+        inr (found_in (undeclared_in t c marks) n.func
+        (there_after c t.outside.items marks t.in_bodies.items [] has_it.0 n has_it.1 has_it.2 wanted))

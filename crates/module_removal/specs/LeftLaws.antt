@@ -1,5 +1,5 @@
 -- What is left has no reference to what is removed, so that it can be copied.
-use Rattle.std.specs.Prelude.{◌≡◌, ◌↔◌, ◌-◌, ◌^◌, ℕ, min, Bool, true, List, [], ◌++◌, length, flat_map, Option, Some, None, Ok}
+use Rattle.std.specs.Prelude.{◌≡◌, ◌↔◌, ◌⊎◌, ◌+◌, ◌<◌, ◌-◌, ◌^◌, ℕ, min, Bool, true, List, [], ◌++◌, length, flat_map, Option, Some, None, Ok}
 use Rattle.std.specs.List.{Contains}
 use Rattle.wasm_operators.specs.declared.types.Space.{Space}
 use Rattle.wasm_operators.specs.declared.types.Space.TheVariants.{Types, Funcs}
@@ -9,14 +9,17 @@ use Rattle.reaching.specs.Reaching.{edges_of, IsReachedFrom}
 use Rattle.reaching.specs.Searching.{is_set}
 use Rattle.wasm_sections.specs.declared.sections.SectionKind.{SectionKind}
 use Rattle.wasm_sections.specs.declared.sections.SectionKind.TheVariants as kind
+use Rattle.module_removal.specs.declared.declared.Named.{Named}
+use Rattle.module_removal.specs.declared.declared.Taken.{Taken}
 use Rattle.module_removal.specs.declared.item.Item.{Item}
 use Rattle.module_removal.specs.declared.item.ItemCounts.{ItemCounts}
 use Rattle.module_removal.specs.declared.left.LeftItems.{LeftItems}
 use Rattle.module_removal.specs.declared.references.References.{References}
-use Rattle.module_removal.specs.ItemNumbers.{count_of, all_numbers, with_more_items}
+use Rattle.module_removal.specs.ItemNumbers.{count_of, first_number, all_numbers, with_more_items}
 use Rattle.module_removal.specs.LeftSpaces.{own_index, marks_of, index_of, AreMarked}
 use Rattle.module_removal.specs.CopiedParts.{Copied, CopiedPart, NewIndices, copied_index}
 use Rattle.module_removal.specs.CopiedItems.{copied_import, copied_export, copied_defined, copied_subtype, copied_locals}
+use Rattle.module_removal.specs.Declaring.{is_declared, undeclared_in}
 use Rattle.module_removal.specs.NamedItems.{named_by, OperatorsThen}
 use Rattle.module_removal.specs.Edges.{RefersTo}
 use Rattle.module_removal.specs.Gathered.{AreReferencesOf}
@@ -117,3 +120,12 @@ LeftIsCopied =
     (bytes : List ℕ) (r : References) (roots : List ℕ) (marks : List Bool) (left : LeftItems) → AreReferencesOf bytes r → Contains roots 0 →
     ((x : ℕ) → (is_set marks x ≡ true) ↔ IsReachedFrom (length r.graph.last.items) (edges_of r.graph) roots x) → AreMarked r.counts marks left →
     (first : Passed) × (last : Passed) × PassedNothing first × ThroughSections (CopiesContents left) bytes first last
+
+-- ---- references of functions
+
+-- A function that is there, and of which the body of a function that is left takes a reference, is named by an item that is left, or is one
+-- of those that have to be declared.
+abbrev pub TakenAreDeclared : Type 0
+TakenAreDeclared =
+    (t : Taken) (c : ItemCounts) (marks : List Bool) (n : Named) → Contains t.in_bodies.items n → is_left marks (first_number c Funcs + n.by) ≡ true →
+    n.func < c.funcs → (is_declared t.outside.items marks n.func ≡ true) ⊎ Contains (undeclared_in t c marks) n.func

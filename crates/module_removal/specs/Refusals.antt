@@ -61,7 +61,7 @@ StopsAtType end w e = StopsAtNext Types copied_subtype end w.1 w.0 e
 -- a recursive group: its number of types, or one of its types, after it was begun if it is left
 abbrev pub StopsAtGroup : (end : ℕ) → Writer × List ℕ → ModuleError → Type 0
 StopsAtGroup end w e =
-    IsTooMuch e ⊎ (members_part end w.1 ≡ Err e)
+    IsFaultOfPart (members_part end w.1) e
     ⊎ ((members : ℕ) × (rest : List ℕ) × (members_part end w.1 ≡ Ok (members, rest)) × (begun : Writer)
     × BeginsGroupIf (is_group_left members (is_left (marks_of w.0.remainder.now.left Types) w.0.next.types)) (begins_group w.1) members w.0 begun
     × StopsAfter (WritesType end) (StopsAtType end) members (begun, rest) e)

@@ -27,7 +27,9 @@ mod writing;
 pub use code::LeftCode;
 pub use gathering::references_of;
 pub use item::{Item, ItemCounts, MODULE, SPACES};
-pub use laws::{law_items_are_copied, law_left_is_copied, law_references_are_left};
+pub use laws::{
+    law_items_are_copied, law_left_is_copied, law_references_are_left, law_taken_are_declared,
+};
 pub use left::LeftItems;
 pub use references::References;
 pub use remainder::Remainder;

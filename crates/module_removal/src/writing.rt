@@ -17,6 +17,7 @@ use crate::names::left_names;
 use crate::parts::{done, group_members};
 use crate::remainder::Remainder;
 use std::alloc::Global;
+use wasm_encode as encoded;
 use wasm_ops::Space;
 use wasm_sections::{
     Input, ModuleError, ModuleFault, PREAMBLE, Section, SectionKind, Sections, names_debug,
@@ -185,14 +186,15 @@ impl<'m> Writer<'m> {
         ensures items { OnOk result (self.new.items.items ≡ self.old.items.items ++ group_mark is_group members) }
         ensures count { OnOk result (self.new.count ≡ counted_more self.old.count 1) }
         ensures same { self.new ≡ record self.old { items = self.new.items; count = self.new.count } }
-        ensures err { IfErr result IsTooMuch }
+        ensures err { IfErr result (λ error. error.fault ≡ NoMemory) }
     {
         self.count = self.count.saturating_add(1);
         if !is_group {
             return Ok(());
         }
         self.items.push(0x4e)?;
-        write_number(&mut self.items, members as usize)
+        encoded::write_number(&mut self.items, u64::from(members))?;
+        Ok(())
     }
 
     /// Begins a recursive group with so many types if it is left: if its first type is. One without types isn't.
@@ -200,7 +202,7 @@ impl<'m> Writer<'m> {
         ensures is { OnOk result (BeginsGroupIf
             (is_group_left members (is_left (marks_of self.old.remainder.now.left OfTypes) self.old.next.types))
             is_group members self.old self.new) }
-        ensures err { IfErr result IsTooMuch }
+        ensures err { IfErr result (λ error. error.fault ≡ NoMemory) }
     {
         if members == 0 {
             return Ok(());

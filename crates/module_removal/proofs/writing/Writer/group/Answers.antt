@@ -16,7 +16,7 @@ returns-clause-is c =
     c.in-Ok-begin_if_left.ensures.is c.in-Ok.ensures.same_end c.members.ensures.is
 
 pub returns-in-Err-clause-err : goal.returns-in-Err-clause-err
-returns-in-Err-clause-err c = inr (inl c.in-Err.ensures.err)
+returns-in-Err-clause-err c = inl (inr c.in-Err.ensures.err)
 
 pub returns-clause-err : goal.returns-clause-err
 returns-clause-err c =
@@ -27,7 +27,7 @@ returns-clause-err c =
     let Stops : ℕ → ModuleError → Type 0 = λ n. StopsAfter (WritesType n) (StopsAtType n) members (begun, c.group_members.new.input.rest.now) in
     if_err_then (Stops c.group_members.new.input.end) (StopsAtGroup c.args.input.now.end (old, text)) c.members.result c.members.ensures.err
     (λ e s.
-    inr (inr (
+    inr (
       members,
       c.group_members.new.input.rest.now,
       c.in-Ok.ensures.count,
@@ -35,4 +35,4 @@ returns-clause-err c =
       subst (λ (b : Bool). BeginsGroupIf (is_group_left members (is_left (marks_of old.remainder.now.left Types) old.next.types)) b members old begun) c.in-Ok.ensures.mark
           c.in-Ok-begin_if_left.ensures.is,
       subst (λ (n : ℕ). Stops n e) c.in-Ok.ensures.same_end s,
-    )))
+    ))
