@@ -111,6 +111,22 @@ fn counter_exports(
     Ok(exports)
 }
 
+/// Why these exports can't be added, with the place of the export of the source that has a name of theirs, which `export` returns.
+fn placed_error(
+    parsed: &ParsedModule<'_>,
+    changes: &mut Changes,
+    exports: &[NewExport<'_>],
+    error: ModuleError,
+) -> ModuleError {
+    for export in exports {
+        match parsed.export(changes, export.name, export.space, export.index as usize) {
+            Ok(()) => {}
+            Err(placed) => return placed,
+        }
+    }
+    error
+}
+
 /// Counts the turns of loops.
 #[derive(Clone, Copy)]
 pub(crate) struct Counting;
@@ -138,7 +154,10 @@ impl Tool for Counting {
             names.push(format!(in alloc; "loop_{number}")?)?;
         }
         let exports = counter_exports(alloc, &names, first)?;
-        export_all(parsed, &mut changes, &exports)?;
+        match export_all(parsed, &mut changes, &exports) {
+            Ok(()) => {}
+            Err(error) => return Err(placed_error(parsed, &mut changes, &exports, error)),
+        }
         Ok((Some(CountTurns(first)), changes))
     }
 }
