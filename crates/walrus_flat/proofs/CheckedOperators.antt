@@ -1,5 +1,5 @@
 -- Operators that name no local, and numeric operators, whose names are as they are read.
-use Rattle.std.proofs.Common.{◌≡◌, ◌≢◌, ℕ, suc, arith, List, [], ◌∷◌, ◌++◌, length, reverse, Option, Some, Ok, refl, sym, ap, ◌∙◌}
+use Rattle.std.proofs.Common.{◌≡◌, ◌≢◌, ℕ, suc, arith, List, [], ◌∷◌, ◌++◌, length, reverse, Option, Some, Result, Ok, refl, sym, ap, ◌∙◌}
 use Rattle.std.specs.Prelude.{◌-◌, ◌||◌, ◌==◌, cond, slice_get, IsSomeAnd, Bool, true, false, None}
 use Rattle.std.specs.HashSet.{HashSet, contains}
 use Rattle.std.proofs.Math.Bool.{and-true}
@@ -7,6 +7,7 @@ use Rattle.std.proofs.lemmas.Cmp.{nat_eq_equiv}
 use Rattle.wasm_types.specs.declared.val_type.ValType.{ValType}
 use Rattle.walrus_ir.specs.Types.{Signature, signature, signature_of}
 use Rattle.wasm_operators.specs.declared.types.Space.TheVariants.{Tags}
+use Rattle.wasm_body.specs.declared.error.ParseError.{ParseError}
 use Rattle.wasm_body.specs.Naming.{Environment, has_pick}
 use Rattle.walrus_maps.proofs.EntryMaps.{same_id}
 use Rattle.walrus_flat.specs.Checkers.{has_handler_type}
@@ -118,8 +119,7 @@ put_one s t k d h =
 -- ---- handlers
 
 -- the type of a handler, from the tag's id and its type
-pub handler_is : (env : Environment) (tag id type : ℕ) (ps rs : List (ValType ℕ)) → env.id_of Tags tag ≡ Ok id → slice_get env.tags id ≡ Some type → (o : Option Signature) → signature_of env.types type ≡ o →
-    IsSomeAnd o (λ s. ps ≡ s.parameters) → has_pick env (signature ps rs) ≡ has_handler_type env (Some tag) rs
-handler_is env tag id type ps rs i t (Some s) e h =
-    let whole : has_handler_type env (Some tag) rs ≡ has_pick env (signature s.parameters rs) = rw (i, t, e) refl in ap (λ p. has_pick env (signature p rs)) h ∙ sym whole
-handler_is env tag id type ps rs i t None e h = absurd h
+pub handler_is : (env : Environment) (tag id type : ℕ) (rs : List (ValType ℕ)) (r : Result (Unit {0}) ParseError) → env.id_of Tags tag ≡ Ok id → slice_get env.tags id ≡ Some type → (o : Option Signature) → signature_of env.types type ≡ o →
+    IsSomeAnd o (λ s. r ≡ has_pick env (signature s.parameters rs)) → r ≡ has_handler_type env (Some tag) rs
+handler_is env tag id type rs r i t (Some s) e h = let whole : has_handler_type env (Some tag) rs ≡ has_pick env (signature s.parameters rs) = rw (i, t, e) refl in h ∙ sym whole
+handler_is env tag id type rs r i t None e h = absurd h

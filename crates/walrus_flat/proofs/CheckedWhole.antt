@@ -6,7 +6,6 @@ use Rattle.walrus_ir.specs.Unfolding.{among}
 use Rattle.wasm_operators.specs.Laws.{AreBytes}
 use Rattle.wasm_operators.proofs.ReadingBytes.{reading_agrees}
 use Rattle.wasm_body.specs.declared.error.ParseError.{ParseError}
-use Rattle.wasm_types.specs.declared.val_type.ValType.{ValType}
 use Rattle.walrus_ir.specs.Types.{ModuleType, Signature, signature_of, find_entry}
 use Rattle.wasm_numbers.specs.Results.{◌>>=◌, some_or}
 use Rattle.wasm_body.specs.declared.error.ParseError.TheVariants.{NotAFunctionType, EntryTypeMissing}
@@ -62,9 +61,8 @@ module _ {V : Type 0} (given : Setting V) (bytes : List ℕ) (fits : AreBytes by
       subst (ParseResults given reading_agrees bytes) stops (parse_results given reading_agrees bytes fits)
 
 -- the module has no entry type
-pub entry_missing : (types : List ModuleType) (type : ℕ) (results : List (ValType ℕ)) (o : Option Signature) → signature_of types type ≡ o → IsSomeAnd o (λ s. results ≡ s.results) → (found : Option ℕ) → found ≡ find_entry types results →
-    found ≡ None → (let r : Result ℕ ParseError = Err EntryTypeMissing in r) ≡ entry_in types type
-entry_missing types type results None e known found is none = absurd known
-entry_missing types type results (Some s) e known found is none =
-    sym (ap (λ t. some_or t NotAFunctionType >>= λ s. some_or (find_entry types s.results) EntryTypeMissing) e
-    ∙ (ap (λ rs. some_or (find_entry types rs) EntryTypeMissing) (sym known) ∙ ap (λ f. some_or f EntryTypeMissing) (sym is ∙ none)))
+pub entry_missing : (types : List ModuleType) (type : ℕ) (o : Option Signature) → signature_of types type ≡ o → (found : Option ℕ) → IsSomeAnd o (λ s. found ≡ find_entry types s.results) → found ≡ None
+    → (let r : Result ℕ ParseError = Err EntryTypeMissing in r) ≡ entry_in types type
+entry_missing types type None e found is none = absurd is
+entry_missing types type (Some s) e found is none =
+    sym (ap (λ t. some_or t NotAFunctionType >>= λ s. some_or (find_entry types s.results) EntryTypeMissing) e ∙ ap (λ f. some_or f EntryTypeMissing) (sym is ∙ none))

@@ -1,6 +1,6 @@
 //! The operators of a body, checked one by one.
-ghost use Rattle.std.specs.Prelude.{◌≡◌, ◌≢◌, ◌⊎◌, ◌++◌, ◌-◌, slice_get, [], ◌∷◌, length, Option, Some, None, nat_lt, reverse, Ok, Err, OnOk, IfErr, IfSome, MatchOption, true, false};
-ghost use Rattle.walrus_ir.specs.Types.{Signature, signature, signature_of_type};
+ghost use Rattle.std.specs.Prelude.{◌≡◌, ◌≢◌, ◌⊎◌, ◌++◌, ◌-◌, slice_get, [], ◌∷◌, length, Option, Some, None, nat_lt, reverse, Ok, Err, OnOk, IfErr, IfSome, IsSome, IsSomeAnd, MatchOption, true, false};
+ghost use Rattle.walrus_ir.specs.Types.{Signature, signature, signature_of, signature_of_type};
 ghost use Rattle.wasm_operators.specs.Meaning.{meaning};
 ghost use Rattle.wasm_encode.specs.Writable.{IsWritable};
 ghost use Rattle.wasm_body.specs.declared.error.ParseError.TheVariants.{Memory as MemoryFault};
@@ -209,23 +209,34 @@ impl Checker<'_> {
         }
     }
 
-    /// Whether the module has a type of a sequence with these parameters and the results of a type.
-    fn has_pick_with(&self, params: &[ValType], ty: InstrSeqType) -> Result<(), ParseError>
+    /// Whether the module has a type of a sequence without parameters and with the results of a type.
+    fn has_pick_without_params(&self, ty: InstrSeqType) -> Result<(), ParseError>
         ensures { (s : Signature) → signature_of_type (env_of_checker self.now).types ty ≡ Some s
-            → result ≡ has_pick (env_of_checker self.now) (signature params.now s.results) }
+            → result ≡ has_pick (env_of_checker self.now) (signature [] s.results) }
     {
-        match ty {
-            InstrSeqType::Simple(result) => match result {
-                None => self.has_pick(params, &[]),
-                Some(value) => self.has_pick(params, &[value]),
-            },
-            InstrSeqType::MultiValue(id) => {
-                if !self.module.types.is_func(id) {
-                    return Err(ParseError::NotAFunctionType);
-                }
-                let (_own, results) = self.module.types.params_results(id);
-                self.has_pick(params, results)
-            }
+        if !ty.is_known(&self.module.types) {
+            return Err(ParseError::NotAFunctionType);
+        }
+        match InstrSeqType::picked_without_params(&self.module.types, ty) {
+            Some(_) => Ok(()),
+            None => Err(ParseError::TypeMissing),
+        }
+    }
+
+    /// Whether the module has a type of a sequence with the parameters of a function type and the
+    /// results of a type.
+    fn has_pick_like(&self, params_of: TypeId, ty: InstrSeqType) -> Result<(), ParseError>
+        requires { IsSome (signature_of (env_of_checker self.now).types params_of) }
+        ensures { (s : Signature) → signature_of_type (env_of_checker self.now).types ty ≡ Some s
+            → IsSomeAnd (signature_of (env_of_checker self.now).types params_of) (λ t. result
+            ≡ has_pick (env_of_checker self.now) (signature t.parameters s.results)) }
+    {
+        if !ty.is_known(&self.module.types) {
+            return Err(ParseError::NotAFunctionType);
+        }
+        match InstrSeqType::picked_like(&self.module.types, params_of, ty) {
+            Some(_) => Ok(()),
+            None => Err(ParseError::TypeMissing),
         }
     }
 
@@ -325,7 +336,7 @@ impl Checker<'_> {
         if !self.module.types.is_func(handled) {
             return Err(ParseError::NotAFunctionType);
         }
-        self.has_pick_with(self.module.types.params(handled), ty)
+        self.has_pick_like(handled, ty)
     }
 
     /// Whether the module has the type of a handler of this tag, if it has one, in a `try` of this
@@ -336,7 +347,7 @@ impl Checker<'_> {
     {
         match tag {
             Some(tag) => self.has_handler_of(tag, ty),
-            None => self.has_pick_with(&[], ty),
+            None => self.has_pick_without_params(ty),
         }
     }
 

@@ -33,7 +33,7 @@ fn entry_type(module: &Module, ty: TypeId) -> Result<TypeId, ParseError>
     if !types.is_func(ty) {
         return Err(ParseError::NotAFunctionType);
     }
-    match types.find_for_function_entry(types.results(ty)) {
+    match types.entry_of(ty) {
         Some(entry) => Ok(entry),
         None => Err(ParseError::EntryTypeMissing),
     }

@@ -1,11 +1,14 @@
--- types: the test for equal types decides equality; the first position that passes a test, for the pick; lists that the order
--- of value types doesn't distinguish are equal; the index of types, and the first type with the lists of each, one type more at
--- a time
+-- types: the test for equal types decides equality; choices; the first position that passes a test, for the pick; lists that
+-- the order of value types doesn't distinguish are equal; the index of lists, lists, and the first type of each key, with one
+-- more; types by the numbers of their lists
 pub mod SameTypes
+pub mod Choices
 pub mod Positions
 pub mod TypeKeys
-pub mod TypeIndex
-pub mod FirstTypes
+pub mod ListIndex
+pub mod TypeLists
+pub mod TypeTable
+pub mod TypeNumbers
 -- locals in runs, one run more at a time
 pub mod LocalRuns
 -- the laws of trees, faults and walks: there is either a tree or a first fault

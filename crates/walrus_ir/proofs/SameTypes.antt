@@ -1,6 +1,6 @@
 -- The test for equal types decides equality.
-use Rattle.std.proofs.Common.{◌≡◌, ℕ, List, [], ◌∷◌, Bool, true, false, ◌&&◌, ◌==◌, Decides, ap, refl}
-use Rattle.std.proofs.lemmas.Bool.Decides.{Decides-eqb, Decides-and}
+use Rattle.std.proofs.Common.{◌≡◌, ℕ, List, [], ◌∷◌, Bool, true, false, ◌&&◌, ◌==◌, Decides, ap, refl, sym}
+use Rattle.std.proofs.lemmas.Bool.Decides.{same_from_decides, Decides-eqb, Decides-and, Decides-like}
 use lib.Pointwise.{pointwise, pointwise_decides}
 use Rattle.wasm_types.specs.declared.val_type.AbstractHeapType.{AbstractHeapType}
 use Rattle.wasm_types.specs.declared.val_type.AbstractHeapType.TheVariants as abstract
@@ -61,3 +61,6 @@ same_pointwise (t ∷ ts) (u ∷ us) = ap (λ b. same_type t u && b) (same_point
 
 pub same_types-Decides : (ts us : List (ValType ℕ)) → Decides (same_types ts us) (ts ≡ us)
 same_types-Decides ts us = rw (same_pointwise ts us) (pointwise_decides type_decides ts us)
+
+pub same_flipped : (ts us : List (ValType ℕ)) → same_types ts us ≡ same_types us ts
+same_flipped ts us = same_from_decides (same_types ts us) (same_types us ts) (same_types-Decides ts us) (Decides-like _ (λ e. sym e) (λ e. sym e) (same_types-Decides us ts))

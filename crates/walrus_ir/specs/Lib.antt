@@ -1,8 +1,11 @@
--- equal types of values; the types of a module, and the pick; the table of types, digests of lists and the index
+-- equal types of values; the types of a module, and the pick; their lists, digests of lists, and the index; types by the numbers
+-- of their lists
 pub mod Types
-pub mod TypeEntries
+pub mod TypeLists
 pub mod TypeDigest
-pub mod TypeIndex
+pub mod ListIndex
+pub mod TypeTable
+pub mod TypeNumbers
 -- the types of locals, in runs
 pub mod LocalRuns
 -- the default location; the form in contracts of instructions with lists, of a sequence and of a builder; a builder that lends

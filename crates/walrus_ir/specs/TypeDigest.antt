@@ -1,4 +1,4 @@
--- The digest of lists of value types: a number that differs for most pairs of lists, so that few lists have to be compared.
+-- The digest of a list of value types: a number that differs for most lists, so that few lists have to be compared.
 -- Equal lists have equal digests; nothing else is said about it.
 use Rattle.std.specs.Prelude.{ℕ, List, ◌+◌, ◌*◌, ◌%◌, ◌^◌, cond, fold}
 use Rattle.wasm_types.specs.declared.val_type.HeapType.{HeapType}
@@ -23,14 +23,6 @@ type_number F64 = 4
 type_number V128 = 5
 type_number (Ref r) = mixed (cond r.nullable 7 6) (heap_number r.heap_type)
 
--- the digest of a list, after something with the digest `before`
-abbrev pub digest_of : (before : ℕ) → List (ValType ℕ) → ℕ
-digest_of before list = fold (λ made ty. mixed made (type_number ty)) before list
-
--- the digest of the function type with these lists
-abbrev pub func_digest : (parameters results : List (ValType ℕ)) → ℕ
-func_digest parameters results = digest_of (mixed (digest_of 0 parameters) 0) results
-
--- the digest of the entry type with these results: it begins with a great number, so that it isn't that of a function type
-abbrev pub entry_digest : (results : List (ValType ℕ)) → ℕ
-entry_digest results = digest_of 6148914691236517205 results
+-- the digest of a list
+abbrev pub digest_of : List (ValType ℕ) → ℕ
+digest_of list = fold (λ made ty. mixed made (type_number ty)) 0 list

@@ -1,93 +1,34 @@
 //! The types of a module.
-ghost use Rattle.std.specs.Prelude.{◌≡◌, [], ◌∷◌, ◌++◌, length, slice_get, is_some, IsSome, IsSomeAnd, IfOk, OnErr, Some, List};
-ghost use Rattle.walrus_ir.specs.Types.{ModuleType, Func, Entry, Other, signature, signature_of};
-ghost use Rattle.walrus_ir.specs.Types.{same_types, is_function, is_entry, find, find_entry};
-ghost use Rattle.walrus_ir.specs.TypeEntries.{module_type, KnowsFirst};
-ghost use Rattle.walrus_ir.specs.TypeIndex.{passes};
+ghost use Rattle.std.specs.Prelude.{◌≡◌, [], ◌∷◌, ◌++◌, length, is_some, IsSome, IsSomeAnd, IfOk, OnErr, Some, List};
+ghost use Rattle.walrus_ir.specs.Types.{Func, Entry, Other, signature, signature_of};
+ghost use Rattle.walrus_ir.specs.Types.{same_types, find, find_entry};
+ghost use Rattle.walrus_ir.specs.TypeNumbers.{params_number};
 
-use crate::type_digest::{entry_digest, func_digest};
-use crate::type_index::TypeIndex;
+use crate::list_index::ListNumber;
+use crate::type_lists::TypeLists;
+use crate::type_table::{TypeKey, TypeTable};
 use std::alloc::{AllocError, Global};
 use std::marker::Model;
-use wasm_types::{TypeId, ValType, law_type_order};
+use wasm_types::{TypeId, ValType};
 
-/// A type of the module.
-#[derive(Drop)]
-enum TypeEntry {
-    /// A function type.
-    Func {
-        params: Vec<ValType>,
-        results: Vec<ValType>,
-        /// The first function type with these lists, which may be this one.
-        first: TypeId,
-    },
-    /// The type of the entry of a function with these results.
-    Entry {
-        results: Vec<ValType>,
-    },
-    /// A struct or array type. Nothing else is known about it here.
-    Other,
-}
-
-// The entry of a function type; the first one with these lists is `first`.
-fn func_entry(
-    alloc: Global,
-    params: &[ValType],
-    results: &[ValType],
-    first: TypeId,
-) -> Result<TypeEntry, AllocError>
-    ensures lists { IfOk result (λ entry. module_type entry ≡ Func params.now results.now) }
-    ensures first { (types : List ModuleType) → find types params.now results.now ≡ Some first
-        → IfOk result (KnowsFirst types) }
+// The number of the parameters of a type with this key. An entry type has the empty list, which may
+// have no number.
+fn params_number(lists: &TypeLists, key: TypeKey) -> Option<ListNumber>
+    ensures { result ≡ params_number lists.now key }
 {
-    Ok(TypeEntry::Func {
-        params: Vec::from_slice(alloc, params)?,
-        results: Vec::from_slice(alloc, results)?,
-        first,
-    })
-}
-
-// Whether the lists are the same.
-fn are_same<'a>(a: &'a [ValType], b: &'a [ValType]) -> bool
-    ensures { result ≡ same_types a.now b.now }
-{
-    // By this law equal lists are those that the order doesn't tell apart.
-    law_type_order();
-    Ord::cmp(&a, &b).is_eq()
-}
-
-impl TypeEntry {
-    // Whether it is a type of functions with these lists.
-    fn is_func_of(&self, params: &[ValType], results: &[ValType]) -> bool
-        ensures { result ≡ is_function params.now results.now (module_type self.now) }
-    {
-        match self {
-            TypeEntry::Func {
-                params: takes,
-                results: gives,
-                ..
-            } => are_same(takes, params) && are_same(gives, results),
-            _ => false,
-        }
-    }
-
-    // Whether it is the type of entries with these results.
-    fn is_entry_of(&self, results: &[ValType]) -> bool
-        ensures { result ≡ is_entry results.now (module_type self.now) }
-    {
-        match self {
-            TypeEntry::Entry { results: gives } => are_same(gives, results),
-            _ => false,
-        }
+    match key.params {
+        Some(params) => Some(params),
+        None => lists.number(&[]),
     }
 }
 
-/// The types of a module, by id. In a contract, they are a list.
+/// The types of a module, by id. In a contract, they are a list. Each list of value types is stored
+/// once, and equal types are found by the numbers of their lists, so that a question about the ids of
+/// types reads no list.
 #[derive(Drop)]
 pub struct ModuleTypes {
-    types: Vec<TypeEntry>,
-    /// The first id of each function type by its lists, and of each entry type by its results.
-    index: TypeIndex,
+    lists: TypeLists,
+    table: TypeTable,
 }
 
 impl Model for ModuleTypes {
@@ -96,15 +37,11 @@ impl Model for ModuleTypes {
 
     ghost Value = { List ModuleType };
 
-    ghost use Rattle.std.specs.Prelude.{All};
-    ghost use Rattle.walrus_ir.specs.TypeEntries.{module_type, KnowsFirst};
-    ghost use Rattle.walrus_ir.specs.TypeIndex.{IsIndexOf};
+    ghost use Rattle.walrus_ir.specs.TypeNumbers.{module_type, AreNumbered};
 
-    ghost view = { λ m. map module_type m.types.items };
+    ghost view = { λ m. map (module_type m.lists) m.table };
 
-    ghost invariant = { λ m. IsIndexOf (map module_type m.types.items) m.index.firsts
-        m.index.func_ids m.index.entry_ids
-        × All (KnowsFirst (map module_type m.types.items)) m.types.items };
+    ghost invariant = { λ m. AreNumbered m.lists m.table };
 }
 
 impl ModuleTypes {
@@ -113,8 +50,8 @@ impl ModuleTypes {
         ensures { result ≡ [] }
     {
         ModuleTypes {
-            types: Vec::new(alloc),
-            index: TypeIndex::new(alloc),
+            lists: TypeLists::new(alloc),
+            table: TypeTable::new(alloc),
         }
     }
 
@@ -132,26 +69,12 @@ impl ModuleTypes {
         ensures ok { IfOk result (λ _. self.new ≡ self.old ++ Func params.now results.now ∷ []) }
         ensures err { OnErr result (self.new ≡ self.old) }
     {
-        let alloc = *self.types.allocator();
-        let id = TypeId::new(self.types.len());
-        match self.find(params, results) {
-            Some(first) => {
-                let entry = func_entry(alloc, params, results, first)?;
-                self.types.push(entry)?;
-                Ok(id)
-            }
-            None => {
-                let entry = func_entry(alloc, params, results, id)?;
-                self.types.push(entry)?;
-                match self.index.add_func(params, results, id) {
-                    Ok(()) => Ok(id),
-                    Err(fault) => {
-                        self.types.truncate(id.index());
-                        Err(fault)
-                    }
-                }
-            }
-        }
+        let params = self.lists.add(params)?;
+        let results = self.lists.add(results)?;
+        self.table.add(TypeKey {
+            params: Some(params),
+            results,
+        })
     }
 
     /// Adds the type of the entry of a function with these results, and returns its id.
@@ -164,23 +87,11 @@ impl ModuleTypes {
         ensures ok { IfOk result (λ _. self.new ≡ self.old ++ Entry results.now ∷ []) }
         ensures err { OnErr result (self.new ≡ self.old) }
     {
-        let alloc = *self.types.allocator();
-        let entry = TypeEntry::Entry {
-            results: Vec::from_slice(alloc, results)?,
-        };
-        let id = TypeId::new(self.types.len());
-        if self.find_for_function_entry(results).is_some() {
-            self.types.push(entry)?;
-            return Ok(id);
-        }
-        self.types.push(entry)?;
-        match self.index.add_entry(results, id) {
-            Ok(()) => Ok(id),
-            Err(fault) => {
-                self.types.truncate(id.index());
-                Err(fault)
-            }
-        }
+        let results = self.lists.add(results)?;
+        self.table.add(TypeKey {
+            params: None,
+            results,
+        })
     }
 
     /// Adds a struct or array type, and returns its id.
@@ -193,19 +104,14 @@ impl ModuleTypes {
         ensures ok { IfOk result (λ _. self.new ≡ self.old ++ Other ∷ []) }
         ensures err { OnErr result (self.new ≡ self.old) }
     {
-        let id = TypeId::new(self.types.len());
-        self.types.push(TypeEntry::Other)?;
-        Ok(id)
+        self.table.add_other()
     }
 
     /// Whether this is the id of a function type or an entry type. This allocates nothing.
     pub fn is_func(&self, id: TypeId) -> bool
         ensures { result ≡ is_some (signature_of self.now id) }
     {
-        matches!(
-            self.types.get(id.index()),
-            Some(TypeEntry::Func { .. } | TypeEntry::Entry { .. })
-        )
+        self.table.key(id).is_some()
     }
 
     /// The parameters of a function type, in order; an entry type has none. This allocates nothing.
@@ -229,34 +135,27 @@ impl ModuleTypes {
         requires { IsSome (signature_of self.now id) }
         ensures { signature_of self.now id ≡ Some (signature result.0.now result.1.now) }
     {
-        match &self.types[id.index()] {
-            TypeEntry::Func {
-                params,
-                results,
-                ..
-            } => (params, results),
-            TypeEntry::Entry { results } => (&[], results),
-            TypeEntry::Other => unreachable!(),
+        match self.table.key(id) {
+            Some(key) => match key.params {
+                Some(params) => (self.lists.get(params), self.lists.get(key.results)),
+                None => (&[], self.lists.get(key.results)),
+            },
+            None => unreachable!(),
         }
     }
 
-    // Whether it is a type of functions with these lists.
-    fn is_func_of(&self, id: TypeId, params: &[ValType], results: &[ValType]) -> bool
-        ensures { result ≡ passes (is_function params.now results.now) (slice_get self.now id) }
+    /// Whether the parameters are the same as the results. This reads no list, and allocates nothing.
+    pub fn has_same_lists(&self, id: TypeId) -> bool
+        requires { IsSome (signature_of self.now id) }
+        ensures { IsSomeAnd (signature_of self.now id)
+            (λ s. result ≡ same_types s.parameters s.results) }
     {
-        match self.types.get(id.index()) {
-            Some(entry) => entry.is_func_of(params, results),
-            None => false,
-        }
-    }
-
-    // Whether it is the type of entries with these results.
-    fn is_entry_of(&self, id: TypeId, results: &[ValType]) -> bool
-        ensures { result ≡ passes (is_entry results.now) (slice_get self.now id) }
-    {
-        match self.types.get(id.index()) {
-            Some(entry) => entry.is_entry_of(results),
-            None => false,
+        match self.table.key(id) {
+            Some(key) => match params_number(&self.lists, key) {
+                Some(params) => params == key.results,
+                None => false,
+            },
+            None => unreachable!(),
         }
     }
 
@@ -265,13 +164,8 @@ impl ModuleTypes {
     pub fn find(&self, params: &[ValType], results: &[ValType]) -> Option<TypeId>
         ensures { result ≡ find self.now params.now results.now }
     {
-        match self.index.firsts.get(func_digest(params, results)) {
-            Some(id) => match self.is_func_of(id, params, results) {
-                true => Some(id),
-                false => self.index.func_ids.get(params, results),
-            },
-            None => self.index.func_ids.get(params, results),
-        }
+        self.table
+            .find_func(self.lists.number(params), self.lists.number(results))
     }
 
     /// The first function type, in the order of ids, with the parameters and results of this function type or entry
@@ -281,25 +175,68 @@ impl ModuleTypes {
         ensures { IsSomeAnd (signature_of self.now id)
             (λ s. result ≡ find self.now s.parameters s.results) }
     {
-        match &self.types[id.index()] {
-            TypeEntry::Func { first, .. } => Some(*first),
-            _ => {
-                let (params, results) = self.params_results(id);
-                self.find(params, results)
-            }
+        match self.table.key(id)?.params {
+            Some(_) => self.table.first(id),
+            None => self.find_without_params(id),
         }
+    }
+
+    /// The first function type, in the order of ids, without parameters and with the results of this
+    /// function type or entry type. This reads no list, and allocates nothing.
+    pub fn find_without_params(&self, results_of: TypeId) -> Option<TypeId>
+        requires { IsSome (signature_of self.now results_of) }
+        ensures { IsSomeAnd (signature_of self.now results_of)
+            (λ s. result ≡ find self.now [] s.results) }
+    {
+        let gives = self.table.key(results_of)?;
+        self.table
+            .find_func(self.lists.number(&[]), Some(gives.results))
+    }
+
+    /// The first function type, in the order of ids, with the parameters of one function type or entry
+    /// type and the results of another. This reads no list, and allocates nothing.
+    pub fn find_like(&self, params_of: TypeId, results_of: TypeId) -> Option<TypeId>
+        requires takes { IsSome (signature_of self.now params_of) }
+        requires gives { IsSome (signature_of self.now results_of) }
+        ensures { IsSomeAnd (signature_of self.now params_of)
+            (λ s. IsSomeAnd (signature_of self.now results_of)
+            (λ t. result ≡ find self.now s.parameters t.results)) }
+    {
+        let takes = self.table.key(params_of)?;
+        let gives = self.table.key(results_of)?;
+        self.table
+            .find_func(params_number(&self.lists, takes), Some(gives.results))
+    }
+
+    /// The first function type, in the order of ids, with the parameters of this function type or
+    /// entry type and these results. This allocates nothing.
+    pub fn find_taking(&self, params_of: TypeId, results: &[ValType]) -> Option<TypeId>
+        requires { IsSome (signature_of self.now params_of) }
+        ensures { IsSomeAnd (signature_of self.now params_of)
+            (λ s. result ≡ find self.now s.parameters results.now) }
+    {
+        let takes = self.table.key(params_of)?;
+        self.table.find_func(
+            params_number(&self.lists, takes),
+            self.lists.number(results),
+        )
     }
 
     /// The first entry type, in the order of ids, with these results. This allocates nothing.
     pub fn find_for_function_entry(&self, results: &[ValType]) -> Option<TypeId>
         ensures { result ≡ find_entry self.now results.now }
     {
-        match self.index.firsts.get(entry_digest(results)) {
-            Some(id) => match self.is_entry_of(id, results) {
-                true => Some(id),
-                false => self.index.entry_ids.get(results),
-            },
-            None => self.index.entry_ids.get(results),
-        }
+        self.table.find_entry(self.lists.number(results))
+    }
+
+    /// The first entry type, in the order of ids, with the results of this function type or entry
+    /// type. This reads no list, and allocates nothing.
+    pub fn entry_of(&self, id: TypeId) -> Option<TypeId>
+        requires { IsSome (signature_of self.now id) }
+        ensures { IsSomeAnd (signature_of self.now id)
+            (λ s. result ≡ find_entry self.now s.results) }
+    {
+        let gives = self.table.key(id)?;
+        self.table.find_entry(Some(gives.results))
     }
 }

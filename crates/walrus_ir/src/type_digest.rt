@@ -1,17 +1,13 @@
-//! Digests of lists of value types: numbers that differ for most pairs of lists, so that few lists
-//! have to be compared.
+//! Digests of lists of value types: numbers that differ for most lists, so that few lists have to be
+//! compared.
 ghost use Rattle.std.specs.Prelude.{◌≡◌};
 ghost use Rattle.wasm_types.specs.TypeOrder.{rank_of};
-ghost use Rattle.walrus_ir.specs.TypeDigest.{mixed, heap_number, type_number, digest_of, func_digest, entry_digest};
+ghost use Rattle.walrus_ir.specs.TypeDigest.{mixed, heap_number, type_number, digest_of};
 
 use wasm_types::{AbstractHeapType, HeapType, ValType};
 
 /// 2^64 divided by the golden ratio: an odd number whose bits have no pattern.
 const FACTOR: u64 = 0x9e37_79b9_7f4a_7c15;
-
-/// The number with which the digests of entry types begin. With a small one, many of them would be digests of
-/// function types.
-const ENTRY: u64 = 0x5555_5555_5555_5555;
 
 /// The digest after one more number.
 fn mixed(digest: u64, number: u64) -> u64
@@ -61,27 +57,13 @@ fn type_number(ty: &ValType) -> u64
     }
 }
 
-/// The digest of a list, after something with the digest `before`.
-fn digest_of(before: u64, list: &[ValType]) -> u64
-    ensures { result ≡ digest_of before list.now }
+/// The digest of a list.
+pub(crate) fn digest_of(list: &[ValType]) -> u64
+    ensures { result ≡ digest_of list.now }
 {
-    let mut made = before;
+    let mut made = 0;
     'types: for ty in list {
         made = mixed(made, type_number(ty));
     }
     made
-}
-
-/// The digest of the function type with these lists.
-pub(crate) fn func_digest(params: &[ValType], results: &[ValType]) -> u64
-    ensures { result ≡ func_digest params.now results.now }
-{
-    digest_of(mixed(digest_of(0, params), 0), results)
-}
-
-/// The digest of the entry type with these results.
-pub(crate) fn entry_digest(results: &[ValType]) -> u64
-    ensures { result ≡ entry_digest results.now }
-{
-    digest_of(ENTRY, results)
 }

@@ -123,7 +123,7 @@ fn number_others(
 }
 
 /// Whether the types are the same.
-pub(crate) fn are_same(a: &ValType, b: &ValType) -> bool
+fn are_same(a: &ValType, b: &ValType) -> bool
     ensures { result ≡ same_type a.now b.now }
 {
     a == b

@@ -44,15 +44,14 @@ entry_is_function env id is none =
     let has = entry_signature env.types typed.0.results id found in
     let both = sym none ∙ has.1 in cc
 
-pub entry_found : (env : Environment) (results : List (ValType ℕ)) (found : Option ℕ) → IsSomeAnd (signature_of env.types env.type) (λ s. results ≡ s.results) → found ≡ find_entry env.types results →
-    entry_type_id env ≡ some_or found EntryTypeMissing
-entry_found env results found known is = by_type (signature_of env.types env.type) refl known
+pub entry_found : (env : Environment) (found : Option ℕ) → IsSomeAnd (signature_of env.types env.type) (λ s. found ≡ find_entry env.types s.results) → entry_type_id env ≡ some_or found EntryTypeMissing
+entry_found env found known = by_type (signature_of env.types env.type) refl known
   where
-    by_type : (o : Option Signature) → signature_of env.types env.type ≡ o → IsSomeAnd o (λ s. results ≡ s.results) → entry_type_id env ≡ some_or found EntryTypeMissing
+    by_type : (o : Option Signature) → signature_of env.types env.type ≡ o → IsSomeAnd o (λ s. found ≡ find_entry env.types s.results) → entry_type_id env ≡ some_or found EntryTypeMissing
     by_type None e k = absurd k
     by_type (Some s) e k =
         ap (λ t. some_or t NotAFunctionType >>= λ s. some_or (find_entry env.types s.results) EntryTypeMissing) e
-        ∙ ap (λ rs. some_or (find_entry env.types rs) EntryTypeMissing) (sym k) ∙ ap (λ o. some_or o EntryTypeMissing) (sym is)
+        ∙ ap (λ o. some_or o EntryTypeMissing) (sym k)
 
 -- ---- the first frame
 

@@ -216,7 +216,7 @@ pub fn parse_function<V: OpCheck, F: Fn(&usize) -> InstrLocId>(
     if !types.is_func(source.ty) {
         return Err(failure(ParseError::NotAFunctionType, source.start));
     }
-    let Some(entry) = types.find_for_function_entry(types.results(source.ty)) else {
+    let Some(entry) = types.entry_of(source.ty) else {
         return Err(failure(ParseError::EntryTypeMissing, source.start));
     };
     law_bytes(source.ops);

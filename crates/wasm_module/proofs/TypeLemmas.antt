@@ -8,7 +8,7 @@ use Rattle.wasm_types.specs.declared.val_type.ValType.{ValType}
 use Rattle.wasm_numbers.specs.Results.{each}
 use Rattle.walrus_ir.specs.Types.{ModuleType, Func, same_types, is_function, find}
 use Rattle.walrus_ir.proofs.SameTypes.{same_types-Decides}
-use Rattle.walrus_ir.proofs.TypeIndex.{position-push}
+use Rattle.walrus_ir.proofs.Positions.{position-push}
 use Rattle.wasm_operators.specs.Shortest.{short_number, short_value}
 use Rattle.wasm_body.specs.Translation.{translate_value}
 use Rattle.wasm_body.proofs.Translation.Steps.{length-each}

@@ -1,7 +1,8 @@
 //! Types that bodies need and that the module lacks: entry types, and types of handlers of legacy
 //! `try` constructs.
 
-ghost use Rattle.std.specs.Prelude.{◌≡◌, IfErr};
+ghost use Rattle.std.specs.Prelude.{◌≡◌, IfErr, IfSome, IsSome};
+ghost use Rattle.walrus_ir.specs.Types.{signature_of, signature_of_type};
 ghost use Rattle.wasm_sections.specs.declared.fault.ModuleFault.TheVariants.{Memory};
 ghost use Rattle.wasm_sections.specs.Declarations.{parameters_of_type, results_of_type};
 ghost use Rattle.wasm_module.specs.RewrittenCode.{Extends};
@@ -63,107 +64,136 @@ impl<'a> ParsedModule<'a> {
         }
     }
 
-    /// The results of a block of this type; none if the type isn't known.
-    fn results_of(&self, ty: BlockType) -> Result<Vec<ValType>, ModuleError>
+    /// The type of a sequence with the results of a block of this type; of one without results, if the
+    /// type isn't known.
+    fn sequence_type(&self, ty: BlockType) -> InstrSeqType
+        ensures { IsSome (signature_of_type self.now.«module».types result) }
+    {
+        match ty {
+            BlockType::Empty => InstrSeqType::Simple(None),
+            BlockType::Value(ty) => match value_type(&self.spaces.indices, ty) {
+                Ok(ty) => InstrSeqType::Simple(Some(ty)),
+                Err(_) => InstrSeqType::Simple(None),
+            },
+            BlockType::FuncType(index) => {
+                let Ok(id) = self.spaces.indices.get_type(index) else {
+                    return InstrSeqType::Simple(None);
+                };
+                if self.module.types.is_func(id) {
+                    InstrSeqType::MultiValue(id)
+                } else {
+                    InstrSeqType::Simple(None)
+                }
+            }
+        }
+    }
+
+    /// The type of the tag of a `catch`; none for a `catch_all`, and if the tag isn't known.
+    fn caught(&self, tag: Option<u32>) -> Option<TypeId>
+        ensures { IfSome result (λ id. IsSome (signature_of self.now.«module».types id)) }
+    {
+        let Ok(id) = self.spaces.indices.get_tag(tag?) else {
+            return None;
+        };
+        let ty = self.module.tags.get(id)?;
+        if self.module.types.is_func(ty) {
+            Some(ty)
+        } else {
+            None
+        }
+    }
+
+    /// Whether the module has the type of a handler of a tag of this type, or of a `catch_all`, in a
+    /// construct with the results of this type. This reads no list.
+    fn has_handler_type(&self, caught: Option<TypeId>, ty: InstrSeqType) -> bool
+        requires caught { IfSome caught (λ id. IsSome (signature_of self.now.«module».types id)) }
+        requires results { IsSome (signature_of_type self.now.«module».types ty) }
+    {
+        let types = &self.module.types;
+        match caught {
+            Some(caught) => InstrSeqType::picked_like(types, caught, ty).is_some(),
+            None => InstrSeqType::picked_without_params(types, ty).is_some(),
+        }
+    }
+
+    /// A copy of the parameters of a type, if there is one.
+    fn copied_params(&self, ty: Option<TypeId>) -> Result<Vec<ValType>, ModuleError>
+        ensures { IfErr result (λ e. e.fault ≡ Memory) }
+    {
+        let mut params = Vec::new(self.alloc);
+        if let Some(ty) = ty {
+            params.extend_from_slice(self.params(ty))?;
+        }
+        Ok(params)
+    }
+
+    /// A copy of the results of sequences of this type.
+    fn copied_results(&self, ty: InstrSeqType) -> Result<Vec<ValType>, ModuleError>
         ensures { IfErr result (λ e. e.fault ≡ Memory) }
     {
         let mut results = Vec::new(self.alloc);
         match ty {
-            BlockType::Empty => {}
-            BlockType::Value(ty) => {
-                if let Ok(ty) = value_type(&self.spaces.indices, ty) {
-                    results.push(ty)?;
-                }
-            }
-            BlockType::FuncType(index) => {
-                if let Ok(id) = self.spaces.indices.get_type(index)
-                    && self.module.types.is_func(id)
-                {
-                    results.extend_from_slice(self.module.types.results(id))?;
-                }
-            }
+            InstrSeqType::Simple(None) => {}
+            InstrSeqType::Simple(Some(ty)) => results.push(ty)?,
+            InstrSeqType::MultiValue(id) => results.extend_from_slice(self.results(id))?,
         }
         Ok(results)
     }
 
-    /// The parameters of the handler of a `catch`; none if the tag isn't known.
-    fn caught(&self, tag: u32) -> Result<Vec<ValType>, ModuleError>
-        ensures { IfErr result (λ e. e.fault ≡ Memory) }
-    {
-        let mut caught = Vec::new(self.alloc);
-        if let Ok(id) = self.spaces.indices.get_tag(tag)
-            && let Some(ty) = self.module.tags.get(id)
-        {
-            caught.extend_from_slice(self.params(ty))?;
-        }
-        Ok(caught)
-    }
-
-    /// Adds a function type, if the module has none with these lists and a sequence needs one.
+    /// Adds a function type.
     fn add_type_for(&mut self, params: &[ValType], results: &[ValType]) -> Result<(), ModuleError>
         ensures extends { Extends self.old self.new }
         ensures refused { IfErr result (λ e. e.fault ≡ Memory) }
     {
-        if InstrSeqType::existing(&self.module.types, params, results).is_some() {
-            return Ok(());
-        }
         match self.module.types.add_func(params, results) {
             Ok(_) => Ok(()),
             Err(error) => Err(ModuleError::from(error)),
         }
     }
 
-    /// Adds the type of a handler with these parameters, in a construct of this type.
-    fn add_handler_type(&mut self, caught: &[ValType], ty: BlockType) -> Result<(), ModuleError>
+    /// Adds the type of the handler of a `catch` of this tag, or of a `catch_all`, in a construct of
+    /// this type, if the module has none and the handler needs one.
+    fn add_handler_type(&mut self, tag: Option<u32>, ty: BlockType) -> Result<(), ModuleError>
         ensures extends { Extends self.old self.new }
         ensures refused { IfErr result (λ e. e.fault ≡ Memory) }
     {
-        let results = self.results_of(ty)?;
-        self.add_type_for(caught, &results)
-    }
-
-    /// Adds the type of the handler of a `catch`, in a construct of this type.
-    fn add_catch_type(&mut self, tag: u32, ty: BlockType) -> Result<(), ModuleError>
-        ensures extends { Extends self.old self.new }
-        ensures refused { IfErr result (λ e. e.fault ≡ Memory) }
-    {
-        let caught = self.caught(tag)?;
-        self.add_handler_type(&caught, ty)
-    }
-
-    /// The results of a function; none if it has no function type.
-    fn function_results(&self, func: usize) -> Result<Vec<ValType>, ModuleError>
-        ensures { IfErr result (λ e. e.fault ≡ Memory) }
-    {
-        let mut results = Vec::new(self.alloc);
-        if let Some(ty) = self.type_of(func)
-            && self.module.types.is_func(ty)
-        {
-            results.extend_from_slice(self.module.types.results(ty))?;
+        let caught = self.caught(tag);
+        let ty = self.sequence_type(ty);
+        if self.has_handler_type(caught, ty) {
+            return Ok(());
         }
-        Ok(results)
+        let params = self.copied_params(caught)?;
+        let results = self.copied_results(ty)?;
+        self.add_type_for(&params, &results)
     }
 
-    /// Adds the type of the entry of functions with these results, if the module has none.
+    /// Adds the type of the entry of functions with these results.
     fn add_entry_for(&mut self, results: &[ValType]) -> Result<(), ModuleError>
         ensures extends { Extends self.old self.new }
         ensures refused { IfErr result (λ e. e.fault ≡ Memory) }
     {
-        if self.module.types.find_for_function_entry(results).is_some() {
-            return Ok(());
-        }
         match self.module.types.add_entry(results) {
             Ok(_) => Ok(()),
             Err(error) => Err(ModuleError::from(error)),
         }
     }
 
-    /// Adds the type of the entry of this function, if the module has none.
+    /// Adds the type of the entry of this function, if it has a function type and the module has no
+    /// such entry type.
     fn add_entry_type(&mut self, func: usize) -> Result<(), ModuleError>
         ensures extends { Extends self.old self.new }
         ensures refused { IfErr result (λ e. e.fault ≡ Memory) }
     {
-        let results = self.function_results(func)?;
+        let Some(ty) = self.type_of(func) else {
+            return Ok(());
+        };
+        if !self.module.types.is_func(ty) {
+            return Ok(());
+        }
+        if self.module.types.entry_of(ty).is_some() {
+            return Ok(());
+        }
+        let results = self.copied_results(InstrSeqType::MultiValue(ty))?;
         self.add_entry_for(&results)
     }
 
@@ -185,8 +215,8 @@ impl<'a> ParsedModule<'a> {
             return Ok(());
         };
         match operator {
-            Operator::Catch { tag } => self.add_catch_type(*tag, ty),
-            Operator::CatchAll => self.add_handler_type(&[], ty),
+            Operator::Catch { tag } => self.add_handler_type(Some(*tag), ty),
+            Operator::CatchAll => self.add_handler_type(None, ty),
             Operator::End | Operator::Delegate { .. } => {
                 let _ = open.pop();
                 Ok(())

@@ -3,4 +3,4 @@ use Rattle.walrus_ir.specs.TypeDigest.{digest_of}
 use Rattle.walrus_ir.proofs.type_digest.digest_of.Given as goal
 
 abbrev pub invariant-types : goal.invariant-types
-invariant-types l = l.made ≡ digest_of l.before (take l.ty-index l.list)
+invariant-types l = l.made ≡ digest_of (take l.ty-index l.list)

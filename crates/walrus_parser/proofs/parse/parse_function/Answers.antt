@@ -15,7 +15,7 @@ returns-in_default-clause-err g c =
     let a = c.args in
     let s = a.source.now in
     let i = source_input s g.V.OpCheck.check (g.V.OpCheck.state a.validator) in
-    let missing : entry_type_id i.environment ≡ Err EntryTypeMissing = entry_found i.environment c.results.result.now c.find_for_function_entry.result c.results.ensures c.find_for_function_entry.ensures ∙ ap (λ o. some_or o EntryTypeMissing) c.in_default.is in
+    let missing : entry_type_id i.environment ≡ Err EntryTypeMissing = entry_found i.environment c.entry_of.result c.entry_of.ensures ∙ ap (λ o. some_or o EntryTypeMissing) c.in_default.is in
     refuses_entry g.F.Fn i EntryTypeMissing c.failure-in_default.result missing c.failure-in_default.ensures
 
 pub returns-in-Ok-clause-ok : goal.returns-in-Ok-clause-ok
@@ -23,7 +23,7 @@ returns-in-Ok-clause-ok g c =
     let a = c.args in
     let s = a.source.now in
     let i = source_input s g.V.OpCheck.check (g.V.OpCheck.state a.validator) in
-    let found : entry_type_id i.environment ≡ Ok c.in-Some.entry = entry_found i.environment c.results.result.now c.find_for_function_entry.result c.results.ensures c.find_for_function_entry.ensures ∙ ap (λ o. some_or o EntryTypeMissing) c.in-Some.is in
+    let found : entry_type_id i.environment ≡ Ok c.in-Some.entry = entry_found i.environment c.entry_of.result c.entry_of.ensures ∙ ap (λ o. some_or o EntryTypeMissing) c.in-Some.is in
     let result = c.parse_operators.result in
     let parses : ParsesOperators g.F.Fn i result =
     subst (λ (e : Environment). ParsesOperators g.F.Fn (record i { environment = e }) result) c.in-Ok.ensures.env
@@ -35,7 +35,7 @@ returns-in-Ok-clause-err g c =
     let a = c.args in
     let s = a.source.now in
     let i = source_input s g.V.OpCheck.check (g.V.OpCheck.state a.validator) in
-    let found : entry_type_id i.environment ≡ Ok c.in-Some.entry = entry_found i.environment c.results.result.now c.find_for_function_entry.result c.results.ensures c.find_for_function_entry.ensures ∙ ap (λ o. some_or o EntryTypeMissing) c.in-Some.is in
+    let found : entry_type_id i.environment ≡ Ok c.in-Some.entry = entry_found i.environment c.entry_of.result c.entry_of.ensures ∙ ap (λ o. some_or o EntryTypeMissing) c.in-Some.is in
     let result = c.parse_operators.result in
     let parses : ParsesOperators g.F.Fn i result =
     subst (λ (e : Environment). ParsesOperators g.F.Fn (record i { environment = e }) result) c.in-Ok.ensures.env

@@ -1,80 +1,65 @@
-use Rattle.std.proofs.Common.{◌≡◌, [], ◌∷◌, ◌++◌, List, map, Some, None, is_some, length, sym, ap, subst, ◌∙◌}
-use Rattle.std.specs.Prelude.{All}
-use Rattle.std.proofs.lemmas.List.{map-append, length-map}
-use Rattle.walrus_ir.specs.Types.{ModuleType, Func, find}
-use Rattle.walrus_ir.specs.TypeEntries.{module_type, KnowsFirst}
-use Rattle.walrus_ir.specs.TypeIndex.{IsIndexOf}
-use Rattle.walrus_ir.proofs.TypeIndex.{index-known_func, index-adds_func}
-use Rattle.walrus_ir.proofs.FirstTypes.{knows-pushed, found-again, found-new}
+use Rattle.std.proofs.Common.{Result, Ok, Err, ◌∙◌}
+use Rattle.std.specs.Prelude.{OnErr}
+use Rattle.walrus_ir.specs.Types.{Func}
+use Rattle.walrus_ir.specs.TypeTable.{func_key}
+use Rattle.walrus_ir.proofs.TypeLists.{more_added, more_more}
+use Rattle.walrus_ir.proofs.TypeNumbers.{numbered-kept, types-kept, table-numbered, table-ok, table-err, func_lists}
 use Rattle.walrus_ir.proofs.module_types.ModuleTypes.add_func.Goals as goal
 
-pub invariant_of-self-in-Some : goal.invariant_of-self-in-Some
-invariant_of-self-in-Some c =
+on_err : {R E P : Type 0} (r : Result R E) → P → OnErr r P
+on_err (Ok x) p = tt
+on_err (Err e) p = p
+
+pub invariant_of-self-in_err-results : goal.invariant_of-self-in_err-results
+invariant_of-self-in_err-results c =
     let inside = c.self.inside in
-    let index = inside.index in
-    let types = map module_type inside.types.items in
+    let new = c.add-2.new.self in
+    numbered-kept inside.lists new (more_added inside.lists c.args.params.now new (c.in_err-results.ensures.err ∙ c.in_ok-params.ensures.ok)) inside.table c.self.invariant
+
+pub returns-in_err-results-clause-err : goal.returns-in_err-results-clause-err
+returns-in_err-results-clause-err c =
+    let inside = c.self.inside in
+    let new = c.add-2.new.self in
+    on_err _ (types-kept inside.lists new (more_added inside.lists c.args.params.now new (c.in_err-results.ensures.err ∙ c.in_ok-params.ensures.ok)) inside.table c.self.invariant ∙ c.self.view_is)
+
+pub invariant_of-self-2 : goal.invariant_of-self-2
+invariant_of-self-2 c =
+    let inside = c.self.inside in
+    let mid = c.add.new.self in
+    let new = c.add-2.new.self in
     let params = c.args.params.now in
     let results = c.args.results.now in
-    let entry = c.in_ok-entry-in-Some.entry in
-    let pushed : map module_type c.push.new.self.items ≡ types ++ Func params results ∷ [] =
-    ap (map module_type) c.in_ok-push-in-Some.ensures.items
-    ∙ (map-append module_type inside.types.items _ ∙ ap (λ t. types ++ t ∷ []) c.in_ok-entry-in-Some.ensures.lists) in
-    let there : find types params results ≡ Some c.in-Some.first = ap (λ ts. find ts params results) c.self.view_is ∙ (sym c.find.ensures ∙ c.in-Some.is) in
-    let known : KnowsFirst (types ++ Func params results ∷ []) entry =
-    c.in_ok-entry-in-Some.ensures.first (types ++ Func params results ∷ []) (found-again types params results c.in-Some.first there) in
-    let all : All (KnowsFirst (types ++ Func params results ∷ [])) c.push.new.self.items =
-    subst (All (KnowsFirst (types ++ Func params results ∷ []))) (sym c.in_ok-push-in-Some.ensures.items)
-    (knows-pushed types (Func params results) inside.types.items entry c.self.invariant.1 known) in
-    subst (λ (ts : List ModuleType). IsIndexOf ts index.firsts index.func_ids index.entry_ids × All (KnowsFirst ts) c.push.new.self.items) (sym pushed)
-    (index-known_func types index.firsts index.func_ids index.entry_ids c.self.invariant.0 params results (ap is_some there), all)
+    let p = c.in_ok-params.params in
+    let r = c.in_ok-results.results in
+    let next = more_added mid results new c.in_ok-results.ensures.ok in
+    let more = more_more inside.lists mid new (more_added inside.lists params mid c.in_ok-params.ensures.ok) next in
+    let added = func_lists mid new params results p r next c.in_ok-params.ensures.number c.in_ok-results.ensures.number in
+    table-numbered inside.lists new inside.table c.add-3.new.self c.args.self.now c.self.invariant c.self.view_is more c.add-3.result (func_key p r) added.0 c.add-3.ensures.ok c.add-3.ensures.err
 
-pub invariant_of-self-in-Ok : goal.invariant_of-self-in-Ok
-invariant_of-self-in-Ok c =
+pub returns-clause-ok : goal.returns-clause-ok
+returns-clause-ok c =
     let inside = c.self.inside in
-    let index = inside.index in
-    let new = c.add_func.new.self in
-    let types = map module_type inside.types.items in
+    let mid = c.add.new.self in
+    let new = c.add-2.new.self in
     let params = c.args.params.now in
     let results = c.args.results.now in
-    let entry = c.in_ok-entry-in-None.entry in
-    let pushed : map module_type c.push-in-None.new.self.items ≡ types ++ Func params results ∷ [] =
-    ap (map module_type) c.in_ok-push-in-None.ensures.items
-    ∙ (map-append module_type inside.types.items _ ∙ ap (λ t. types ++ t ∷ []) c.in_ok-entry-in-None.ensures.lists) in
-    let number = c.new-id.ensures ∙ (c.len.ensures ∙ (inside.types.ok.0 ∙ sym (length-map inside.types.items module_type))) in
-    let none : find types params results ≡ None = ap (λ ts. find ts params results) c.self.view_is ∙ (sym c.find.ensures ∙ c.in-None.is) in
-    let known : KnowsFirst (types ++ Func params results ∷ []) entry =
-    c.in_ok-entry-in-None.ensures.first (types ++ Func params results ∷ []) (found-new types params results none ∙ ap Some (sym number)) in
-    let all : All (KnowsFirst (types ++ Func params results ∷ [])) c.push-in-None.new.self.items =
-    subst (All (KnowsFirst (types ++ Func params results ∷ []))) (sym c.in_ok-push-in-None.ensures.items)
-    (knows-pushed types (Func params results) inside.types.items entry c.self.invariant.1 known) in
-    subst (λ (ts : List ModuleType). IsIndexOf ts new.firsts new.func_ids new.entry_ids × All (KnowsFirst ts) c.push-in-None.new.self.items) (sym pushed) (
-      index-adds_func types index.firsts index.func_ids index.entry_ids c.self.invariant.0 params results c.new-id.result new.firsts new.func_ids new.entry_ids
-          number none c.in-Ok.ensures.ok c.add_func.ensures.entries,
-      all,
-    )
+    let p = c.in_ok-params.params in
+    let r = c.in_ok-results.results in
+    let next = more_added mid results new c.in_ok-results.ensures.ok in
+    let more = more_more inside.lists mid new (more_added inside.lists params mid c.in_ok-params.ensures.ok) next in
+    let added = func_lists mid new params results p r next c.in_ok-params.ensures.number c.in_ok-results.ensures.number in
+    table-ok inside.lists new inside.table c.add-3.new.self c.args.self.now c.self.invariant c.self.view_is more c.add-3.result (func_key p r) added.0 c.add-3.ensures.ok c.add-3.ensures.err (Func params results) added.1
 
-pub returns-in_ok-push-in-Some-clause-id : goal.returns-in_ok-push-in-Some-clause-id
-returns-in_ok-push-in-Some-clause-id c =
-    let types = c.self.inside.types in
-    c.new-id.ensures ∙ (c.len.ensures ∙ (types.ok.0 ∙ (sym (length-map types.items module_type) ∙ ap length c.self.view_is)))
-
-pub returns-in_ok-push-in-Some-clause-ok : goal.returns-in_ok-push-in-Some-clause-ok
-returns-in_ok-push-in-Some-clause-ok c =
-    let types = map module_type c.self.inside.types.items in
-    let added : map module_type c.push.new.self.items ≡ types ++ Func c.args.params.now c.args.results.now ∷ [] =
-    ap (map module_type) c.in_ok-push-in-Some.ensures.items
-    ∙ (map-append module_type c.self.inside.types.items _ ∙ ap (λ t. types ++ t ∷ []) c.in_ok-entry-in-Some.ensures.lists) in
-    added ∙ ap (λ (ts : List ModuleType). ts ++ Func c.args.params.now c.args.results.now ∷ []) c.self.view_is
-
-pub returns-in-Ok-clause-id : goal.returns-in-Ok-clause-id
-returns-in-Ok-clause-id c =
-    let types = c.self.inside.types in
-    c.new-id.ensures ∙ (c.len.ensures ∙ (types.ok.0 ∙ (sym (length-map types.items module_type) ∙ ap length c.self.view_is)))
-
-pub returns-in-Ok-clause-ok : goal.returns-in-Ok-clause-ok
-returns-in-Ok-clause-ok c =
-    let types = map module_type c.self.inside.types.items in
-    let added : map module_type c.push-in-None.new.self.items ≡ types ++ Func c.args.params.now c.args.results.now ∷ [] =
-    ap (map module_type) c.in_ok-push-in-None.ensures.items
-    ∙ (map-append module_type c.self.inside.types.items _ ∙ ap (λ t. types ++ t ∷ []) c.in_ok-entry-in-None.ensures.lists) in
-    added ∙ ap (λ (ts : List ModuleType). ts ++ Func c.args.params.now c.args.results.now ∷ []) c.self.view_is
+pub returns-clause-err : goal.returns-clause-err
+returns-clause-err c =
+    let inside = c.self.inside in
+    let mid = c.add.new.self in
+    let new = c.add-2.new.self in
+    let params = c.args.params.now in
+    let results = c.args.results.now in
+    let p = c.in_ok-params.params in
+    let r = c.in_ok-results.results in
+    let next = more_added mid results new c.in_ok-results.ensures.ok in
+    let more = more_more inside.lists mid new (more_added inside.lists params mid c.in_ok-params.ensures.ok) next in
+    let added = func_lists mid new params results p r next c.in_ok-params.ensures.number c.in_ok-results.ensures.number in
+    table-err inside.lists new inside.table c.add-3.new.self c.args.self.now c.self.invariant c.self.view_is more c.add-3.result (func_key p r) added.0 c.add-3.ensures.ok c.add-3.ensures.err

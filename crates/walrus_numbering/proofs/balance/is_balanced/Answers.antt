@@ -1,0 +1,12 @@
+use Rattle.std.proofs.Common.{◌≡◌, Bool, Option, Some, None}
+use Rattle.std.specs.Prelude.{IsSomeAnd}
+use Rattle.walrus_ir.specs.Types.{Signature, same_types}
+use Rattle.wasm_body.specs.NormalForm.{is_balanced_type}
+use Rattle.walrus_numbering.proofs.balance.is_balanced.Goals as goal
+
+balanced : (o : Option Signature) (r : Bool) → IsSomeAnd o (λ s. r ≡ same_types s.parameters s.results) → r ≡ is_balanced_type o
+balanced None r h = absurd h
+balanced (Some s) r h = h
+
+pub returns-in-MultiValue : goal.returns-in-MultiValue
+returns-in-MultiValue c = balanced _ c.has_same_lists.result c.has_same_lists.ensures
