@@ -8,5 +8,5 @@ balanced : (o : Option Signature) (r : Bool) → IsSomeAnd o (λ s. r ≡ same_t
 balanced None r h = absurd h
 balanced (Some s) r h = h
 
-pub returns-in-MultiValue : goal.returns-in-MultiValue
-returns-in-MultiValue c = balanced _ c.has_same_lists.result c.has_same_lists.ensures
+pub returns-else-not-is_func : goal.returns-else-not-is_func
+returns-else-not-is_func c = balanced _ c.has_same_lists.result c.has_same_lists.ensures
