@@ -91,12 +91,25 @@ fn push_sizes(text: &mut Text, types: &ModuleTypes, id: TypeId) {
     }
 }
 
+/// Appends the types that are found by the lists of a function type.
+fn push_alike(text: &mut Text, types: &ModuleTypes, id: TypeId) {
+    if types.is_func(id) {
+        push_id(text, types.first_alike(id));
+        push_id(text, types.entry_of(id));
+        push_id(text, types.find_without_params(id));
+        push_id(text, types.find_like(id, id));
+        push_id(text, types.find_taking(id, &[]));
+        push_flags(text, &[types.has_same_lists(id)]);
+    }
+}
+
 /// Looks at types: finds some, and appends how many values a function type takes and gives.
 fn look_at_types(text: &mut Text, types: &ModuleTypes) {
     push_id(text, existing_type(types));
     push_id(text, types.find(&[], &[]));
     push_id(text, types.find_for_function_entry(&[]));
     push_sizes(text, types, TypeId::new(2));
+    push_alike(text, types, TypeId::new(1));
     push_flags(text, &[types.is_func(TypeId::new(9))]);
 }
 
